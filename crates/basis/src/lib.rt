@@ -1,0 +1,1 @@
+// Laws that every crate's definitions and proofs share. Nothing here runs.
