@@ -1,0 +1,29 @@
+-- The scope's table of refusals: the number of each, and what goes besides it.
+-- Assumes nothing.
+use Prim.Native.Nat.{ℕ}
+use Rattle.meaning.specs.declared.refusals.Refusal.{Refusal}
+use Rattle.meaning.specs.declared.refusals.Refusal.the-variants.{SettingOutOfRange, UnknownAlignment, TextTooLong, NotUtf8}
+use Rattle.meaning.specs.declared.refusals.Checked.{Checked}
+use Rattle.meaning.specs.declared.refusals.Checked.the-variants.{Good, Refused}
+
+abbrev pub numberOf : Refusal → ℕ
+numberOf SettingOutOfRange = 1
+numberOf (UnknownAlignment a) = 2
+numberOf (TextTooLong n) = 3
+numberOf (NotUtf8 n) = 4
+
+-- Besides 1 goes 0, besides 2 the number given, besides 3 the text's length, besides 4 the length of its longest valid prefix.
+abbrev pub besides : Refusal → ℕ
+besides SettingOutOfRange = 0
+besides (UnknownAlignment a) = a
+besides (TextTooLong n) = n
+besides (NotUtf8 n) = n .0
+
+-- A check's number and value: 0 and 0 where nothing is refused.
+abbrev pub checkedNumber : Checked → ℕ
+checkedNumber Good = 0
+checkedNumber (Refused r) = numberOf r
+
+abbrev pub checkedValue : Checked → ℕ
+checkedValue Good = 0
+checkedValue (Refused r) = besides r

@@ -1,0 +1,38 @@
+-- "Numbers" of the scope: which numbers a setting may have.
+-- Assumes nothing.
+use Prim.Native.Nat.{ℕ}
+use mathlib.Core.Bool.{Bool, _&&_}
+use lib.Dec.{leb}
+use lib.IntN.{ℤ, pos, negsuc}
+use lib.Signed.{leZ}
+use Rattle.basis.specs.Order.{within}
+use Rattle.meaning.specs.declared.settings.Settings.{Settings}
+
+-- The box top lies from -4,096 to 4,096 (`negsuc n` is -(n + 1)).
+unfoldable pub topInRange : ℤ → Bool
+topInRange z = leZ (negsuc 4095) z && leZ z (pos 4096)
+
+-- The seven sizes in pixels, in the scope's order: glyph, box width, tab width, line spacing, paragraph spacing, base, box height.
+unfoldable pub sizesInRange : (glyph width tab spacing paragraph base height : ℕ) → Bool
+sizesInRange glyph width tab spacing paragraph base height =
+    within 1 64 glyph && leb width 4096 && leb tab 4096 && leb spacing 4096 && leb paragraph 4096 && within 1 64 base && leb height 4096
+
+-- Leading and trailing spaces are off or on.
+abbrev pub isSwitch : ℕ → Bool
+isSwitch n = leb n 1
+
+-- Every setting but the two alignments is in its range.
+unfoldable pub inRange : Settings → Bool
+inRange s =
+    sizesInRange (s .glyph .0) (s .width .0) (s .tab .0) (s .spacing .0) (s .paragraph .0) (s .base .0) (s .height .0)
+    && topInRange (s .top)
+    && isSwitch (s .leading)
+    && isSwitch (s .trailing)
+
+-- Alignment: 0 left, 1 centre, 2 right, 3 justified.
+abbrev pub knownAlignment : ℕ → Bool
+knownAlignment a = leb a 3
+
+-- Vertical alignment: 0 top, 1 middle, 2 bottom.
+abbrev pub knownVertical : ℕ → Bool
+knownVertical v = leb v 2

@@ -1,0 +1,15 @@
+use crate::counts::Offset;
+
+// Why a call refused its input. `numberOf` and `besides` (specs/Refusals.antt) give the scope's number and what goes with it.
+pub enum Refusal {
+    SettingOutOfRange,
+    UnknownAlignment(u32),
+    TextTooLong(u64),
+    NotUtf8(Offset),
+}
+
+// What a check answers.
+pub enum Checked {
+    Good,
+    Refused(Refusal),
+}

@@ -1,0 +1,29 @@
+use crate::counts::Pixels;
+
+// The twelve settings, in the scope's order.
+pub struct Settings {
+    // the width of every character
+    pub glyph: Pixels,
+    // box width
+    pub width: Pixels,
+    // tab width
+    pub tab: Pixels,
+    // line spacing
+    pub spacing: Pixels,
+    // paragraph spacing
+    pub paragraph: Pixels,
+    // base line height
+    pub base: Pixels,
+    // box height
+    pub height: Pixels,
+    // box top
+    pub top: i32,
+    // 0 left, 1 centre, 2 right, 3 justified
+    pub alignment: u32,
+    // vertical alignment: 0 top, 1 middle, 2 bottom
+    pub vertical: u32,
+    // leading spaces: 0 off, 1 on
+    pub leading: u32,
+    // trailing spaces: 0 off, 1 on
+    pub trailing: u32,
+}
