@@ -1,0 +1,11 @@
+use mathlib.Core.Path.{refl}
+use Rattle.meaning.specs.Settings.{sizesInRange}
+use Rattle.checks.proofs.settings.sizes_in_range.Statement.{statement}
+use Rattle.checks.proofs.settings.sizes_in_range.Tie as tie
+
+returns : tie.Need-returns
+unfolding sizesInRange
+returns c = refl
+
+pub sizes-in-range-spec : {M : Type 1} → statement M
+sizes-in-range-spec = tie.close (tie.spec returns)

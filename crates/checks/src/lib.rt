@@ -1,0 +1,2 @@
+// The public checks of settings and text: refusals 1 to 4 of the scope.
+pub mod settings;
