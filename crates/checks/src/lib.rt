@@ -1,2 +1,3 @@
 // The public checks of settings and text: refusals 1 to 4 of the scope.
+pub mod refusals;
 pub mod settings;

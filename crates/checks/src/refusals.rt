@@ -1,0 +1,46 @@
+use meaning::refusals::Checked;
+use meaning::refusals::Refusal;
+ghost use mathlib.Core.Path.{_≡_};
+ghost use Rattle.meaning.specs.Refusals.{numberOf, besides, checkedNumber, checkedValue};
+
+fn number(r: Refusal) -> u32
+    ensures { λ n. ⌜ n ≡ numberOf r ⌝ }
+{
+    match r {
+        Refusal::SettingOutOfRange => 1,
+        Refusal::UnknownAlignment(_) => 2,
+        Refusal::TextTooLong(_) => 3,
+        Refusal::NotUtf8(_) => 4,
+    }
+}
+
+fn value(r: Refusal) -> u64
+    ensures { λ n. ⌜ n ≡ besides r ⌝ }
+{
+    match r {
+        Refusal::SettingOutOfRange => 0,
+        Refusal::UnknownAlignment(given) => given as u64,
+        Refusal::TextTooLong(length) => length,
+        Refusal::NotUtf8(prefix) => prefix.0 as u64,
+    }
+}
+
+// The number of the refusal, and 0 where nothing is refused.
+pub fn checked_number(c: Checked) -> u32
+    ensures { λ n. ⌜ n ≡ checkedNumber c ⌝ }
+{
+    match c {
+        Checked::Good => 0,
+        Checked::Refused(r) => number(r),
+    }
+}
+
+// What goes besides that number, and 0 where nothing is refused.
+pub fn checked_value(c: Checked) -> u64
+    ensures { λ n. ⌜ n ≡ checkedValue c ⌝ }
+{
+    match c {
+        Checked::Good => 0,
+        Checked::Refused(r) => value(r),
+    }
+}
