@@ -1,7 +1,7 @@
 -- A choice by a test, kept shut so that goals show it by its name, and what holds of it.
 -- Assumes nothing.
 use mathlib.Core.Path.{_≡_, refl, sym}
-use mathlib.Core.Bool.{Bool, true, false, _&&_, false≢true}
+use mathlib.Core.Bool.{Bool, true, false, _&&_, _||_, false≢true}
 
 -- The first of two where the test holds, else the second.
 -- Both are computed: a recursive call is bound by a `let` first, or stands in a function by clauses.
@@ -42,7 +42,7 @@ pub by-test {ℓ} : {P : Type ℓ} (t : Bool) → (t ≡ true → P) → (t ≡ 
 by-test true f g = f refl
 by-test false f g = g refl
 
--- Both of two tests, and one of them.
+-- Both of two tests.
 pub and-true : (p q : Bool) → p && q ≡ true → (p ≡ true) × (q ≡ true)
 and-true true q e = (refl, e)
 and-true false q e = absurd (false≢true e)
@@ -50,3 +50,16 @@ and-true false q e = absurd (false≢true e)
 pub and-both : (p q : Bool) → p ≡ true → q ≡ true → p && q ≡ true
 and-both true q e f = f
 and-both false q e f = e
+
+-- One of two tests holds, and each case is handed the fact.
+pub by-either {ℓ} : {P : Type ℓ} (p q : Bool) → p || q ≡ true → (p ≡ true → P) → (q ≡ true → P) → P
+by-either true q e f g = f refl
+by-either false q e f g = g e
+
+pub either-first : (p q : Bool) → p ≡ true → p || q ≡ true
+either-first true q e = refl
+either-first false q e = absurd (false≢true e)
+
+pub either-second : (p q : Bool) → q ≡ true → p || q ≡ true
+either-second true q e = refl
+either-second false q e = e

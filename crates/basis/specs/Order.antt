@@ -26,5 +26,8 @@ within-true lo hi x e = let p = and-true (leb lo x) (leb x hi) e in (leb-true lo
 pub within-is : (lo hi x : ℕ) → lo ≤ x → x ≤ hi → within lo hi x ≡ true
 within-is lo hi x p q = and-both (leb lo x) (leb x hi) (le-leb lo x p) (le-leb x hi q)
 
+pub within-not : (lo hi x : ℕ) → (lo ≤ x → x ≤ hi → ⊥) → within lo hi x ≡ false
+within-not lo hi x n = by-test (within lo hi x) (λ e. let p = within-true lo hi x e in absurd (n (p .0) (p .1))) (λ e. e)
+
 -- For `search tests`: a result whose definition picks its case by tests that the branches decided.
 pub ruleset tests = (lt-ltb, le-ltb, le-leb, lt-leb, eq-eqb, ne-eqb)

@@ -1,0 +1,91 @@
+-- `unicode::sequence::four` meets its contract.
+-- Assumes nothing.
+use mathlib.Core.Path.{_≡_, sym, _∙_}
+use borrow.Author.Needs.{needs}
+use borrow.Author.Tests.{not-true, not-false}
+use Rattle.unicode.proofs.Reading.{four-lead, four-second, four-third, four-fourth, four-short, four-large, four-read}
+use Rattle.unicode.proofs.sequence.four.Statement.{statement}
+use Rattle.unicode.proofs.sequence.four.Tie as tie
+
+between-requires : tie.Need-between-requires
+between-requires c κs = search needs
+
+returns : tie.Need-returns
+returns c = four-lead _ _ _ _ (sym (c .before .between .ensures) ∙ not-true _ (c .if1 .taken))
+
+is-cont-requires : tie.Need-is-cont-requires
+is-cont-requires c κs = search needs
+
+returns-2 : tie.Need-returns-2
+returns-2 c = four-second _ _ _ _ (sym (c .before .is-cont .ensures) ∙ not-true _ (c .if2 .taken))
+
+is-cont-requires-2 : tie.Need-is-cont-requires-2
+is-cont-requires-2 c κs = search needs
+
+returns-3 : tie.Need-returns-3
+returns-3 c = four-third _ _ _ _ (sym (c .before .is-cont2 .ensures) ∙ not-true _ (c .if3 .taken))
+
+is-cont-requires-3 : tie.Need-is-cont-requires-3
+is-cont-requires-3 c κs = search needs
+
+returns-4 : tie.Need-returns-4
+returns-4 c = four-fourth _ _ _ _ (sym (c .before .is-cont3 .ensures) ∙ not-true _ (c .if4 .taken))
+
+mul-cp : tie.Need-mul-cp
+mul-cp c = search needs
+
+add-cp : tie.Need-add-cp
+add-cp c = search needs
+
+mul-cp-2 : tie.Need-mul-cp-2
+mul-cp-2 c = search needs
+
+add-cp-2 : tie.Need-add-cp-2
+add-cp-2 c = search needs
+
+mul-cp-3 : tie.Need-mul-cp-3
+mul-cp-3 c = search needs
+
+add-cp-3 : tie.Need-add-cp-3
+add-cp-3 c = search needs
+
+returns-5 : tie.Need-returns-5
+returns-5 c = four-short _ _ _ _ (c .if5 .taken)
+
+returns-6 : tie.Need-returns-6
+returns-6 c = four-large _ _ _ _ (c .if6 .taken)
+
+returns-7 : tie.Need-returns-7
+returns-7 c =
+    let f = c .before .before in
+    let e = f .before .before in
+    let d = e .before .before in
+    let l = d .before .before in
+    four-read _ _ _ _ (sym (l .before .between .ensures) ∙ not-false _ (l .if1 .left))
+    (sym (d .before .is-cont .ensures) ∙ not-false _ (d .if2 .left))
+    (sym (e .before .is-cont2 .ensures) ∙ not-false _ (e .if3 .left))
+    (sym (f .before .is-cont3 .ensures) ∙ not-false _ (f .if4 .left))
+    (c .before .if5 .left)
+    (c .if6 .left)
+
+pub four-spec : {M : Type 1} → statement M
+four-spec =
+    tie.close
+    (tie.spec
+    between-requires
+    returns
+    is-cont-requires
+    returns-2
+    is-cont-requires-2
+    returns-3
+    is-cont-requires-3
+    returns-4
+    mul-cp
+    add-cp
+    mul-cp-2
+    add-cp-2
+    mul-cp-3
+    add-cp-3
+    returns-5
+    returns-6
+    returns-7)

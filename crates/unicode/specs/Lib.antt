@@ -1,0 +1,14 @@
+pub mod Scalar
+pub mod Encoding
+pub mod WellFormed
+pub mod Decoding
+pub mod Places
+pub mod WhiteSpace
+pub mod Sizes
+pub mod Rows
+pub mod RoundTrip
+pub mod Walk
+pub mod Prefix
+pub mod Boundaries
+pub mod Members
+pub mod Examples

@@ -1,0 +1,4 @@
+// UTF-8 and White_Space, against the Unicode Standard.
+pub mod sequence;
+pub mod text;
+pub mod white_space;

@@ -1,0 +1,45 @@
+// The property White_Space of the Unicode Standard (PropList.txt).
+ghost use mathlib.Core.Path.{_≡_};
+ghost use Rattle.unicode.specs.WhiteSpace.{isWhite};
+
+const WHITE: [u32; 25] = [
+    0x0009,
+    0x000A,
+    0x000B,
+    0x000C,
+    0x000D,
+    0x0020,
+    0x0085,
+    0x00A0,
+    0x1680,
+    0x2000,
+    0x2001,
+    0x2002,
+    0x2003,
+    0x2004,
+    0x2005,
+    0x2006,
+    0x2007,
+    0x2008,
+    0x2009,
+    0x200A,
+    0x2028,
+    0x2029,
+    0x202F,
+    0x205F,
+    0x3000,
+];
+
+// Is a code point white space.
+pub fn is_white_space(c: u32) -> bool
+    ensures { λ r. ⌜ r ≡ isWhite c ⌝ }
+{
+    let mut i: usize = 0;
+    while i < 25 {
+        if WHITE[i] == c {
+            return true;
+        }
+        i += 1;
+    }
+    false
+}
