@@ -5,6 +5,7 @@ use mathlib.Core.List.{List}
 use lib.Dec.{leb, eqb}
 use lib.ListN.{length}
 use Rattle.basis.specs.Choice.{pick}
+use Rattle.unicode.specs.Decoding.{validPrefix}
 use Rattle.meaning.specs.Settings.{inRange, knownAlignment, knownVertical}
 use Rattle.meaning.specs.declared.settings.Settings.{Settings}
 use Rattle.meaning.specs.declared.refusals.Refusal.the-variants.{SettingOutOfRange, UnknownAlignment, TextTooLong, NotUtf8}
@@ -19,3 +20,14 @@ checkSettings s =
     (pick (knownVertical (s .vertical)) Good (Refused (UnknownAlignment (s .vertical))))
     (Refused (UnknownAlignment (s .alignment))))
     (Refused SettingOutOfRange)
+
+-- The most bytes that a text has.
+abbrev pub textLimit : ℕ
+textLimit = 65535
+
+-- 3: the text is over 65,535 bytes. 4: it is not UTF-8.
+unfoldable pub checkText : List ℕ → Checked
+checkText t =
+    pick (leb (length t) textLimit)
+    (pick (eqb (validPrefix t) (length t)) Good (Refused (NotUtf8 (record { 0 = validPrefix t }))))
+    (Refused (TextTooLong (length t)))
