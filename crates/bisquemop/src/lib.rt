@@ -2,12 +2,13 @@
 use checks::refusals::checked_number;
 use checks::refusals::checked_value;
 use checks::settings::check_settings;
+use checks::text::check_text;
 use meaning::counts::Pixels;
 use meaning::settings::Settings;
 ghost use mathlib.Core.Path.{_≡_};
 ghost use Rattle.meaning.specs.Settings.{settingsOf};
 ghost use Rattle.meaning.specs.Refusals.{checkedNumber, checkedValue};
-ghost use Rattle.meaning.specs.Checks.{checkSettings};
+ghost use Rattle.meaning.specs.Checks.{checkSettings, checkText};
 
 #[no_mangle]
 pub extern "C" fn bisquemop_check_settings(
@@ -43,6 +44,16 @@ pub extern "C" fn bisquemop_check_settings(
         trailing,
     };
     let checked = check_settings(s);
+    *value = checked_value(checked);
+    checked_number(checked)
+}
+
+#[no_mangle]
+pub extern "C" fn bisquemop_check_text(text: &[u8], value: &mut u64) -> u32
+    ensures { λ r. ⌜ r ≡ checkedNumber (checkText (now (text .entry))) ⌝ }
+    ensures { λ r. ⌜ now (value .exit) ≡ checkedValue (checkText (now (text .entry))) ⌝ }
+{
+    let checked = check_text(text);
     *value = checked_value(checked);
     checked_number(checked)
 }
