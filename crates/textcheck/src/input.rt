@@ -1,0 +1,71 @@
+// Standard input, read to its end.
+use libc::STDIN_FILENO;
+ghost use Prim.Native.Nat.{_+_, _^_, _≤_};
+ghost use lib.ListN.{length};
+
+// How many bytes were read, and whether a read failed after them.
+pub struct Read {
+    pub bytes: usize,
+    pub failed: bool,
+}
+
+// Reads until the buffer is full or the input ends.
+pub fn fill(buffer: &mut [u8]) -> Read
+    ensures { λ r. ⌜ r .bytes ≤ length (now (buffer .entry)) ⌝ }
+{
+    let mut bytes: usize = 0;
+    while bytes < buffer.len() {
+        let got = libc::read(STDIN_FILENO, &mut buffer[bytes..]);
+        if got < 0 {
+            return Read {
+                bytes,
+                failed: true,
+            };
+        }
+        let more = io::count(got, &buffer[bytes..]);
+        if more == 0 {
+            break;
+        }
+        bytes += more;
+    }
+    Read {
+        bytes,
+        failed: false,
+    }
+}
+
+// Reads the next 65,536 bytes, or as many as are left, and forgets them.
+fn skip() -> Read
+    ensures { λ r. ⌜ r .bytes ≤ 2 ^ 16 ⌝ }
+{
+    let mut buffer = io::large_buffer();
+    fill(&mut buffer)
+}
+
+// 2 ^ 62
+const MANY: usize = 0x4000000000000000;
+
+// Reads to the end and counts the bytes. Nothing says that an input ends, and a proved loop has to, so this one stops
+// when it has counted 2 ^ 62 bytes or more, which would take centuries to read, and answers that count.
+pub fn count_rest() -> Read
+    ensures { λ r. ⌜ r .bytes ≤ 2 ^ 62 + 2 ^ 16 ⌝ }
+{
+    let mut bytes: usize = 0;
+    while bytes < MANY {
+        let read = skip();
+        bytes += read.bytes;
+        if read.failed {
+            return Read {
+                bytes,
+                failed: true,
+            };
+        }
+        if read.bytes < 65536 {
+            break;
+        }
+    }
+    Read {
+        bytes,
+        failed: false,
+    }
+}
