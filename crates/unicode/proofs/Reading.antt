@@ -1,11 +1,9 @@
--- What two, three and four bytes are read as, by the tests that the code makes; and the sequence at a position of a text by its
--- bytes.
+-- What bytes are read as: two, three or four of them, and those at a position of a text.
 -- Assumes nothing.
-use mathlib.Core.Path.{_≡_, refl, sym, ap, _∙_}
-use mathlib.Core.Logic.{inl, inr, ⊎-elim}
+use mathlib.Core.Path.{_≡_, sym, _∙_}
 use mathlib.Core.Bool.{true, false, false≢true}
 use mathlib.Core.List.{List, [], _∷_}
-use Prim.Native.Nat.{ℕ, zero, suc, _+_, _-_, _≤_, _<_}
+use Prim.Native.Nat.{ℕ, suc, _+_, _-_, _≤_, _<_}
 use native.Mathlib.Numerals.{add-one}
 use native.Mathlib.Omega.{arith}
 use lib.Dec.{eqb, ltb}
@@ -13,95 +11,43 @@ use lib.ListN.{length, getD, take, drop, length-drop, drop-of-length-le}
 use lib.Seq.{drop-cons}
 use borrow.Author.Tests.{eq-eqb, ltb-true}
 use Rattle.basis.specs.Choice.{pick, pick-cases}
-use Rattle.basis.specs.Order.{within, within-true, within-is}
+use Rattle.basis.specs.Order.{within, within-is}
 use Rattle.basis.specs.Tables.{agree-below}
-use Rattle.unicode.specs.Scalar.{Scalar}
 use Rattle.unicode.specs.WellFormed.{rows, fits, someFits, wellFormed}
-use Rattle.unicode.specs.Decoding.{seqLen, value, charOf, decodeHead, decodeAt}
-use Rattle.unicode.specs.Places.{cont}
-use Rattle.unicode.specs.Rows.{value2, value3, value4, one-is, two-true, two-is, three-true, three-is, four-true, four-is}
+use Rattle.unicode.specs.Decoding.{seqLen, value2, value3, value4, value, charOf, decodeHead, decodeAt}
+use Rattle.unicode.specs.Rows.{Two, Three, Four, one-is, two-true, two-is, three-true, three-is, four-true, four-is}
 use Rattle.unicode.specs.RoundTrip.{char-bad, char-is, head-cut}
 use Rattle.unicode.specs.declared.sequence.Decoded.the-variants.{Char, Bad, End}
 
-clash : (lo hi x : ℕ) → within lo hi x ≡ false → (lo ≤ x) × (x ≤ hi) → ⊥
-clash lo hi x e p = false≢true (sym e ∙ within-is lo hi x (p .0) (p .1))
+-- A test that failed shuts out the bounds that it tests.
+pub outside : (lo hi x : ℕ) → within lo hi x ≡ false → (lo ≤ x) × (x ≤ hi) → ⊥
+outside lo hi x e p = false≢true (sym e ∙ within-is lo hi x (p .0) (p .1))
 
--- ---- two bytes
+-- ---- two, three and four bytes are read where they meet what the rows say, and else refused
 
 module _ (a b : ℕ) where
-  pub two-lead : within 0xC2 0xDF a ≡ false → Bad ≡ charOf (a ∷ b ∷ [])
-  two-lead e = sym (char-bad (a ∷ b ∷ []) (λ w. clash 0xC2 0xDF a e (two-true a b w .lead)))
+  pub two-no : (Two a b → ⊥) → Bad ≡ charOf (a ∷ b ∷ [])
+  two-no n = sym (char-bad (a ∷ b ∷ []) (λ w. n (two-true a b w)))
 
-  pub two-second : cont b ≡ false → Bad ≡ charOf (a ∷ b ∷ [])
-  two-second e = sym (char-bad (a ∷ b ∷ []) (λ w. clash 0x80 0xBF b e (two-true a b w .second)))
-
-  pub two-read : within 0xC2 0xDF a ≡ true → cont b ≡ true → Char (value2 a b) 2 ≡ charOf (a ∷ b ∷ [])
+  pub two-yes : Two a b → Char (value2 a b) 2 ≡ charOf (a ∷ b ∷ [])
   unfolding value
-  two-read e f = sym (char-is (a ∷ b ∷ []) (two-is a b (record { lead = within-true 0xC2 0xDF a e; second = within-true 0x80 0xBF b f })))
-
--- ---- three
+  two-yes t = sym (char-is (a ∷ b ∷ []) (two-is a b t))
 
 module _ (a b c : ℕ) where
-  pub three-lead : within 0xE0 0xEF a ≡ false → Bad ≡ charOf (a ∷ b ∷ c ∷ [])
-  three-lead e = sym (char-bad (a ∷ b ∷ c ∷ []) (λ w. clash 0xE0 0xEF a e (three-true a b c w .lead)))
+  pub three-no : (Three a b c → ⊥) → Bad ≡ charOf (a ∷ b ∷ c ∷ [])
+  three-no n = sym (char-bad (a ∷ b ∷ c ∷ []) (λ w. n (three-true a b c w)))
 
-  pub three-second : cont b ≡ false → Bad ≡ charOf (a ∷ b ∷ c ∷ [])
-  three-second e = sym (char-bad (a ∷ b ∷ c ∷ []) (λ w. clash 0x80 0xBF b e (three-true a b c w .second)))
-
-  pub three-third : cont c ≡ false → Bad ≡ charOf (a ∷ b ∷ c ∷ [])
-  three-third e = sym (char-bad (a ∷ b ∷ c ∷ []) (λ w. clash 0x80 0xBF c e (three-true a b c w .third)))
-
-  pub three-short : value3 a b c < 0x800 → Bad ≡ charOf (a ∷ b ∷ c ∷ [])
-  three-short h = sym (char-bad (a ∷ b ∷ c ∷ []) (λ w. let t = three-true a b c w .long in omega arith))
-
-  pub three-surrogate : 0xD800 ≤ value3 a b c → value3 a b c < 0xE000 → Bad ≡ charOf (a ∷ b ∷ c ∷ [])
-  three-surrogate g h = sym (char-bad (a ∷ b ∷ c ∷ []) (λ w. ⊎-elim (λ l. omega arith) (λ l. omega arith) (three-true a b c w .scalar)))
-
-  pub three-read : within 0xE0 0xEF a ≡ true → cont b ≡ true → cont c ≡ true → 0x800 ≤ value3 a b c → Scalar (value3 a b c)
-      → Char (value3 a b c) 3 ≡ charOf (a ∷ b ∷ c ∷ [])
+  pub three-yes : Three a b c → Char (value3 a b c) 3 ≡ charOf (a ∷ b ∷ c ∷ [])
   unfolding value
-  three-read e f g l s =
-      sym (char-is (a ∷ b ∷ c ∷ []) (three-is a b c (record {
-        lead = within-true 0xE0 0xEF a e;
-        second = within-true 0x80 0xBF b f;
-        third = within-true 0x80 0xBF c g;
-        long = l;
-        scalar = s;
-      })))
-
--- ---- four
+  three-yes t = sym (char-is (a ∷ b ∷ c ∷ []) (three-is a b c t))
 
 module _ (a b c d : ℕ) where
-  pub four-lead : within 0xF0 0xF4 a ≡ false → Bad ≡ charOf (a ∷ b ∷ c ∷ d ∷ [])
-  four-lead e = sym (char-bad (a ∷ b ∷ c ∷ d ∷ []) (λ w. clash 0xF0 0xF4 a e (four-true a b c d w .lead)))
+  pub four-no : (Four a b c d → ⊥) → Bad ≡ charOf (a ∷ b ∷ c ∷ d ∷ [])
+  four-no n = sym (char-bad (a ∷ b ∷ c ∷ d ∷ []) (λ w. n (four-true a b c d w)))
 
-  pub four-second : cont b ≡ false → Bad ≡ charOf (a ∷ b ∷ c ∷ d ∷ [])
-  four-second e = sym (char-bad (a ∷ b ∷ c ∷ d ∷ []) (λ w. clash 0x80 0xBF b e (four-true a b c d w .second)))
-
-  pub four-third : cont c ≡ false → Bad ≡ charOf (a ∷ b ∷ c ∷ d ∷ [])
-  four-third e = sym (char-bad (a ∷ b ∷ c ∷ d ∷ []) (λ w. clash 0x80 0xBF c e (four-true a b c d w .third)))
-
-  pub four-fourth : cont d ≡ false → Bad ≡ charOf (a ∷ b ∷ c ∷ d ∷ [])
-  four-fourth e = sym (char-bad (a ∷ b ∷ c ∷ d ∷ []) (λ w. clash 0x80 0xBF d e (four-true a b c d w .fourth)))
-
-  pub four-short : value4 a b c d < 0x10000 → Bad ≡ charOf (a ∷ b ∷ c ∷ d ∷ [])
-  four-short h = sym (char-bad (a ∷ b ∷ c ∷ d ∷ []) (λ w. let t = four-true a b c d w .long in omega arith))
-
-  pub four-large : 0x10FFFF < value4 a b c d → Bad ≡ charOf (a ∷ b ∷ c ∷ d ∷ [])
-  four-large h = sym (char-bad (a ∷ b ∷ c ∷ d ∷ []) (λ w. let t = four-true a b c d w .scalar in omega arith))
-
-  pub four-read : within 0xF0 0xF4 a ≡ true → cont b ≡ true → cont c ≡ true → cont d ≡ true → 0x10000 ≤ value4 a b c d
-      → value4 a b c d ≤ 0x10FFFF → Char (value4 a b c d) 4 ≡ charOf (a ∷ b ∷ c ∷ d ∷ [])
+  pub four-yes : Four a b c d → Char (value4 a b c d) 4 ≡ charOf (a ∷ b ∷ c ∷ d ∷ [])
   unfolding value
-  four-read e f g h l s =
-      sym (char-is (a ∷ b ∷ c ∷ d ∷ []) (four-is a b c d (record {
-        lead = within-true 0xF0 0xF4 a e;
-        second = within-true 0x80 0xBF b f;
-        third = within-true 0x80 0xBF c g;
-        fourth = within-true 0x80 0xBF d h;
-        long = l;
-        scalar = s;
-      })))
+  four-yes t = sym (char-is (a ∷ b ∷ c ∷ d ∷ []) (four-is a b c d t))
 
 -- ---- at a position
 

@@ -10,7 +10,7 @@ use Rattle.unicode.specs.WellFormed.{rows, fits, someFits, wellFormed}
 use Rattle.unicode.specs.Decoding.{seqLen, value, charOf, decodeHead, decodeAfter, decodeAll, validPrefix}
 use Rattle.unicode.specs.Places.{boundary, boundaryAt, countChars}
 use Rattle.unicode.specs.WhiteSpace.{whiteSpaces, member, isWhite}
-use Rattle.unicode.specs.declared.sequence.Decoded.the-variants.{Char, Bad, End}
+use Rattle.unicode.specs.declared.sequence.Decoded.the-variants.{Bad, End}
 
 -- The four characters of D92's example and their bytes.
 abbrev characters : List ℕ

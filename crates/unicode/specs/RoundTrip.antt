@@ -3,9 +3,9 @@
 -- Assumes nothing.
 use mathlib.Core.Path.{_≡_, refl, sym, ap, _∙_, subst}
 use mathlib.Core.Logic.{inl, inr, ⊎-elim, _↔_}
-use mathlib.Core.Bool.{true, false, false≢true}
+use mathlib.Core.Bool.{true, false≢true}
 use mathlib.Core.List.{List, [], _∷_, _++_}
-use Prim.Native.Nat.{ℕ, zero, suc, _+_, _*_, _/_, _%_, _≤_, _<_}
+use Prim.Native.Nat.{ℕ, zero, suc, _+_, _/_, _%_, _≤_, _<_}
 use native.Mathlib.Omega.{arith}
 use lib.ListN.{length, take, drop}
 use lib.Seq.{take-append-seam, take-all}
@@ -14,9 +14,9 @@ use Rattle.basis.specs.Choice.{pick, pick-true, pick-false, pick-cases, by-test
 use Rattle.unicode.specs.Scalar.{Scalar}
 use Rattle.unicode.specs.Encoding.{encode}
 use Rattle.unicode.specs.WellFormed.{rows, fits, someFits, wellFormed}
-use Rattle.unicode.specs.Decoding.{seqLen, value, charOf, decodeHead}
+use Rattle.unicode.specs.Decoding.{seqLen, value2, value3, value4, value, charOf, decodeHead}
 use Rattle.unicode.specs.Sizes.{encode-one, encode-two, encode-three, encode-four, encode-cases}
-use Rattle.unicode.specs.Rows.{value2, value3, value4, Two, Three, Four, one-true, one-is, two-true, two-is, three-true, three-is, four-true, four-is, five-false}
+use Rattle.unicode.specs.Rows.{one-true, one-is, two-true, two-is, three-true, three-is, four-true, four-is, five-false}
 use Rattle.unicode.specs.declared.sequence.Decoded.{Decoded}
 use Rattle.unicode.specs.declared.sequence.Decoded.the-variants.{Char, Bad, End}
 

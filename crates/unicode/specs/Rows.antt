@@ -2,14 +2,15 @@
 -- shorter sequence says the same, and that the number is a scalar value.
 -- Assumes nothing.
 use mathlib.Core.Path.{_≡_, refl}
-use mathlib.Core.Logic.{_⊎_, inl, inr, ⊎-elim}
+use mathlib.Core.Logic.{inl, inr, ⊎-elim}
 use mathlib.Core.Bool.{Bool, true, false, or-false, false≢true}
 use mathlib.Core.List.{List, [], _∷_}
-use Prim.Native.Nat.{ℕ, _+_, _*_, _%_, _≤_, _<_}
+use Prim.Native.Nat.{ℕ, _≤_, _<_}
 use native.Mathlib.Omega.{arith}
 use Rattle.basis.specs.Choice.{and-true, and-both, by-either, either-first, either-second}
 use Rattle.basis.specs.Order.{by-lt, within, within-true, within-is}
 use Rattle.unicode.specs.Scalar.{Scalar}
+use Rattle.unicode.specs.Decoding.{value3, value4}
 use Rattle.unicode.specs.WellFormed.{Range, _to_, rows, fits, someFits, wellFormed}
 
 -- Each byte lies in its range.
@@ -39,16 +40,7 @@ fits-is (r ∷ rs) (b ∷ s) f = and-both (fits rs s) (within (r .lo) (r .hi) b)
 abbrev pub Cont : ℕ → Type 0
 Cont b = (0x80 ≤ b) × (b ≤ 0xBF)
 
--- The numbers that two, three and four bytes stand for.
-abbrev pub value2 : ℕ → ℕ → ℕ
-value2 a b = a % 32 * 64 + b % 64
-
-abbrev pub value3 : ℕ → ℕ → ℕ → ℕ
-value3 a b c = (a % 16 * 64 + b % 64) * 64 + c % 64
-
-abbrev pub value4 : ℕ → ℕ → ℕ → ℕ → ℕ
-value4 a b c d = ((a % 8 * 64 + b % 64) * 64 + c % 64) * 64 + d % 64
-
+-- What the rows of two, of three and of four bytes ask.
 pub record Two (a b : ℕ) : Type 0 where
   pub lead : (0xC2 ≤ a) × (a ≤ 0xDF)
   pub second : Cont b

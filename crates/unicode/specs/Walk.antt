@@ -1,12 +1,12 @@
 -- Reading one character after the other: what is read of a text, and at its positions.
 -- Assumes nothing.
-use mathlib.Core.Path.{_≡_, refl, sym, ap, _∙_, subst}
+use mathlib.Core.Path.{_≡_, refl, sym, ap, _∙_}
 use mathlib.Core.Bool.{Bool, true, false}
 use mathlib.Core.List.{List, [], _∷_, _++_, append-assoc, append-nil}
-use Prim.Native.Nat.{ℕ, zero, suc, pred, _+_, _≤_, _<_}
+use Prim.Native.Nat.{ℕ, zero, suc, _+_, _≤_}
 use native.Mathlib.Omega.{arith}
-use lib.ListN.{length, take, drop, length-append, length-drop, drop-of-length-le}
-use lib.Seq.{drop-nil, drop-drop, drop-append-seam}
+use lib.ListN.{length, drop, length-append, length-drop, drop-of-length-le}
+use lib.Seq.{drop-drop, drop-append-seam}
 use Rattle.unicode.specs.Scalar.{Scalar, Scalars}
 use Rattle.unicode.specs.Encoding.{encode, bytes, size, encodeAll}
 use Rattle.unicode.specs.Decoding.{decodeHead, decodeAt, onChar, decodeAfter, decodeAll}

@@ -1,11 +1,11 @@
--- The well-formed byte sequences of UTF-8, as the Unicode Standard lists them.
+-- The well-formed byte sequences of UTF-8, as the Unicode Standard lists them (Table 3-7).
 -- Assumes nothing.
 use mathlib.Core.Bool.{Bool, true, false, _&&_, _||_}
 use mathlib.Core.List.{List, [], _∷_}
 use Prim.Native.Nat.{ℕ}
 use Rattle.basis.specs.Order.{within}
 
--- The bytes from one to another, both included.
+-- A field of Table 3-7: the bytes from one to another, both included.
 pub record Range : Type 0 where
   pub lo : ℕ
   pub hi : ℕ
@@ -14,7 +14,7 @@ infix 40 _to_
 abbrev pub _to_ : ℕ → ℕ → Range
 a to b = record { lo = a; hi = b }
 
--- Table 3-7, a line for each of its rows: the range of each byte.
+-- Table 3-7, a line for each of its nine rows: the range of the first, second, third and fourth byte.
 unfoldable pub rows : List (List Range)
 rows =
     ((0x00 to 0x7F) ∷ [])
@@ -28,17 +28,18 @@ rows =
     ∷ ((0xF4 to 0xF4) ∷ (0x80 to 0x8F) ∷ (0x80 to 0xBF) ∷ (0x80 to 0xBF) ∷ [])
     ∷ []
 
--- Each byte lies in its range, and there are as many bytes as ranges.
+-- A row of Table 3-7 has a sequence: as many bytes as ranges, each in its own.
 unfoldable pub fits : List Range → List ℕ → Bool
 fits [] [] = true
 fits [] (b ∷ s) = false
 fits (r ∷ rs) [] = false
 fits (r ∷ rs) (b ∷ s) = fits rs s && within (r .lo) (r .hi) b
 
+-- One of some rows has it.
 unfoldable pub someFits : List (List Range) → List ℕ → Bool
 someFits [] s = false
 someFits (r ∷ rs) s = fits r s || someFits rs s
 
--- Some row of Table 3-7 has the sequence.
+-- Well-formed: some row of Table 3-7 has the sequence.
 unfoldable pub wellFormed : List ℕ → Bool
 wellFormed s = someFits rows s

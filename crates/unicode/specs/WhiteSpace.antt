@@ -1,10 +1,11 @@
--- White space: the code points that have the property White_Space (PropList.txt of the Unicode Character Database).
+-- White space, a property of code points in the Unicode Character Database.
 -- Assumes nothing.
 use mathlib.Core.Bool.{Bool, false, _||_}
 use mathlib.Core.List.{List, [], _∷_}
 use Prim.Native.Nat.{ℕ}
 use lib.Dec.{eqb}
 
+-- The code points that have the property White_Space (PropList.txt), all 25.
 unfoldable pub whiteSpaces : List ℕ
 whiteSpaces =
     0x0009 ∷ 0x000A ∷ 0x000B ∷ 0x000C ∷ 0x000D ∷ 0x0020 ∷ 0x0085 ∷ 0x00A0 ∷ 0x1680 ∷ 0x2000 ∷ 0x2001 ∷ 0x2002 ∷ 0x2003
@@ -15,5 +16,6 @@ unfoldable pub member : ℕ → List ℕ → Bool
 member c [] = false
 member c (x ∷ xs) = eqb x c || member c xs
 
+-- Does a code point have the property White_Space.
 unfoldable pub isWhite : ℕ → Bool
 isWhite c = member c whiteSpaces

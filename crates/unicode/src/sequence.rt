@@ -35,7 +35,7 @@ fn between(lo: u8, hi: u8, b: u8) -> bool
 }
 
 // Does a byte continue a sequence.
-pub fn is_cont(b: u8) -> bool
+pub(crate) fn is_cont(b: u8) -> bool
     ensures { λ r. ⌜ r ≡ within 0x80 0xBF b ⌝ }
 {
     between(0x80, 0xBF, b)

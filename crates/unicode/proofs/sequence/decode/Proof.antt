@@ -39,7 +39,7 @@ cast-if2 : tie.Need-cast-if2
 cast-if2 c = search needs
 
 returns-2 : tie.Need-returns-2
-returns-2 c = let u = c .before in at-cut (S u) (I u) (there u) _ (u .seq-len .ensures) (c .if2 .taken)
+returns-2 c = let u = c .before in at-cut (S u) (I u) (there u) _ (u .seq-len .ensures) (omega arith)
 
 cast-t11 : tie.Need-cast-t11
 cast-t11 c = omega (arith, byte (c .before .before))

@@ -1,9 +1,11 @@
 -- `unicode::sequence::four` meets its contract.
 -- Assumes nothing.
-use mathlib.Core.Path.{_≡_, sym, _∙_}
+use mathlib.Core.Path.{sym, _∙_}
+use native.Mathlib.Omega.{arith}
 use borrow.Author.Needs.{needs}
 use borrow.Author.Tests.{not-true, not-false}
-use Rattle.unicode.proofs.Reading.{four-lead, four-second, four-third, four-fourth, four-short, four-large, four-read}
+use Rattle.basis.specs.Order.{within-true}
+use Rattle.unicode.proofs.Reading.{outside, four-no, four-yes}
 use Rattle.unicode.proofs.sequence.four.Statement.{statement}
 use Rattle.unicode.proofs.sequence.four.Tie as tie
 
@@ -11,25 +13,25 @@ between-requires : tie.Need-between-requires
 between-requires c κs = search needs
 
 returns : tie.Need-returns
-returns c = four-lead _ _ _ _ (sym (c .before .between .ensures) ∙ not-true _ (c .if1 .taken))
+returns c = four-no _ _ _ _ (λ t. outside 0xF0 0xF4 _ (sym (c .before .between .ensures) ∙ not-true _ (c .if1 .taken)) (t .lead))
 
 is-cont-requires : tie.Need-is-cont-requires
 is-cont-requires c κs = search needs
 
 returns-2 : tie.Need-returns-2
-returns-2 c = four-second _ _ _ _ (sym (c .before .is-cont .ensures) ∙ not-true _ (c .if2 .taken))
+returns-2 c = four-no _ _ _ _ (λ t. outside 0x80 0xBF _ (sym (c .before .is-cont .ensures) ∙ not-true _ (c .if2 .taken)) (t .second))
 
 is-cont-requires-2 : tie.Need-is-cont-requires-2
 is-cont-requires-2 c κs = search needs
 
 returns-3 : tie.Need-returns-3
-returns-3 c = four-third _ _ _ _ (sym (c .before .is-cont2 .ensures) ∙ not-true _ (c .if3 .taken))
+returns-3 c = four-no _ _ _ _ (λ t. outside 0x80 0xBF _ (sym (c .before .is-cont2 .ensures) ∙ not-true _ (c .if3 .taken)) (t .third))
 
 is-cont-requires-3 : tie.Need-is-cont-requires-3
 is-cont-requires-3 c κs = search needs
 
 returns-4 : tie.Need-returns-4
-returns-4 c = four-fourth _ _ _ _ (sym (c .before .is-cont3 .ensures) ∙ not-true _ (c .if4 .taken))
+returns-4 c = four-no _ _ _ _ (λ t. outside 0x80 0xBF _ (sym (c .before .is-cont3 .ensures) ∙ not-true _ (c .if4 .taken)) (t .fourth))
 
 mul-cp : tie.Need-mul-cp
 mul-cp c = search needs
@@ -50,10 +52,10 @@ add-cp-3 : tie.Need-add-cp-3
 add-cp-3 c = search needs
 
 returns-5 : tie.Need-returns-5
-returns-5 c = four-short _ _ _ _ (c .if5 .taken)
+returns-5 c = four-no _ _ _ _ (λ t. omega (arith, t .long))
 
 returns-6 : tie.Need-returns-6
-returns-6 c = four-large _ _ _ _ (c .if6 .taken)
+returns-6 c = four-no _ _ _ _ (λ t. omega (arith, t .scalar))
 
 returns-7 : tie.Need-returns-7
 returns-7 c =
@@ -61,12 +63,14 @@ returns-7 c =
     let e = f .before .before in
     let d = e .before .before in
     let l = d .before .before in
-    four-read _ _ _ _ (sym (l .before .between .ensures) ∙ not-false _ (l .if1 .left))
-    (sym (d .before .is-cont .ensures) ∙ not-false _ (d .if2 .left))
-    (sym (e .before .is-cont2 .ensures) ∙ not-false _ (e .if3 .left))
-    (sym (f .before .is-cont3 .ensures) ∙ not-false _ (f .if4 .left))
-    (c .before .if5 .left)
-    (c .if6 .left)
+    four-yes _ _ _ _ (record {
+      lead = within-true 0xF0 0xF4 _ (sym (l .before .between .ensures) ∙ not-false _ (l .if1 .left));
+      second = within-true 0x80 0xBF _ (sym (d .before .is-cont .ensures) ∙ not-false _ (d .if2 .left));
+      third = within-true 0x80 0xBF _ (sym (e .before .is-cont2 .ensures) ∙ not-false _ (e .if3 .left));
+      fourth = within-true 0x80 0xBF _ (sym (f .before .is-cont3 .ensures) ∙ not-false _ (f .if4 .left));
+      long = omega arith;
+      scalar = omega arith;
+    })
 
 pub four-spec : {M : Type 1} → statement M
 four-spec =

@@ -3,6 +3,7 @@
 -- Assumes nothing.
 use mathlib.Core.Path.{_≡_, ap, sym, _∙_}
 use Prim.Native.Nat.{ℕ, _-_, _<_}
+use native.Mathlib.Omega.{arith}
 use lib.Dec.{eqb, ltb}
 use lib.Count.{leadingZeros}
 use borrow.Author.Tests.{ne-eqb, lt-ltb, le-ltb}
@@ -20,6 +21,10 @@ run-is : (a : ℕ) → a < 256 → ofRun (leadingZeros 8 (255 - a)) ≡ seqLen a
 unfolding leadingZeros seqLen pick
 run-is a h = same-below (λ k. ofRun (leadingZeros 8 (255 - k))) seqLen 256 tt a h
 
+-- The lead byte's run of one bits.
+abbrev run : tie.Start → ℕ
+run s = leadingZeros 8 (255 - s .args .lead)
+
 returns : tie.Need-returns
 unfolding pick
 returns c = sym (ap ofRun (c .if1 .taken)) ∙ run-is (c .before .args .lead) (c .before .fits .lead .fits)
@@ -32,13 +37,13 @@ returns-3 : tie.Need-returns-3
 unfolding pick
 returns-3 c =
     let s = c .before .before .before in
-    simp (ne-eqb _ _ (c .before .before .if1 .left), ne-eqb _ _ (c .before .if2 .left), lt-ltb _ _ (c .if3 .taken)) at (run-is (s .args .lead) (s .fits .lead .fits))
+    simp (ne-eqb _ _ (c .before .before .if1 .left), ne-eqb _ _ (c .before .if2 .left), lt-ltb 4 (run s) (omega arith)) at (run-is (s .args .lead) (s .fits .lead .fits))
 
 returns-4 : tie.Need-returns-4
 unfolding pick
 returns-4 c =
     let s = c .before .before .before in
-    simp (ne-eqb _ _ (c .before .before .if1 .left), ne-eqb _ _ (c .before .if2 .left), le-ltb _ _ (c .if3 .left)) at (run-is (s .args .lead) (s .fits .lead .fits))
+    simp (ne-eqb _ _ (c .before .before .if1 .left), ne-eqb _ _ (c .before .if2 .left), le-ltb 4 (run s) (omega arith)) at (run-is (s .args .lead) (s .fits .lead .fits))
 
 pub seq-len-spec : {M : Type 1} → statement M
 seq-len-spec = tie.close (tie.spec returns returns-2 returns-3 returns-4)
