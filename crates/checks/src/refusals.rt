@@ -11,6 +11,10 @@ fn number(r: Refusal) -> u32
         Refusal::UnknownAlignment(_) => 2,
         Refusal::TextTooLong(_) => 3,
         Refusal::NotUtf8(_) => 4,
+        Refusal::BadLine(_) => 5,
+        Refusal::BadEdit => 6,
+        Refusal::LineTakesNothing(_) => 7,
+        Refusal::TooSmall(_) => 8,
     }
 }
 
@@ -22,6 +26,10 @@ fn value(r: Refusal) -> u64
         Refusal::UnknownAlignment(given) => given as u64,
         Refusal::TextTooLong(length) => length,
         Refusal::NotUtf8(prefix) => prefix.0 as u64,
+        Refusal::BadLine(line) => line,
+        Refusal::BadEdit => 0,
+        Refusal::LineTakesNothing(line) => line,
+        Refusal::TooSmall(needed) => needed,
     }
 }
 

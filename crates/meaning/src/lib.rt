@@ -1,4 +1,9 @@
 // The types that settings and answers are made of. Nothing here runs: specs/ says what each rule of the scope means.
+pub mod answers;
 pub mod counts;
+pub mod cursor;
+pub mod edit;
+pub mod line;
 pub mod refusals;
 pub mod settings;
+pub mod tokens;

@@ -6,6 +6,10 @@ pub enum Refusal {
     UnknownAlignment(u32),
     TextTooLong(u64),
     NotUtf8(Offset),
+    BadLine(u64),
+    BadEdit,
+    LineTakesNothing(u64),
+    TooSmall(u64),
 }
 
 // What a check answers.

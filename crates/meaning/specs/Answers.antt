@@ -1,0 +1,89 @@
+-- What the scope's numbers are for each answer: 0 where a call was done, else the refusal's number; and the values besides.
+-- Assumes nothing.
+use Prim.Native.Nat.{ℕ}
+use Rattle.meaning.specs.Refusals.{numberOf, besides}
+use Rattle.meaning.specs.declared.answers.Tokenized.{Tokenized}
+use Rattle.meaning.specs.declared.answers.Tokenized.the-variants as tokenized
+use Rattle.meaning.specs.declared.answers.Laid.{Laid}
+use Rattle.meaning.specs.declared.answers.Laid.the-variants as laid
+use Rattle.meaning.specs.declared.answers.LaidWithEvents.{LaidWithEvents}
+use Rattle.meaning.specs.declared.answers.LaidWithEvents.the-variants as drawing
+use Rattle.meaning.specs.declared.answers.Affected.{Affected}
+use Rattle.meaning.specs.declared.answers.Affected.the-variants as affecting
+use Rattle.meaning.specs.declared.answers.Relaid.{Relaid}
+use Rattle.meaning.specs.declared.answers.Relaid.the-variants as relaid
+use Rattle.meaning.specs.declared.answers.Height.{Height}
+use Rattle.meaning.specs.declared.answers.Height.the-variants as height
+use Rattle.meaning.specs.declared.answers.LineY.{LineY}
+use Rattle.meaning.specs.declared.answers.LineY.the-variants as liney
+
+abbrev pub tokensNumber : Tokenized → ℕ
+tokensNumber (tokenized.Tokens n) = 0
+tokensNumber (tokenized.Refused r) = numberOf r
+
+abbrev pub tokensValue : Tokenized → ℕ
+tokensValue (tokenized.Tokens n) = n
+tokensValue (tokenized.Refused r) = besides r
+
+abbrev pub layoutNumber : Laid → ℕ
+layoutNumber (laid.Lines n) = 0
+layoutNumber (laid.Refused r) = numberOf r
+
+abbrev pub layoutValue : Laid → ℕ
+layoutValue (laid.Lines n) = n
+layoutValue (laid.Refused r) = besides r
+
+abbrev pub drawingNumber : LaidWithEvents → ℕ
+drawingNumber (drawing.Lines n m) = 0
+drawingNumber (drawing.Refused r) = numberOf r
+
+abbrev pub drawingValue : LaidWithEvents → ℕ
+drawingValue (drawing.Lines n m) = n
+drawingValue (drawing.Refused r) = besides r
+
+-- The count of events is written only where the call was done.
+abbrev pub drawingCount : LaidWithEvents → (old : ℕ) → ℕ
+drawingCount (drawing.Lines n m) old = m
+drawingCount (drawing.Refused r) old = old
+
+abbrev pub affectedNumber : Affected → ℕ
+affectedNumber (affecting.Line k) = 0
+affectedNumber (affecting.Refused r) = numberOf r
+
+abbrev pub affectedValue : Affected → ℕ
+affectedValue (affecting.Line k) = k
+affectedValue (affecting.Refused r) = besides r
+
+abbrev pub relayNumber : Relaid → ℕ
+relayNumber (relaid.Lines n m) = 0
+relayNumber (relaid.Refused r) = numberOf r
+
+abbrev pub relayValue : Relaid → ℕ
+relayValue (relaid.Lines n m) = n
+relayValue (relaid.Refused r) = besides r
+
+-- So is the count of lines laid.
+abbrev pub relayCount : Relaid → (old : ℕ) → ℕ
+relayCount (relaid.Lines n m) old = m
+relayCount (relaid.Refused r) old = old
+
+abbrev pub heightNumber : Height → ℕ
+heightNumber (height.Pixels h) = 0
+heightNumber (height.Refused r) = numberOf r
+
+abbrev pub heightValue : Height → ℕ
+heightValue (height.Pixels h) = h
+heightValue (height.Refused r) = besides r
+
+-- 1 if the line shows, 0 if not, 2 if there is no such line.
+abbrev pub yNumber : LineY → ℕ
+yNumber (liney.Shows y) = 0
+yNumber (liney.Hidden y) = 0
+yNumber liney.NoLine = 0
+yNumber (liney.Refused r) = numberOf r
+
+abbrev pub yValue : LineY → ℕ
+yValue (liney.Shows y) = 1
+yValue (liney.Hidden y) = 0
+yValue liney.NoLine = 2
+yValue (liney.Refused r) = besides r

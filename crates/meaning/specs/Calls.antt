@@ -1,0 +1,156 @@
+-- What each public call answers, and what each buffer that it is lent holds afterwards, from what it was lent alone.
+-- A text is a list of bytes here, and a table or buffer a list of numbers.
+-- Assumes nothing.
+use Prim.Native.Nat.{ℕ, suc, _+_}
+use mathlib.Core.Bool.{Bool, _&&_}
+use mathlib.Core.List.{List, [], _∷_, _++_, map}
+use lib.Dec.{leb, ltb, eqb}
+use lib.ListN.{length}
+use Rattle.basis.specs.Choice.{pick}
+use Rattle.unicode.specs.Decoding.{decodeAll}
+use Rattle.meaning.specs.Checks.{firstOf, answered, afterwards, checkSettings, checkLength, checkUtf8, checkRoom}
+use Rattle.meaning.specs.Tokens.{tokens, ranged}
+use Rattle.meaning.specs.Layout.{Row, rows, entryOfRow, allEvents}
+use Rattle.meaning.specs.Table.{entryNumbers, eventNumbers, tokenNumbers, ofEntry, ofEvent, ofToken, ofAll, capacityOf, written, entriesIn}
+use Rattle.meaning.specs.WellFormed.{checkTable}
+use Rattle.meaning.specs.Edit.{unaffected, affected, checkWhole, checkRest, checkOrder, checkEdit, Again, again, linesAgain}
+use Rattle.meaning.specs.Height.{heightOf, yOf, showsAt}
+use Rattle.meaning.specs.declared.settings.Settings.{Settings}
+use Rattle.meaning.specs.declared.tokens.Token.{Token}
+use Rattle.meaning.specs.declared.edit.Edit.{Edit}
+use Rattle.meaning.specs.declared.line.Entry.{Entry}
+use Rattle.meaning.specs.declared.line.Event.{Event}
+use Rattle.meaning.specs.declared.refusals.Refusal.the-variants.{LineTakesNothing}
+use Rattle.meaning.specs.declared.refusals.Checked.{Checked}
+use Rattle.meaning.specs.declared.refusals.Checked.the-variants.{Good, Refused}
+use Rattle.meaning.specs.declared.answers.Tokenized.{Tokenized}
+use Rattle.meaning.specs.declared.answers.Tokenized.the-variants as tokenized
+use Rattle.meaning.specs.declared.answers.Laid.{Laid}
+use Rattle.meaning.specs.declared.answers.Laid.the-variants as laid
+use Rattle.meaning.specs.declared.answers.LaidWithEvents.{LaidWithEvents}
+use Rattle.meaning.specs.declared.answers.LaidWithEvents.the-variants as drawing
+use Rattle.meaning.specs.declared.answers.Affected.{Affected}
+use Rattle.meaning.specs.declared.answers.Affected.the-variants as affecting
+use Rattle.meaning.specs.declared.answers.Relaid.{Relaid}
+use Rattle.meaning.specs.declared.answers.Relaid.the-variants as relaid
+use Rattle.meaning.specs.declared.answers.Height.{Height}
+use Rattle.meaning.specs.declared.answers.Height.the-variants as height
+use Rattle.meaning.specs.declared.answers.LineY.{LineY}
+use Rattle.meaning.specs.declared.answers.LineY.the-variants as liney
+
+-- 7: a line ends by LineBreak (3) and took no character. Lines are numbered from k on.
+unfoldable pub checkTakes : (k : ℕ) → List Row → Checked
+checkTakes k [] = Good
+checkTakes k (r ∷ rs) =
+    let more = checkTakes (suc k) rs in
+    pick (eqb (r .entry .ending) 3 && eqb (r .chars) 0) (Refused (LineTakesNothing k)) more
+
+-- ---- tokens
+
+unfoldable pub textTokens : List ℕ → List Token
+textTokens t = ranged 0 (tokens (decodeAll t))
+
+unfoldable pub checkTokens : List ℕ → (buffer : List ℕ) → Checked
+checkTokens t buffer =
+    firstOf (checkLength (length t) ∷ checkUtf8 t ∷ checkRoom (capacityOf tokenNumbers buffer) (length (textTokens t)) ∷ [])
+
+unfoldable pub tokensAnswer : List ℕ → (buffer : List ℕ) → Tokenized
+tokensAnswer t buffer = answered (checkTokens t buffer) (tokenized.Tokens (length (textTokens t))) tokenized.Refused
+
+unfoldable pub tokensBuffer : List ℕ → (buffer : List ℕ) → List ℕ
+tokensBuffer t buffer = afterwards (checkTokens t buffer) (written buffer (ofAll ofToken (textTokens t))) buffer
+
+-- ---- the fresh layout
+
+unfoldable pub textRows : Settings → List ℕ → List Row
+textRows s t = rows s (decodeAll t)
+
+unfoldable pub textEntries : Settings → List ℕ → List Entry
+textEntries s t = map entryOfRow (textRows s t)
+
+unfoldable pub textEvents : Settings → List ℕ → List Event
+textEvents s t = allEvents (textRows s t)
+
+unfoldable pub checkLayout : Settings → List ℕ → (table : List ℕ) → Checked
+checkLayout s t table =
+    firstOf
+    (checkSettings s ∷ checkLength (length t) ∷ checkUtf8 t ∷ checkTakes 0 (textRows s t)
+    ∷ checkRoom (capacityOf entryNumbers table) (length (textEntries s t)) ∷ [])
+
+unfoldable pub layoutAnswer : Settings → List ℕ → (table : List ℕ) → Laid
+layoutAnswer s t table = answered (checkLayout s t table) (laid.Lines (length (textEntries s t))) laid.Refused
+
+unfoldable pub layoutTable : Settings → List ℕ → (table : List ℕ) → List ℕ
+layoutTable s t table = afterwards (checkLayout s t table) (written table (ofAll ofEntry (textEntries s t))) table
+
+-- ---- the fresh layout with events: 8 of the table first, then of the event buffer
+
+unfoldable pub checkDrawing : Settings → List ℕ → (table events : List ℕ) → Checked
+checkDrawing s t table events =
+    firstOf (checkLayout s t table ∷ checkRoom (capacityOf eventNumbers events) (length (textEvents s t)) ∷ [])
+
+unfoldable pub drawingAnswer : Settings → List ℕ → (table events : List ℕ) → LaidWithEvents
+drawingAnswer s t table events =
+    answered (checkDrawing s t table events) (drawing.Lines (length (textEntries s t)) (length (textEvents s t))) drawing.Refused
+
+unfoldable pub drawingTable : Settings → List ℕ → (table events : List ℕ) → List ℕ
+drawingTable s t table events = afterwards (checkDrawing s t table events) (written table (ofAll ofEntry (textEntries s t))) table
+
+unfoldable pub drawingEvents : Settings → List ℕ → (table events : List ℕ) → List ℕ
+drawingEvents s t table events = afterwards (checkDrawing s t table events) (written events (ofAll ofEvent (textEvents s t))) events
+
+-- ---- the first affected line, from a table of so many lines and an edit: 3, 5, 6
+
+unfoldable pub checkAffected : List ℕ → (lines : ℕ) → Edit → Checked
+checkAffected table lines ed =
+    let old = entriesIn lines table in
+    firstOf (checkWhole (checkTable lines table) old ed ∷ checkTable lines table ∷ checkOrder old ed ∷ [])
+
+unfoldable pub affectedAnswer : List ℕ → (lines : ℕ) → Edit → Affected
+affectedAnswer table lines ed =
+    answered (checkAffected table lines ed) (affecting.Line (length (unaffected (ed .from .0) (entriesIn lines table)))) affecting.Refused
+
+-- ---- laying again: the part is the new text from the first affected line's start on
+
+unfoldable pub linesLaid : Settings → List ℕ → List ℕ → (lines : ℕ) → Edit → List Row
+linesLaid s part table lines ed =
+    let old = entriesIn lines table in
+    again s ed old (affected (ed .from .0) old) (decodeAll part) .laid
+
+unfoldable pub linesAfter : Settings → List ℕ → List ℕ → (lines : ℕ) → Edit → List Entry
+linesAfter s part table lines ed = linesAgain s ed (entriesIn lines table) (decodeAll part)
+
+unfoldable pub checkRelay : Settings → List ℕ → List ℕ → (lines : ℕ) → Edit → Checked
+checkRelay s part table lines ed =
+    let old = entriesIn lines table in
+    let first = length (unaffected (ed .from .0) old) in
+    let onward = affected (ed .from .0) old in
+    firstOf
+    (checkSettings s ∷ checkLength (length part) ∷ checkWhole (checkTable lines table) old ed ∷ checkUtf8 part
+    ∷ checkTable lines table ∷ checkRest first onward (decodeAll part) ∷ checkEdit old ed onward (length part) (decodeAll part)
+    ∷ checkTakes first (linesLaid s part table lines ed)
+    ∷ checkRoom (capacityOf entryNumbers table) (length (linesAfter s part table lines ed)) ∷ [])
+
+-- The lines that the table now holds, and how many were laid.
+unfoldable pub relayAnswer : Settings → List ℕ → List ℕ → (lines : ℕ) → Edit → Relaid
+relayAnswer s part table lines ed =
+    answered (checkRelay s part table lines ed)
+    (relaid.Lines (length (linesAfter s part table lines ed)) (length (linesLaid s part table lines ed))) relaid.Refused
+
+unfoldable pub relayTable : Settings → List ℕ → List ℕ → (lines : ℕ) → Edit → List ℕ
+relayTable s part table lines ed =
+    afterwards (checkRelay s part table lines ed) (written table (ofAll ofEntry (linesAfter s part table lines ed))) table
+
+-- ---- height and y: 1, 2, 5
+
+unfoldable pub checkHeight : Settings → List ℕ → (lines : ℕ) → Checked
+checkHeight s table lines = firstOf (checkSettings s ∷ checkTable lines table ∷ [])
+
+unfoldable pub heightAnswer : Settings → List ℕ → (lines : ℕ) → Height
+heightAnswer s table lines = answered (checkHeight s table lines) (height.Pixels (heightOf s (entriesIn lines table))) height.Refused
+
+unfoldable pub yAnswer : Settings → List ℕ → (lines line : ℕ) → LineY
+yAnswer s table lines k =
+    let y = yOf s k (entriesIn lines table) in
+    answered (checkHeight s table lines)
+    (pick (ltb k lines) (pick (showsAt s y) (liney.Shows y) (liney.Hidden y)) liney.NoLine) liney.Refused

@@ -1,0 +1,167 @@
+-- The scope's examples of layouts, computed (E1): one table, and one theorem over it.
+-- Assumes nothing.
+use Prim.Native.Nat.{ℕ}
+use Prim.Native.Char.{Char, code}
+use Prim.Native.String.{String}
+use Prim.Native.String as string
+use mathlib.Core.Path.{_≡_, refl}
+use mathlib.Core.List.{List, [], _∷_, map}
+use lib.IntN.{pos}
+use Rattle.basis.specs.Choice.{pick}
+use Rattle.unicode.specs.Encoding.{bytes, size}
+use Rattle.unicode.specs.WhiteSpace.{whiteSpaces, member, isWhite}
+use Rattle.meaning.specs.Characters.{glue, classOf, inWord, inRun}
+use Rattle.meaning.specs.Tokens.{run, after, ender, counted, first, others, tokensBy, tokens, charsOf, sizeOf, enderOf, needOf}
+use Rattle.meaning.specs.Cursor.{roomOf, fitsIn, advance, tabWidth}
+use Rattle.meaning.specs.SpaceConfig.{spacesWidth, spacesAfter}
+use Rattle.meaning.specs.Alignment.{plainSpaces, justified, place}
+use Rattle.meaning.specs.Lookahead.{goesOn, nextFits, added, nextWidth}
+use Rattle.meaning.specs.Words.{grow, stretches, glues, printedFirst, drawnStretches, drawnWord}
+use Rattle.meaning.specs.LineIter.{skips, drawsSpace, when, cutRun, onSpace, onTab, hyphenated, onBreak, cutWord, onWord, step, process}
+use Rattle.meaning.specs.Line.{measured, measuredWidth, measuredCount, heldTokens, lineTokens, startPlace, measuring, placing, lineOf, layLine, restOf, entryAt, eventsAt}
+use Rattle.meaning.specs.Layout.{rowAt, unlessEnded, rowsBy, rows, layout, allEvents, layoutEvents}
+use Rattle.meaning.specs.Table.{ofEntry, ofEvent}
+use Rattle.meaning.specs.declared.settings.Settings.{Settings}
+
+-- The characters of a quoted text.
+unfoldable pub codes : String → List ℕ
+codes string.[] = []
+codes (string._∷_ c s) = code c ∷ codes s
+
+-- The examples' settings: glyph 6, tab 24, left, leading on, trailing off. What height and y take plays no part.
+abbrev pub box : ℕ → Settings
+box w =
+    record {
+      glyph = record { 0 = 6 };
+      width = record { 0 = w };
+      tab = record { 0 = 24 };
+      spacing = record { 0 = 0 };
+      paragraph = record { 0 = 0 };
+      base = record { 0 = 1 };
+      height = record { 0 = 0 };
+      top = pos 0;
+      alignment = 0;
+      vertical = 0;
+      leading = 1;
+      trailing = 0;
+    }
+
+-- Justified, leading off.
+abbrev pub justifiedBox : ℕ → Settings
+justifiedBox w =
+    record {
+      glyph = record { 0 = 6 };
+      width = record { 0 = w };
+      tab = record { 0 = 24 };
+      spacing = record { 0 = 0 };
+      paragraph = record { 0 = 0 };
+      base = record { 0 = 1 };
+      height = record { 0 = 0 };
+      top = pos 0;
+      alignment = 3;
+      vertical = 0;
+      leading = 0;
+      trailing = 0;
+    }
+
+-- A text in a box, the ten numbers of each of its lines, and the six of each of its events.
+pub record Example : Type 0 where
+  pub settings : Settings
+  pub text : String
+  pub lines : List (List ℕ)
+  pub events : List (List ℕ)
+
+abbrev example : Settings → String → List (List ℕ) → List (List ℕ) → Example
+example s t ls es = record { settings = s; text = t; lines = ls; events = es }
+
+-- A line: start, rest end, rest count, end type, left, space width, extra, width, dropped, reach.
+-- An event: kind (0 space, 1 printed, 2 move), start, end, count, width, pen.
+abbrev pub examples : List Example
+examples =
+    -- one line, no events
+    example (box 30) "" ((0 ∷ 0 ∷ 0 ∷ 2 ∷ 0 ∷ 6 ∷ 0 ∷ 0 ∷ 0 ∷ 1 ∷ []) ∷ []) []
+    -- a space 30 wide, "ab" dropped, an empty last line at 7
+    ∷ example (box 30) "     ab"
+    ((0 ∷ 0 ∷ 0 ∷ 3 ∷ 0 ∷ 6 ∷ 0 ∷ 0 ∷ 2 ∷ 8 ∷ []) ∷ (7 ∷ 0 ∷ 0 ∷ 2 ∷ 0 ∷ 6 ∷ 0 ∷ 0 ∷ 0 ∷ 8 ∷ []) ∷ [])
+    ((0 ∷ 0 ∷ 5 ∷ 5 ∷ 30 ∷ 0 ∷ []) ∷ [])
+    -- a word wider than the box
+    ∷ example (box 30) "abcdefg"
+    ((0 ∷ 0 ∷ 0 ∷ 3 ∷ 0 ∷ 6 ∷ 0 ∷ 30 ∷ 0 ∷ 8 ∷ []) ∷ (5 ∷ 0 ∷ 0 ∷ 2 ∷ 0 ∷ 6 ∷ 0 ∷ 12 ∷ 0 ∷ 8 ∷ []) ∷ [])
+    ((1 ∷ 0 ∷ 5 ∷ 0 ∷ 30 ∷ 0 ∷ []) ∷ (1 ∷ 5 ∷ 7 ∷ 0 ∷ 12 ∷ 0 ∷ []) ∷ [])
+    -- no character fits, and one does
+    ∷ example (box 5) "abc"
+    ((0 ∷ 0 ∷ 0 ∷ 3 ∷ 0 ∷ 6 ∷ 0 ∷ 0 ∷ 3 ∷ 4 ∷ []) ∷ (3 ∷ 0 ∷ 0 ∷ 2 ∷ 0 ∷ 6 ∷ 0 ∷ 0 ∷ 0 ∷ 4 ∷ []) ∷ [])
+    []
+    ∷ example (box 6) "abc"
+    ((0 ∷ 0 ∷ 0 ∷ 3 ∷ 0 ∷ 6 ∷ 0 ∷ 6 ∷ 0 ∷ 4 ∷ []) ∷ (1 ∷ 0 ∷ 0 ∷ 3 ∷ 0 ∷ 6 ∷ 0 ∷ 6 ∷ 0 ∷ 4 ∷ [])
+    ∷ (2 ∷ 0 ∷ 0 ∷ 2 ∷ 0 ∷ 6 ∷ 0 ∷ 6 ∷ 0 ∷ 4 ∷ []) ∷ [])
+    ((1 ∷ 0 ∷ 1 ∷ 0 ∷ 6 ∷ 0 ∷ []) ∷ (1 ∷ 1 ∷ 2 ∷ 0 ∷ 6 ∷ 0 ∷ []) ∷ (1 ∷ 2 ∷ 3 ∷ 0 ∷ 6 ∷ 0 ∷ []) ∷ [])
+    -- a cut space run: the second line starts at 4 with a rest of two spaces
+    ∷ example (box 18) "abc   d"
+    ((0 ∷ 0 ∷ 0 ∷ 3 ∷ 0 ∷ 6 ∷ 0 ∷ 18 ∷ 0 ∷ 7 ∷ []) ∷ (4 ∷ 6 ∷ 2 ∷ 2 ∷ 0 ∷ 6 ∷ 0 ∷ 18 ∷ 0 ∷ 8 ∷ []) ∷ [])
+    ((1 ∷ 0 ∷ 3 ∷ 0 ∷ 18 ∷ 0 ∷ []) ∷ (0 ∷ 4 ∷ 6 ∷ 2 ∷ 12 ∷ 0 ∷ []) ∷ (1 ∷ 6 ∷ 7 ∷ 0 ∷ 6 ∷ 12 ∷ []) ∷ [])
+    -- a tab that does not fit moves the pen alone, so "x" is printed outside
+    ∷ example (box 30) "abcd\tx"
+    ((0 ∷ 0 ∷ 0 ∷ 2 ∷ 0 ∷ 6 ∷ 0 ∷ 36 ∷ 0 ∷ 7 ∷ []) ∷ [])
+    ((1 ∷ 0 ∷ 4 ∷ 0 ∷ 24 ∷ 0 ∷ []) ∷ (2 ∷ 4 ∷ 5 ∷ 0 ∷ 6 ∷ 24 ∷ []) ∷ (1 ∷ 5 ∷ 6 ∷ 0 ∷ 6 ∷ 30 ∷ []) ∷ [])
+    -- a soft hyphen: not needed; printed; and kept for the next line, which a "-" leaves empty
+    ∷ example (box 24) "ab\u{ad}cd"
+    ((0 ∷ 0 ∷ 0 ∷ 2 ∷ 0 ∷ 6 ∷ 0 ∷ 24 ∷ 0 ∷ 7 ∷ []) ∷ [])
+    ((1 ∷ 0 ∷ 2 ∷ 0 ∷ 12 ∷ 0 ∷ []) ∷ (1 ∷ 4 ∷ 6 ∷ 0 ∷ 12 ∷ 12 ∷ []) ∷ [])
+    ∷ example (box 23) "ab\u{ad}cd"
+    ((0 ∷ 0 ∷ 0 ∷ 3 ∷ 0 ∷ 6 ∷ 0 ∷ 18 ∷ 0 ∷ 7 ∷ []) ∷ (4 ∷ 0 ∷ 0 ∷ 2 ∷ 0 ∷ 6 ∷ 0 ∷ 12 ∷ 0 ∷ 7 ∷ []) ∷ [])
+    ((1 ∷ 0 ∷ 2 ∷ 0 ∷ 12 ∷ 0 ∷ []) ∷ (1 ∷ 2 ∷ 4 ∷ 0 ∷ 6 ∷ 12 ∷ []) ∷ (1 ∷ 4 ∷ 6 ∷ 0 ∷ 12 ∷ 0 ∷ []) ∷ [])
+    ∷ example (box 17) "ab\u{ad}cd"
+    ((0 ∷ 0 ∷ 0 ∷ 3 ∷ 0 ∷ 6 ∷ 0 ∷ 12 ∷ 0 ∷ 7 ∷ []) ∷ (2 ∷ 0 ∷ 0 ∷ 3 ∷ 0 ∷ 6 ∷ 0 ∷ 12 ∷ 0 ∷ 7 ∷ [])
+    ∷ (5 ∷ 0 ∷ 0 ∷ 2 ∷ 0 ∷ 6 ∷ 0 ∷ 6 ∷ 0 ∷ 7 ∷ []) ∷ [])
+    ((1 ∷ 0 ∷ 2 ∷ 0 ∷ 12 ∷ 0 ∷ []) ∷ (1 ∷ 2 ∷ 4 ∷ 0 ∷ 6 ∷ 0 ∷ []) ∷ (1 ∷ 4 ∷ 5 ∷ 0 ∷ 6 ∷ 6 ∷ []) ∷ (1 ∷ 5 ∷ 6 ∷ 0 ∷ 6 ∷ 0 ∷ []) ∷ [])
+    -- U+00A0 holds a word together and is drawn as a space
+    ∷ example (box 30) "a\u{a0}b"
+    ((0 ∷ 0 ∷ 0 ∷ 2 ∷ 0 ∷ 6 ∷ 0 ∷ 18 ∷ 0 ∷ 5 ∷ []) ∷ [])
+    ((1 ∷ 0 ∷ 1 ∷ 0 ∷ 6 ∷ 0 ∷ []) ∷ (0 ∷ 1 ∷ 3 ∷ 1 ∷ 6 ∷ 6 ∷ []) ∷ (1 ∷ 3 ∷ 4 ∷ 0 ∷ 6 ∷ 12 ∷ []) ∷ [])
+    -- justified: spaces 8 and 7, and the first line ends at 51
+    ∷ example (justifiedBox 51) "aa bb cc dd"
+    ((0 ∷ 0 ∷ 0 ∷ 3 ∷ 0 ∷ 7 ∷ 1 ∷ 48 ∷ 0 ∷ 10 ∷ []) ∷ (9 ∷ 0 ∷ 0 ∷ 2 ∷ 0 ∷ 6 ∷ 0 ∷ 12 ∷ 0 ∷ 12 ∷ []) ∷ [])
+    ((1 ∷ 0 ∷ 2 ∷ 0 ∷ 12 ∷ 0 ∷ []) ∷ (0 ∷ 2 ∷ 3 ∷ 1 ∷ 8 ∷ 12 ∷ []) ∷ (1 ∷ 3 ∷ 5 ∷ 0 ∷ 12 ∷ 20 ∷ []) ∷ (0 ∷ 5 ∷ 6 ∷ 1 ∷ 7 ∷ 32 ∷ [])
+    ∷ (1 ∷ 6 ∷ 8 ∷ 0 ∷ 12 ∷ 39 ∷ []) ∷ (1 ∷ 9 ∷ 11 ∷ 0 ∷ 12 ∷ 0 ∷ []) ∷ [])
+    -- the listing program's example
+    ∷ example (box 30) "ab cde"
+    ((0 ∷ 0 ∷ 0 ∷ 3 ∷ 0 ∷ 6 ∷ 0 ∷ 12 ∷ 0 ∷ 7 ∷ []) ∷ (3 ∷ 0 ∷ 0 ∷ 2 ∷ 0 ∷ 6 ∷ 0 ∷ 18 ∷ 0 ∷ 7 ∷ []) ∷ [])
+    ((1 ∷ 0 ∷ 2 ∷ 0 ∷ 12 ∷ 0 ∷ []) ∷ (0 ∷ 2 ∷ 3 ∷ 1 ∷ 0 ∷ 12 ∷ []) ∷ (1 ∷ 3 ∷ 6 ∷ 0 ∷ 18 ∷ 0 ∷ []) ∷ [])
+    -- skipped leading spaces count, and use up extra pixels: three spaces share 21 pixels
+    ∷ example (justifiedBox 51) " aa bb cc dd"
+    ((0 ∷ 0 ∷ 0 ∷ 3 ∷ 0 ∷ 7 ∷ 0 ∷ 48 ∷ 0 ∷ 11 ∷ []) ∷ (10 ∷ 0 ∷ 0 ∷ 2 ∷ 0 ∷ 6 ∷ 0 ∷ 12 ∷ 0 ∷ 13 ∷ []) ∷ [])
+    ((0 ∷ 0 ∷ 1 ∷ 1 ∷ 0 ∷ 0 ∷ []) ∷ (1 ∷ 1 ∷ 3 ∷ 0 ∷ 12 ∷ 0 ∷ []) ∷ (0 ∷ 3 ∷ 4 ∷ 1 ∷ 7 ∷ 12 ∷ []) ∷ (1 ∷ 4 ∷ 6 ∷ 0 ∷ 12 ∷ 19 ∷ [])
+    ∷ (0 ∷ 6 ∷ 7 ∷ 1 ∷ 7 ∷ 31 ∷ []) ∷ (1 ∷ 7 ∷ 9 ∷ 0 ∷ 12 ∷ 38 ∷ []) ∷ (1 ∷ 10 ∷ 12 ∷ 0 ∷ 12 ∷ 0 ∷ []) ∷ [])
+    -- the clue that lost a streak: an indent as wide as the column drops "not", and the line says so
+    ∷ example (box 30) "     not the baker"
+    ((0 ∷ 0 ∷ 0 ∷ 3 ∷ 0 ∷ 6 ∷ 0 ∷ 0 ∷ 3 ∷ 9 ∷ []) ∷ (8 ∷ 0 ∷ 0 ∷ 3 ∷ 0 ∷ 6 ∷ 0 ∷ 24 ∷ 0 ∷ 19 ∷ [])
+    ∷ (13 ∷ 0 ∷ 0 ∷ 2 ∷ 0 ∷ 6 ∷ 0 ∷ 30 ∷ 0 ∷ 19 ∷ []) ∷ [])
+    ((0 ∷ 0 ∷ 5 ∷ 5 ∷ 30 ∷ 0 ∷ []) ∷ (0 ∷ 8 ∷ 9 ∷ 1 ∷ 6 ∷ 0 ∷ []) ∷ (1 ∷ 9 ∷ 12 ∷ 0 ∷ 18 ∷ 6 ∷ []) ∷ (0 ∷ 12 ∷ 13 ∷ 1 ∷ 0 ∷ 24 ∷ [])
+    ∷ (1 ∷ 13 ∷ 18 ∷ 0 ∷ 30 ∷ 0 ∷ []) ∷ [])
+    ∷ []
+
+-- The lines and the events of a text, with every definition that they take open to be computed.
+unfoldable pub linesOf : Settings → List ℕ → List (List ℕ)
+unfolding pick bytes size whiteSpaces member isWhite glue classOf inWord inRun run after ender counted first others tokensBy tokens charsOf sizeOf enderOf needOf roomOf fitsIn advance tabWidth spacesWidth spacesAfter plainSpaces justified place goesOn nextFits added nextWidth grow stretches glues printedFirst drawnStretches drawnWord skips drawsSpace when cutRun onSpace onTab hyphenated onBreak cutWord onWord step process measured measuredWidth measuredCount heldTokens lineTokens startPlace measuring placing lineOf layLine restOf entryAt eventsAt rowAt unlessEnded rowsBy rows layout ofEntry
+linesOf s cs = map ofEntry (layout s cs)
+
+unfoldable pub eventsOf : Settings → List ℕ → List (List ℕ)
+unfolding linesOf allEvents layoutEvents ofEvent
+eventsOf s cs = map ofEvent (layoutEvents s cs)
+
+-- What the definitions make of an example's text.
+unfoldable pub computed : Example → Example
+unfolding codes linesOf eventsOf
+computed e =
+    record {
+      settings = e .settings;
+      text = e .text;
+      lines = linesOf (e .settings) (codes (e .text));
+      events = eventsOf (e .settings) (codes (e .text));
+    }
+
+-- E1: every example comes out as it is written.
+pub examples-hold : map computed examples ≡ examples
+unfolding computed
+examples-hold = refl

@@ -1,0 +1,47 @@
+use crate::refusals::Refusal;
+
+// What each public call answers. specs/Answers.antt gives the scope's number and values of each case.
+
+// How many tokens were written.
+pub enum Tokenized {
+    Tokens(u64),
+    Refused(Refusal),
+}
+
+// How many lines were laid.
+pub enum Laid {
+    Lines(u64),
+    Refused(Refusal),
+}
+
+// How many lines were laid, and how many events were written.
+pub enum LaidWithEvents {
+    Lines(u64, u64),
+    Refused(Refusal),
+}
+
+// The first affected line.
+pub enum Affected {
+    Line(u64),
+    Refused(Refusal),
+}
+
+// How many lines the table now holds, and how many of them were laid.
+pub enum Relaid {
+    Lines(u64, u64),
+    Refused(Refusal),
+}
+
+// The text's height in pixels.
+pub enum Height {
+    Pixels(u64),
+    Refused(Refusal),
+}
+
+// A line's y and whether it shows; or that there is no such line.
+pub enum LineY {
+    Shows(i32),
+    Hidden(i32),
+    NoLine,
+    Refused(Refusal),
+}

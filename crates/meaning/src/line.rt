@@ -1,0 +1,46 @@
+use crate::counts::Chars;
+use crate::counts::Offset;
+use crate::counts::Pixels;
+
+// How a line ends.
+pub enum LineEnd {
+    NewLine,
+    CarriageReturn,
+    EndOfText,
+    LineBreak,
+}
+
+// What is left of a space run that a line's end cut: where it ends and how many spaces it counts. 0 and 0: nothing is.
+pub struct Rest {
+    pub end: Offset,
+    pub count: Chars,
+}
+
+// Rule 12: the ten numbers of a line. The ending is a number, since a lent table may hold any.
+pub struct Entry {
+    pub start: Offset,
+    pub rest: Rest,
+    pub ending: u32,
+    pub left: Pixels,
+    pub space: Pixels,
+    pub extra: Pixels,
+    pub width: Pixels,
+    pub dropped: Chars,
+    pub reach: Offset,
+}
+
+pub enum EventKind {
+    Space,
+    Printed,
+    Move,
+}
+
+// Rule 13: what is drawn, and the pen before it from the box's left.
+pub struct Event {
+    pub kind: EventKind,
+    pub start: Offset,
+    pub end: Offset,
+    pub count: Chars,
+    pub width: Pixels,
+    pub x: Pixels,
+}
