@@ -36,3 +36,21 @@ knownAlignment a = leb a 3
 -- Vertical alignment: 0 top, 1 middle, 2 bottom.
 abbrev pub knownVertical : ℕ → Bool
 knownVertical v = leb v 2
+
+-- The settings made of twelve numbers, in the scope's order.
+unfoldable pub settingsOf : (glyph width tab spacing paragraph base height : ℕ) → ℤ → (alignment vertical leading trailing : ℕ) → Settings
+settingsOf glyph width tab spacing paragraph base height top alignment vertical leading trailing =
+    record {
+      glyph = record { 0 = glyph };
+      width = record { 0 = width };
+      tab = record { 0 = tab };
+      spacing = record { 0 = spacing };
+      paragraph = record { 0 = paragraph };
+      base = record { 0 = base };
+      height = record { 0 = height };
+      top = top;
+      alignment = alignment;
+      vertical = vertical;
+      leading = leading;
+      trailing = trailing;
+    }
