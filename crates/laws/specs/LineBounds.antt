@@ -30,7 +30,7 @@ unfolding lineOf measuring startPlace
 bounds s ts h =
     let placed = placing s (measuring s ts) in
     let p = startPlace s 0 (plainSpaces s) in
-    let q = startPlace s (placed .left) (placed .spaces) in
+    let q = startPlace s (placed .left .0) (placed .spaces) in
     record {
       chars = pass-chars s q 0 ts h;
       held = pass-held s q 0 ts h;

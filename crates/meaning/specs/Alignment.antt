@@ -8,10 +8,7 @@ use Rattle.meaning.specs.declared.settings.Settings.{Settings}
 use Rattle.meaning.specs.declared.cursor.Spaces.{Spaces}
 use Rattle.meaning.specs.declared.line.LineEnd.{LineEnd}
 use Rattle.meaning.specs.declared.line.LineEnd.the-variants.{NewLine, CarriageReturn, EndOfText, LineBreak}
-
-pub record Placed : Type 0 where
-  pub left : ℕ
-  pub spaces : Spaces
+use Rattle.meaning.specs.declared.line.Placed.{Placed}
 
 abbrev pub spacesOf : ℕ → ℕ → Spaces
 spacesOf width extra = record { width = record { 0 = width }; extra = record { 0 = extra } }
@@ -31,12 +28,15 @@ endsParagraph LineBreak = false
 unfoldable pub justified : Settings → (room n : ℕ) → Spaces
 justified s room n = spacesOf ((room + n * s .glyph .0) / n) ((room + n * s .glyph .0) % n)
 
+abbrev pub placedLeft : ℕ → Spaces → Placed
+placedLeft left spaces = record { left = record { 0 = left }; spaces = spaces }
+
 -- A line of this measured width and n counted spaces, ended so.
 unfoldable pub place : Settings → LineEnd → (width n : ℕ) → Placed
 place s ended width n =
     let room = s .width .0 - width in
-    pick (eqb (s .alignment) 0) (record { left = 0; spaces = plainSpaces s })
-    (pick (eqb (s .alignment) 1) (record { left = (room + 1) / 2; spaces = plainSpaces s })
-    (pick (eqb (s .alignment) 2) (record { left = room; spaces = plainSpaces s })
-    (pick (endsParagraph ended || eqb n 0) (record { left = 0; spaces = plainSpaces s })
-    (record { left = 0; spaces = justified s room n }))))
+    pick (eqb (s .alignment) 0) (placedLeft 0 (plainSpaces s))
+    (pick (eqb (s .alignment) 1) (placedLeft ((room + 1) / 2) (plainSpaces s))
+    (pick (eqb (s .alignment) 2) (placedLeft room (plainSpaces s))
+    (pick (endsParagraph ended || eqb n 0) (placedLeft 0 (plainSpaces s))
+    (placedLeft 0 (justified s room n)))))

@@ -20,7 +20,7 @@ pub record Row : Type 0 where
 
 unfoldable pub rowAt : (start : ℕ) → Held → List ℕ → Line → Row
 rowAt start h cs l =
-    record { entry = entryAt start h cs l; events = eventsAt start (l .placed .left) (l .drawn); chars = l .chars }
+    record { entry = entryAt start h cs l; events = eventsAt start (l .placed .left .0) (l .drawn); chars = l .chars }
 
 -- Nothing follows a line that ends the text.
 unfoldable pub unlessEnded : LineEnd → List Row → List Row

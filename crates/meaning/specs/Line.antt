@@ -8,7 +8,7 @@ use lib.ListN.{take, drop}
 use Rattle.basis.specs.Choice.{pick}
 use Rattle.unicode.specs.Encoding.{size}
 use Rattle.meaning.specs.Tokens.{Tok, space, ender, tokens}
-use Rattle.meaning.specs.Alignment.{Placed, plainSpaces, place}
+use Rattle.meaning.specs.Alignment.{plainSpaces, place}
 use Rattle.meaning.specs.Words.{Drawn}
 use Rattle.meaning.specs.LineIter.{Held, nothingHeld, trailingOn, Ran, process}
 use Rattle.meaning.specs.declared.settings.Settings.{Settings}
@@ -18,35 +18,33 @@ use Rattle.meaning.specs.declared.line.LineEnd.{LineEnd}
 use Rattle.meaning.specs.declared.line.LineEnd.the-variants.{NewLine, CarriageReturn, EndOfText, LineBreak}
 use Rattle.meaning.specs.declared.line.EventKind.{EventKind}
 use Rattle.meaning.specs.declared.line.EventKind.the-variants.{Space, Printed, Move}
+use Rattle.meaning.specs.declared.line.Measure.{Measure}
+use Rattle.meaning.specs.declared.line.Placed.{Placed}
 use Rattle.meaning.specs.declared.line.Rest.{Rest}
 use Rattle.meaning.specs.declared.line.Entry.{Entry}
 use Rattle.meaning.specs.declared.line.Event.{Event}
 
--- Rule 10: the pen and the spaces counted so far, and the two as they were just after the last print.
-pub record Measure : Type 0 where
-  pub pen : ℕ
-  pub spaces : ℕ
-  pub width : ℕ
-  pub count : ℕ
-
+-- Nothing is drawn yet.
 abbrev pub unmeasured : Measure
-unmeasured = record { pen = 0; spaces = 0; width = 0; count = 0 }
+unmeasured = record { pen = record { 0 = 0 }; spaces = record { 0 = 0 }; width = record { 0 = 0 }; count = record { 0 = 0 } }
 
+-- After one more event, the pen and the spaces counted being so. Only a print makes width and count theirs.
 abbrev pub noted : EventKind → (pen spaces : ℕ) → Measure → Measure
-noted Printed pen spaces m = record { pen = pen; spaces = spaces; width = pen; count = spaces }
-noted Space pen spaces m = record { pen = pen; spaces = spaces; width = m .width; count = m .count }
-noted Move pen spaces m = record { pen = pen; spaces = spaces; width = m .width; count = m .count }
+noted Printed pen spaces m =
+    record { pen = record { 0 = pen }; spaces = record { 0 = spaces }; width = record { 0 = pen }; count = record { 0 = spaces } }
+noted Space pen spaces m = record { pen = record { 0 = pen }; spaces = record { 0 = spaces }; width = m .width; count = m .count }
+noted Move pen spaces m = record { pen = record { 0 = pen }; spaces = record { 0 = spaces }; width = m .width; count = m .count }
 
 unfoldable pub measured : Measure → List Drawn → Measure
 measured m [] = m
-measured m (d ∷ ds) = measured (noted (d .kind) (m .pen + d .width) (m .spaces + d .count) m) ds
+measured m (d ∷ ds) = measured (noted (d .kind) (m .pen .0 + d .width) (m .spaces .0 + d .count) m) ds
 
 -- With trailing spaces on, the two at the line's end count.
 unfoldable pub measuredWidth : Settings → Measure → ℕ
-measuredWidth s m = pick (trailingOn s) (m .pen) (m .width)
+measuredWidth s m = pick (trailingOn s) (m .pen .0) (m .width .0)
 
 unfoldable pub measuredCount : Settings → Measure → ℕ
-measuredCount s m = pick (trailingOn s) (m .spaces) (m .count)
+measuredCount s m = pick (trailingOn s) (m .spaces .0) (m .count .0)
 
 -- Rule 9: the next line starts with what is held as one token.
 unfoldable pub heldTokens : (chars count : ℕ) → List ℕ → List Tok
@@ -104,7 +102,7 @@ unfoldable pub lineOf : Settings → List Tok → Line
 lineOf s ts =
     let r = measuring s ts in
     let p = placing s r in
-    drawnLine p (measuredWidth s (measured unmeasured (r .drawn))) (r .reach) (process s (startPlace s (p .left) (p .spaces)) 0 ts)
+    drawnLine p (measuredWidth s (measured unmeasured (r .drawn))) (r .reach) (process s (startPlace s (p .left .0) (p .spaces)) 0 ts)
 
 -- The line that a text begins with, after what was held before it.
 unfoldable pub layLine : Settings → Held → List ℕ → Line
@@ -130,7 +128,7 @@ entryAt start h cs l =
       start = record { 0 = start };
       rest = restOf start h cs;
       ending = endNumber (l .ended);
-      left = record { 0 = l .placed .left };
+      left = l .placed .left;
       space = l .placed .spaces .width;
       extra = l .placed .spaces .extra;
       width = record { 0 = l .width };

@@ -1,6 +1,7 @@
 use crate::counts::Chars;
 use crate::counts::Offset;
 use crate::counts::Pixels;
+use crate::cursor::Spaces;
 
 // How a line ends.
 pub enum LineEnd {
@@ -8,6 +9,20 @@ pub enum LineEnd {
     CarriageReturn,
     EndOfText,
     LineBreak,
+}
+
+// Rule 10: the pen and the spaces counted so far, and the two as they were just after the last print.
+pub struct Measure {
+    pub pen: Pixels,
+    pub spaces: Chars,
+    pub width: Pixels,
+    pub count: Chars,
+}
+
+// Rule 6: where a line starts, and how wide its spaces are.
+pub struct Placed {
+    pub left: Pixels,
+    pub spaces: Spaces,
 }
 
 // What is left of a space run that a line's end cut: where it ends and how many spaces it counts. 0 and 0: nothing is.
