@@ -24,7 +24,6 @@ use Rattle.meaning.specs.declared.cursor.NextWord.{NextWord}
 use Rattle.meaning.specs.declared.cursor.NextWord.the-variants.{Nothing, Width}
 use Rattle.meaning.specs.declared.line.EventKind.the-variants.{Space, Move}
 use Rattle.laws.specs.Agree.{Agree}
-use Rattle.laws.specs.Steps.{lookedOf}
 
 -- A first token that is decided is that of both lists.
 pub agree-decided : (P : List Tok → Type 0) (n : ℕ) (t : Tok) (xs ys : List Tok) → Agree n (t ∷ xs) ys → needOf t ≤ n
@@ -120,6 +119,11 @@ pub draws-local : (s : Settings) (p : Place) (at n : ℕ) (xs ys : List Tok) →
     → drawsSpace s p at xs .reach ≤ at + n → drawsSpace s p at ys ≡ drawsSpace s p at xs
 unfolding drawsSpace
 draws-local s p at n xs ys a h = pick-local (λ (l : Looked). l .reach) (at + n) _ _ _ _ _ (λ k. refl) (fits-local _ _ _ at n xs ys a) h
+
+-- How far a step looked.
+abbrev pub lookedOf : Step → ℕ
+lookedOf (go p ds r) = r
+lookedOf (stop e ds k h d r) = r
 
 -- A space run and a tab look only where they go on.
 space-local : (s : Settings) (p : Place) (at : ℕ) (cs : List ℕ) (n m : ℕ) (q r : Looked) → (r .reach ≤ m → q ≡ r)

@@ -3,83 +3,59 @@
 use Prim.Native.Nat.{ℕ, zero, suc, _+_, _-_, _≤_}
 use native.Mathlib.Omega.{arith}
 use mathlib.Core.Path.{_≡_, refl}
-use mathlib.Core.List.{List, [], _∷_, map}
-use lib.Dec.{eqb}
+use mathlib.Core.List.{List, _∷_, map}
 use lib.ListN.{length, take, drop}
-use borrow.Author.Tests.{eq-eqb, ne-eqb}
+use borrow.Author.Tests.{ne-eqb}
 use Rattle.basis.specs.Choice.{pick}
 use Rattle.basis.specs.Order.{by-eq}
 use Rattle.unicode.specs.Encoding.{size}
 use Rattle.meaning.specs.LineIter.{Held}
 use Rattle.meaning.specs.Line.{Line, layLine, restOf, entryAt}
-use Rattle.meaning.specs.Layout.{Row, rowAt, unlessEnded, rowsBy, entryOfRow}
+use Rattle.meaning.specs.Layout.{Row, rowAt, rowsBy, entryOfRow}
+use Rattle.meaning.specs.Edit.{moved, movedRest, movedEntry}
 use Rattle.meaning.specs.declared.settings.Settings.{Settings}
-use Rattle.meaning.specs.declared.line.LineEnd.{LineEnd}
-use Rattle.meaning.specs.declared.line.LineEnd.the-variants.{NewLine, CarriageReturn, EndOfText, LineBreak}
-use Rattle.meaning.specs.declared.line.Rest.{Rest}
-use Rattle.meaning.specs.declared.line.Entry.{Entry}
-use Rattle.laws.specs.LineLocal.{size-within}
+use Rattle.meaning.specs.declared.edit.Edit.{Edit}
+use Rattle.laws.specs.LineBounds.{line-held, line-rest}
+use Rattle.laws.specs.Suffixes.{take-size}
+use Rattle.laws.specs.Rests.{rest-none, rest-some}
+use Rattle.laws.specs.Stands.{unless-both}
 
--- An entry as many bytes further on as `plus` is more than `minus`. No held rest stays none.
-unfoldable pub movedRest : (plus minus : ℕ) → Rest → Rest
-movedRest plus minus r = pick (eqb (r .end .0) 0) r (record { end = record { 0 = r .end .0 + plus - minus }; count = r .count })
+module _ (ed : Edit) where
+  -- An offset k bytes after the start is moved with it.
+  later : (start k : ℕ) → ed .to .0 - ed .from .0 ≤ start → moved ed start + k ≡ moved ed (start + k)
+  unfolding moved
+  later start k m = omega arith
 
-unfoldable pub movedBy : (plus minus : ℕ) → Entry → Entry
-movedBy plus minus e =
-    record {
-      start = record { 0 = e .start .0 + plus - minus };
-      rest = movedRest plus minus (e .rest);
-      ending = e .ending;
-      left = e .left;
-      space = e .space;
-      extra = e .extra;
-      width = e .width;
-      dropped = e .dropped;
-      reach = record { 0 = e .reach .0 + plus - minus };
-    }
+  rest-moved : (start : ℕ) (h : Held) (cs : List ℕ) → ed .to .0 - ed .from .0 ≤ start → h .chars ≤ length cs
+      → restOf (moved ed start) h cs ≡ movedRest ed (restOf start h cs)
+  unfolding movedRest pick
+  rest-moved start h cs m k =
+      by-eq (h .chars) 0 (λ e. rw (rest-none (moved ed start) h cs e, rest-none start h cs e))
+      (λ n.
+      let z = take-size (h .chars) cs k in
+      rw (
+        rest-some (moved ed start) h cs n,
+        rest-some start h cs n,
+        later start (size (take (h .chars) cs)) m,
+        ne-eqb (start + size (take (h .chars) cs)) 0 (λ e. omega arith),
+      ))
 
--- An offset k bytes after the start is moved with it.
-later : (plus minus start k : ℕ) → minus ≤ start → start + plus - minus + k ≡ start + k + plus - minus
-later plus minus start k m = omega arith
+  pub entry-moved : (start : ℕ) (h : Held) (cs : List ℕ) (l : Line) → ed .to .0 - ed .from .0 ≤ start → h .chars ≤ length cs
+      → entryAt (moved ed start) h cs l ≡ movedEntry ed (entryAt start h cs l)
+  unfolding entryAt movedEntry
+  entry-moved start h cs l m k = rw (later start (l .reach) m, rest-moved start h cs m k)
 
-rest-moved : (plus minus start : ℕ) (h : Held) (cs : List ℕ) → minus ≤ start → h .chars ≤ length cs
-    → restOf (start + plus - minus) h cs ≡ movedRest plus minus (restOf start h cs)
-unfolding restOf movedRest pick
-rest-moved plus minus start h cs m k =
-    by-eq (h .chars) 0 (λ e. simp (eq-eqb _ _ e)) (λ d.
-    let some : (start + size (take (h .chars) cs) ≡ 0 → ⊥) = λ z. let w = size-within (h .chars) [] cs k (omega arith) in omega arith in
-    simp (ne-eqb _ _ d, ne-eqb _ _ some) (rw (later plus minus start (size (take (h .chars) cs)) m)))
-
-pub entry-moved : (plus minus start : ℕ) (h : Held) (cs : List ℕ) (l : Line) → minus ≤ start → h .chars ≤ length cs
-    → entryAt (start + plus - minus) h cs l ≡ movedBy plus minus (entryAt start h cs l)
-unfolding entryAt movedBy
-entry-moved plus minus start h cs l m k =
-    rw (later plus minus start (l .reach) m, rest-moved plus minus start h cs m k)
-
-ended-moved : (plus minus : ℕ) (e : LineEnd) (xs ys : List Row) → map entryOfRow xs ≡ map (movedBy plus minus) (map entryOfRow ys)
-    → map entryOfRow (unlessEnded e xs) ≡ map (movedBy plus minus) (map entryOfRow (unlessEnded e ys))
-unfolding unlessEnded
-ended-moved plus minus NewLine xs ys h = h
-ended-moved plus minus CarriageReturn xs ys h = h
-ended-moved plus minus EndOfText xs ys h = refl
-ended-moved plus minus LineBreak xs ys h = h
-
--- What a line holds lies in the text after it, and counts no more spaces than it has characters.
-module _
-    (heldFine : (s : Settings) (h : Held) (cs : List ℕ) → h .chars ≤ length cs → h .count ≤ h .chars
-    → layLine s h cs .held .chars ≤ length (drop (layLine s h cs .chars) cs))
-    (countFine : (s : Settings) (h : Held) (cs : List ℕ) → h .chars ≤ length cs → h .count ≤ h .chars
-    → layLine s h cs .held .count ≤ layLine s h cs .held .chars)
-  where
-    pub rows-moved : (n plus minus : ℕ) (s : Settings) (start : ℕ) (h : Held) (cs : List ℕ)
-        → minus ≤ start → h .chars ≤ length cs → h .count ≤ h .chars
-        → map entryOfRow (rowsBy n s (start + plus - minus) h cs) ≡ map (movedBy plus minus) (map entryOfRow (rowsBy n s start h cs))
-    unfolding rowsBy rowAt
-    rows-moved zero plus minus s start h cs m k c = refl
-    rows-moved (suc n) plus minus s start h cs m k c =
-        let l = layLine s h cs in
-        let next = start + size (take (l .chars) cs) in
-        let from : ℕ → List Row = λ at. rowsBy n s at (l .held) (drop (l .chars) cs) in
-        let more = rows-moved n plus minus s next (l .held) (drop (l .chars) cs) (omega arith) (heldFine s h cs k c) (countFine s h cs k c) in
-        rw (later plus minus start (size (take (l .chars) cs)) m)
-        (λ i. entry-moved plus minus start h cs l m k i ∷ ended-moved plus minus (l .ended) (from (next + plus - minus)) (from next) more i)
+  pub rows-moved : (n : ℕ) (s : Settings) (start : ℕ) (h : Held) (cs : List ℕ)
+      → ed .to .0 - ed .from .0 ≤ start → h .chars ≤ length cs → h .count ≤ h .chars
+      → map entryOfRow (rowsBy n s (moved ed start) h cs) ≡ map (movedEntry ed) (map entryOfRow (rowsBy n s start h cs))
+  unfolding rowsBy rowAt
+  rows-moved zero s start h cs m k c = refl
+  rows-moved (suc n) s start h cs m k c =
+      let l = layLine s h cs in
+      let next = start + size (take (l .chars) cs) in
+      let from : ℕ → List Row = λ at. rowsBy n s at (l .held) (drop (l .chars) cs) in
+      let more =
+      unless-both (λ xs ys. map entryOfRow xs ≡ map (movedEntry ed) (map entryOfRow ys)) (l .ended)
+      (from (moved ed next)) (from next) (λ _. refl)
+      (λ d. rows-moved n s next (l .held) (drop (l .chars) cs) (omega arith) (line-rest s h cs k c) (line-held s h cs k c)) in
+      rw (later start (size (take (l .chars) cs)) m) (λ i. entry-moved start h cs l m k i ∷ more i)

@@ -60,6 +60,9 @@ editExamples =
     ∷ example (box 18) "abc   d" 4 4 " " (Line 0) (Lines 3 3)
     ((0 ∷ 0 ∷ 0 ∷ 3 ∷ 0 ∷ 6 ∷ 0 ∷ 18 ∷ 0 ∷ 8 ∷ []) ∷ (4 ∷ 7 ∷ 3 ∷ 3 ∷ 0 ∷ 6 ∷ 0 ∷ 0 ∷ 1 ∷ 9 ∷ [])
     ∷ (8 ∷ 0 ∷ 0 ∷ 2 ∷ 0 ∷ 6 ∷ 0 ∷ 0 ∷ 0 ∷ 9 ∷ []) ∷ [])
+    -- and so is one that has no rest where the old line had one: a line feed in place of the first space
+    ∷ example (box 18) "abc   d" 3 4 "\n" (Line 0) (Lines 2 2)
+    ((0 ∷ 0 ∷ 0 ∷ 0 ∷ 0 ∷ 6 ∷ 0 ∷ 18 ∷ 0 ∷ 4 ∷ []) ∷ (4 ∷ 0 ∷ 0 ∷ 2 ∷ 0 ∷ 6 ∷ 0 ∷ 18 ∷ 0 ∷ 8 ∷ []) ∷ [])
     -- all of a text replaced, and a text emptied
     ∷ example (box 30) "ab" 0 2 "c d" (Line 0) (Lines 1 1) ((0 ∷ 0 ∷ 0 ∷ 2 ∷ 0 ∷ 6 ∷ 0 ∷ 18 ∷ 0 ∷ 4 ∷ []) ∷ [])
     ∷ example (box 30) "ab cde" 0 6 "" (Line 0) (Lines 1 1) ((0 ∷ 0 ∷ 0 ∷ 2 ∷ 0 ∷ 6 ∷ 0 ∷ 0 ∷ 0 ∷ 1 ∷ []) ∷ [])

@@ -1,0 +1,49 @@
+-- What holds of the line that ends a text, and of a line if it holds of those after it, holds of all lines of a text.
+-- Assumes nothing.
+use Prim.Native.Nat.{ℕ, zero, suc, _+_, _≤_, _<_}
+use mathlib.Core.Path.{_≡_, refl}
+use mathlib.Core.List.{List, [], _∷_}
+use native.Mathlib.Omega.{arith}
+use lib.ListN.{length, take, drop, length-drop}
+use Rattle.unicode.specs.Encoding.{size}
+use Rattle.meaning.specs.LineIter.{Held}
+use Rattle.meaning.specs.Line.{layLine}
+use Rattle.meaning.specs.Layout.{Row, rowAt, unlessEnded, rowsBy}
+use Rattle.meaning.specs.declared.settings.Settings.{Settings}
+use Rattle.meaning.specs.declared.line.LineEnd.{LineEnd}
+use Rattle.meaning.specs.declared.line.LineEnd.the-variants.{NewLine, CarriageReturn, EndOfText, LineBreak}
+use Rattle.laws.specs.LineBounds.{line-chars, line-held, line-rest, line-takes}
+
+-- What follows a line: nothing after the text's end, and elsewhere the lines after it.
+pub unless-cases {ℓ} : (P : List Row → Type ℓ) (e : LineEnd) (rs : List Row) → (e ≡ EndOfText → P []) → ((e ≡ EndOfText → ⊥) → P rs)
+    → P (unlessEnded e rs)
+unfolding unlessEnded
+unless-cases P EndOfText rs f g = f refl
+unless-cases P NewLine rs f g = g (λ e. let z : _≡_ {A = ℕ} 0 1 = cc in omega arith)
+unless-cases P CarriageReturn rs f g = g (λ e. let z : _≡_ {A = ℕ} 0 1 = cc in omega arith)
+unless-cases P LineBreak rs f g = g (λ e. let z : _≡_ {A = ℕ} 0 1 = cc in omega arith)
+
+-- What is held before a line fits its text.
+abbrev pub FitsIn : List ℕ → Held → Type 0
+FitsIn cs h = (h .chars ≤ length cs) × (h .count ≤ h .chars)
+
+module _ {ℓ} (s : Settings) (P : ℕ → Held → List ℕ → List Row → Type ℓ)
+    (last : (start : ℕ) (h : Held) (cs : List ℕ) → FitsIn cs h → layLine s h cs .ended ≡ EndOfText → P start h cs (rowAt start h cs (layLine s h cs) ∷ []))
+    (more : (start : ℕ) (h : Held) (cs : List ℕ) → FitsIn cs h → (layLine s h cs .ended ≡ EndOfText → ⊥) → (r : Row) (rs : List Row)
+    → P (start + size (take (layLine s h cs .chars) cs)) (layLine s h cs .held) (drop (layLine s h cs .chars) cs) (r ∷ rs)
+    → P start h cs (rowAt start h cs (layLine s h cs) ∷ r ∷ rs)) where
+  pub each-row : (n start : ℕ) (h : Held) (cs : List ℕ) → length cs < n → FitsIn cs h → P start h cs (rowsBy n s start h cs)
+  unfolding rowsBy
+  each-row zero start h cs m f = absurd (omega arith)
+  each-row (suc zero) start h cs m f =
+      let l = layLine s h cs in
+      unless-cases (λ qs. P start h cs (rowAt start h cs l ∷ qs)) (l .ended) [] (last start h cs f)
+      (λ d. absurd (omega (arith, line-takes s h cs (f .0) (f .1) d, line-chars s h cs (f .0) (f .1))))
+  each-row (suc (suc n)) start h cs m f =
+      let l = layLine s h cs in
+      let next = start + size (take (l .chars) cs) in
+      let rest = drop (l .chars) cs in
+      unless-cases (λ qs. P start h cs (rowAt start h cs l ∷ qs)) (l .ended) (rowsBy (suc n) s next (l .held) rest) (last start h cs f)
+      (λ d.
+      let fewer : length rest < suc n = rw length-drop (omega (arith, line-takes s h cs (f .0) (f .1) d, line-chars s h cs (f .0) (f .1))) in
+      more start h cs f d _ _ (each-row (suc n) next (l .held) rest fewer (line-rest s h cs (f .0) (f .1), line-held s h cs (f .0) (f .1))))

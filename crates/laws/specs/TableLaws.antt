@@ -1,0 +1,125 @@
+-- Tables as they are written and as they are read: the numbers of entries give back the entries, the entries give back the
+-- numbers, and what is written to a buffer leaves the rest of it as it was.
+-- Assumes nothing.
+use Prim.Native.Nat.{ℕ, zero, suc, _+_, _*_, _≤_, _<_}
+use mathlib.Core.Path.{_≡_, refl, sym, ap, _∙_}
+use mathlib.Core.Logic.{_↔_}
+use mathlib.Core.List.{List, [], _∷_, _++_, append-assoc}
+use native.Mathlib.Nat.{mul-zero, mul-suc, mul-comm, le-div-iff-mul-le}
+use native.Mathlib.Omega.{arith}
+use lib.ListN.{length, getD, take, drop, length-append, length-drop}
+use lib.Seq.{take-at, drop-at, drop-append-seam, take-append-seam, take-add}
+use Rattle.meaning.specs.Table.{entryNumbers, ofEntry, ofEvent, ofToken, ofAll, capacityOf, written, entryIn, entriesIn}
+use Rattle.meaning.specs.declared.line.Entry.{Entry}
+use Rattle.meaning.specs.declared.line.Event.{Event}
+use Rattle.meaning.specs.declared.tokens.Token.{Token}
+
+-- ---- how many numbers there are
+
+pub entry-numbers : (e : Entry) → length (ofEntry e) ≡ 10
+unfolding ofEntry
+entry-numbers e = refl
+
+pub event-numbers : (e : Event) → length (ofEvent e) ≡ 6
+unfolding ofEvent
+event-numbers e = refl
+
+pub token-numbers : (t : Token) → length (ofToken t) ≡ 4
+unfolding ofToken
+token-numbers t = refl
+
+-- Where each has n numbers, all have n times as many as they are.
+pub all-numbers {ℓ} : {X : Type ℓ} (f : X → List ℕ) (n : ℕ) → ((x : X) → length (f x) ≡ n) → (xs : List X)
+    → length (ofAll f xs) ≡ n * length xs
+unfolding ofAll
+all-numbers f n h [] = sym (mul-zero n)
+all-numbers f n h (x ∷ xs) = rw (length-append, mul-suc) (omega (arith, h x, all-numbers f n h xs))
+
+pub entries-numbers : (es : List Entry) → length (ofAll ofEntry es) ≡ 10 * length es
+entries-numbers = all-numbers ofEntry 10 entry-numbers
+
+pub events-numbers : (es : List Event) → length (ofAll ofEvent es) ≡ 6 * length es
+events-numbers = all-numbers ofEvent 6 event-numbers
+
+pub tokens-numbers : (ts : List Token) → length (ofAll ofToken ts) ≡ 4 * length ts
+tokens-numbers = all-numbers ofToken 4 token-numbers
+
+-- A buffer holds k of n numbers each exactly if it is at least so long.
+pub capacity-is : (n k : ℕ) (t : List ℕ) → 0 < n → (k ≤ capacityOf n t) ↔ (n * k ≤ length t)
+unfolding capacityOf
+capacity-is n k t h = rw (mul-comm n k) (le-div-iff-mul-le h)
+
+-- The numbers of one list after another.
+pub all-append {ℓ} : {X : Type ℓ} (f : X → List ℕ) (xs ys : List X) → ofAll f (xs ++ ys) ≡ ofAll f xs ++ ofAll f ys
+unfolding ofAll
+all-append f [] ys = refl
+all-append f (x ∷ xs) ys = rw (append-assoc, all-append f xs ys)
+
+-- ---- from entries to numbers and back
+
+pub entry-read : (e : Entry) (t : List ℕ) → entryIn (ofEntry e ++ t) ≡ e
+unfolding entryIn ofEntry
+entry-read e t = refl
+
+pub entries-read : (es : List Entry) (t : List ℕ) → entriesIn (length es) (ofAll ofEntry es ++ t) ≡ es
+unfolding entriesIn ofAll
+entries-read [] t = refl
+entries-read (e ∷ es) t =
+    let more = ofAll ofEntry es ++ t in
+    rw (append-assoc, entry-read e more, drop-at (ofEntry e) more 10 (entry-numbers e), entries-read es t)
+
+pub entries-length : (n : ℕ) (t : List ℕ) → length (entriesIn n t) ≡ n
+unfolding entriesIn
+entries-length zero t = refl
+entries-length (suc n) t = ap suc (entries-length n (drop entryNumbers t))
+
+-- The values at the first n numbers.
+abbrev values : ℕ → (ℕ → ℕ) → List ℕ
+values zero f = []
+values (suc n) f = f 0 ∷ values n (λ i. f (suc i))
+
+values-are : (n : ℕ) (t : List ℕ) → n ≤ length t → values n (λ i. getD t i 0) ≡ take n t
+values-are zero t h = refl
+values-are (suc n) [] h = absurd (omega arith)
+values-are (suc n) (x ∷ t) h = ap (λ (l : List ℕ). x ∷ l) (values-are n t (omega arith))
+
+pub numbers-read : (t : List ℕ) → 10 ≤ length t → ofEntry (entryIn t) ≡ take 10 t
+unfolding ofEntry entryIn
+numbers-read t h = values-are 10 t h
+
+pub all-numbers-read : (n : ℕ) (t : List ℕ) → 10 * n ≤ length t → ofAll ofEntry (entriesIn n t) ≡ take (10 * n) t
+unfolding ofAll entriesIn
+all-numbers-read zero t h = refl
+all-numbers-read (suc n) t h =
+    let e : 10 * suc n ≡ 10 + 10 * n = omega arith in
+    rw (e, take-add 10 (10 * n) t, numbers-read t (omega arith), all-numbers-read n (drop 10 t) (omega (arith, length-drop 10 t)))
+
+-- ---- a buffer that was written to
+
+module _ (t xs : List ℕ) where
+  pub written-length : length xs ≤ length t → length (written t xs) ≡ length t
+  unfolding written
+  written-length h = rw (length-append, length-drop) (omega arith)
+
+  -- Its front is what was written, and past that it is as it was.
+  pub written-front : take (length xs) (written t xs) ≡ xs
+  unfolding written
+  written-front = take-append-seam xs (drop (length xs) t)
+
+  pub written-past : drop (length xs) (written t xs) ≡ drop (length xs) t
+  unfolding written
+  written-past = drop-append-seam xs (drop (length xs) t)
+
+pub entries-written : (es : List Entry) (t : List ℕ) → entriesIn (length es) (written t (ofAll ofEntry es)) ≡ es
+unfolding written
+entries-written es t = entries-read es (drop (length (ofAll ofEntry es)) t)
+
+-- Entries that the table already holds at its front are written over by themselves.
+pub prefix-kept : (xs ys : List Entry) (t : List ℕ) → entriesIn (length xs) t ≡ xs → 10 * length xs ≤ length t
+    → take (10 * length xs) (written t (ofAll ofEntry (xs ++ ys))) ≡ take (10 * length xs) t
+unfolding written
+prefix-kept xs ys t e h =
+    rw (all-append ofEntry xs ys, append-assoc)
+    (take-at (ofAll ofEntry xs) _ (10 * length xs) (entries-numbers xs)
+    ∙ sym (ap (ofAll ofEntry) e)
+    ∙ all-numbers-read (length xs) t h)

@@ -1,0 +1,213 @@
+-- L2: the layout of a text is a well formed table of it.
+-- Assumes nothing.
+use Prim.Native.Nat.{ℕ, suc, _+_, _-_, _≤_, _<_}
+use mathlib.Core.Path.{_≡_, refl, _∙_}
+use mathlib.Core.Bool.{Bool, true, false, _&&_}
+use mathlib.Core.List.{List, [], _∷_, map}
+use native.Mathlib.Nat.{zero-add}
+use native.Mathlib.Omega.{arith}
+use borrow.Author.Tests.{lt-ltb, le-leb, eq-eqb, ne-eqb, ltb-true, eqb-true}
+use lib.Dec.{leb, ltb}
+use lib.ListN.{length, take, drop, take-append-drop}
+use lib.Seq.{take-add}
+use Rattle.basis.specs.Choice.{pick, pick-true, and-true}
+use Rattle.basis.specs.Order.{by-eq, within-is}
+use Rattle.unicode.specs.Encoding.{size}
+use Rattle.unicode.specs.Sizes.{size-append}
+use Rattle.meaning.specs.LineIter.{Held, nothingHeld}
+use Rattle.meaning.specs.Line.{Line, layLine, endNumber, restOf, entryAt}
+use Rattle.meaning.specs.Layout.{Row, rowAt, rowsBy, rows, entryOfRow, layout}
+use Rattle.meaning.specs.WellFormed.{lastReach, textLength, Before, nothing, line, startGood, noRest, restGood, endingGood, entryGood, checkLines, checkEntries}
+use Rattle.meaning.specs.declared.settings.Settings.{Settings}
+use Rattle.meaning.specs.declared.line.LineEnd.{LineEnd}
+use Rattle.meaning.specs.declared.line.LineEnd.the-variants.{NewLine, CarriageReturn, EndOfText, LineBreak}
+use Rattle.meaning.specs.declared.line.Entry.{Entry}
+use Rattle.meaning.specs.declared.refusals.Refusal.{Refusal}
+use Rattle.meaning.specs.declared.refusals.Refusal.the-variants.{BadLine}
+use Rattle.meaning.specs.declared.refusals.Checked.{Checked}
+use Rattle.meaning.specs.declared.refusals.Checked.the-variants.{Good, Refused}
+use Rattle.laws.specs.Suffixes.{take-size}
+use Rattle.laws.specs.PassBounds.{size-take}
+use Rattle.laws.specs.LineBounds.{line-chars, line-takes, line-reach-low, line-reach-high, line-end}
+use Rattle.laws.specs.RowInduction.{FitsIn, each-row}
+
+-- ---- one line
+
+-- Where a line starts and what is held before it, given the line before: past that line's start, and within its reach.
+abbrev Follows : Before → (start : ℕ) → Held → List ℕ → Type 0
+Follows nothing start h cs = (start ≡ 0) × (h .chars ≡ 0)
+Follows (line from reach) start h cs = (from < start) × (start + size (take (h .chars) cs) ≤ reach)
+
+two-parts : (j k : ℕ) (cs : List ℕ) → size (take (j + k) cs) ≡ size (take j cs) + size (take k (drop j cs))
+two-parts j k cs = rw take-add (size-append (take j cs) (take k (drop j cs)))
+
+module _ (start : ℕ) (h : Held) (cs : List ℕ) (l : Line) where
+  start-good : (b : Before) → Follows b start h cs → startGood (start + size cs) b (entryAt start h cs l) ≡ true
+  unfolding startGood entryAt
+  start-good nothing p = eq-eqb start 0 (p .0)
+  start-good (line from reach) p =
+      simp (lt-ltb from start (p .0), le-leb start reach (omega arith), le-leb start (start + size cs) (omega arith))
+
+  rest-good : (b : Before) → FitsIn cs h → Follows b start h cs → restGood (start + size cs) b (entryAt start h cs l) ≡ true
+  unfolding restGood noRest entryAt restOf pick
+  rest-good nothing f p = simp (eq-eqb (h .chars) 0 (p .1))
+  rest-good (line from reach) f p =
+      by-eq (h .chars) 0 (λ e. simp (eq-eqb (h .chars) 0 e))
+      λ n.
+      let z = size (take (h .chars) cs) in
+      let t = take-size (h .chars) cs (f .0) in
+      let u = size-take (h .chars) cs in
+      simp (
+        ne-eqb (h .chars) 0 n,
+        ne-eqb (start + z) 0 (λ e. n (omega arith)),
+        lt-ltb start (start + z) (omega arith),
+        le-leb (start + z) (start + size cs) (omega arith),
+        le-leb (start + z) reach (p .1),
+        le-leb (h .count) (start + z - start) (omega arith),
+      )
+
+  entry-good : (b : Before) (more : List Entry) → FitsIn cs h → Follows b start h cs → endingGood more (endNumber (l .ended)) ≡ true
+      → l .reach ≤ size cs + 1 → entryGood (start + size cs) b (entryAt start h cs l) more ≡ true
+  unfolding entryGood entryAt
+  entry-good b more f p q r =
+      simp (start-good b p, rest-good b f p, q, le-leb (start + l .reach) (suc (start + size cs)) (omega arith))
+
+ending-last : (e : LineEnd) → e ≡ EndOfText → endingGood [] (endNumber e) ≡ true
+unfolding endingGood
+ending-last e p = rw p
+
+ending-more : (e : LineEnd) (x : Entry) (es : List Entry) → (e ≡ EndOfText → ⊥) → endingGood (x ∷ es) (endNumber e) ≡ true
+unfolding endingGood
+ending-more EndOfText x es d = absurd (d refl)
+ending-more NewLine x es d = refl
+ending-more CarriageReturn x es d = refl
+ending-more LineBreak x es d = refl
+
+-- ---- all lines
+
+-- The lines from anywhere on are good, wherever they are numbered from and whatever line they follow.
+abbrev LinesGood : ℕ → Held → List ℕ → List Row → Type 0
+LinesGood start h cs rs = (k : ℕ) (b : Before) → Follows b start h cs → checkLines (start + size cs) k b (map entryOfRow rs) ≡ Good
+
+abbrev Reaches : ℕ → Held → List ℕ → List Row → Type 0
+Reaches start h cs rs = lastReach (map entryOfRow rs) ≡ start + size cs + 1
+
+module _ (s : Settings) where
+  module _ (start : ℕ) (h : Held) (cs : List ℕ) (f : FitsIn cs h) where
+    abbrev laid : Line
+    laid = layLine s h cs
+
+    abbrev next : ℕ
+    next = start + size (take (laid .chars) cs)
+
+    abbrev rest : List ℕ
+    rest = drop (laid .chars) cs
+
+    next-size : next + size rest ≡ start + size cs
+    next-size = omega (arith, rw take-append-drop at (size-append (take (laid .chars) cs) rest))
+
+    next-follows : (laid .ended ≡ EndOfText → ⊥) → Follows (line start (start + laid .reach)) next (laid .held) rest
+    next-follows d =
+        let within = line-chars s h cs (f .0) (f .1) in (
+          omega (arith, line-takes s h cs (f .0) (f .1) d, take-size (laid .chars) cs (omega arith)),
+          omega (arith, line-reach-low s h cs (f .0) (f .1), two-parts (laid .chars) (laid .held .chars) cs),
+        )
+
+    last-good : laid .ended ≡ EndOfText → LinesGood start h cs (rowAt start h cs laid ∷ [])
+    unfolding rowAt checkLines
+    last-good e k b p =
+        pick-true _ _ _ (entry-good start h cs laid b [] f p (ending-last (laid .ended) e) (line-reach-high s h cs (f .0) (f .1)))
+
+    more-good : (laid .ended ≡ EndOfText → ⊥) → (r : Row) (rs : List Row) → LinesGood next (laid .held) rest (r ∷ rs)
+        → LinesGood start h cs (rowAt start h cs laid ∷ r ∷ rs)
+    unfolding rowAt entryAt checkLines
+    more-good d r rs more k b p =
+        pick-true _ _ _
+        (entry-good start h cs laid b (map entryOfRow (r ∷ rs)) f p (ending-more (laid .ended) (r .entry) (map entryOfRow rs) d)
+        (line-reach-high s h cs (f .0) (f .1)))
+        ∙ rw next-size at (more (suc k) (line start (start + laid .reach)) (next-follows d))
+
+    last-reaches : laid .ended ≡ EndOfText → Reaches start h cs (rowAt start h cs laid ∷ [])
+    unfolding rowAt entryAt lastReach
+    last-reaches e = omega (arith, line-end s h cs (f .0) (f .1) e)
+
+    more-reaches : (laid .ended ≡ EndOfText → ⊥) → (r : Row) (rs : List Row) → Reaches next (laid .held) rest (r ∷ rs)
+        → Reaches start h cs (rowAt start h cs laid ∷ r ∷ rs)
+    unfolding lastReach
+    more-reaches d r rs more = more ∙ omega (arith, next-size)
+
+  module _ (cs : List ℕ) where
+    -- The last line meets the text's end, and the text's length can be read off it.
+    pub layout-reach : lastReach (layout s cs) ≡ size cs + 1
+    unfolding layout rows
+    layout-reach =
+        rw zero-add at (each-row s Reaches last-reaches more-reaches (suc (length cs)) 0 nothingHeld cs (omega arith) (omega arith, omega arith))
+
+    pub layout-length : textLength (layout s cs) ≡ size cs
+    unfolding textLength
+    layout-length = omega (arith, layout-reach)
+
+    -- Every line is good, wherever lines are numbered from.
+    pub layout-lines : (k : ℕ) → checkLines (size cs) k nothing (layout s cs) ≡ Good
+    unfolding layout rows
+    layout-lines k =
+        rw zero-add at
+        (each-row s LinesGood last-good more-good (suc (length cs)) 0 nothingHeld cs (omega arith) (omega arith, omega arith) k nothing (refl, refl))
+
+    pub layout-good : size cs ≤ 65535 → checkEntries (layout s cs) ≡ Good
+    unfolding checkEntries
+    layout-good h =
+        pick-true _ _ _ (within-is 1 65536 (lastReach (layout s cs)) (omega (arith, layout-reach)) (omega (arith, layout-reach)))
+        ∙ rw layout-length (layout-lines 0)
+
+    pub layout-some : 1 ≤ length (layout s cs)
+    unfolding layout rows rowsBy
+    layout-some = omega arith
+
+-- ---- what the check says of starts
+
+good-both : (t : Bool) (c : Checked) (r : Refusal) → pick t c (Refused r) ≡ Good → (t ≡ true) × (c ≡ Good)
+unfolding pick
+good-both true c r e = (refl, e)
+good-both false c r e = absurd (let z : _≡_ {A = ℕ} 0 1 = cc in omega arith)
+
+good-first : (n k : ℕ) (b : Before) (e : Entry) (es : List Entry) → checkLines n k b (e ∷ es) ≡ Good
+    → (startGood n b e ≡ true) × (checkLines n (suc k) (line (e .start .0) (e .reach .0)) es ≡ Good)
+unfolding checkLines entryGood
+good-first n k b e es h =
+    let more = checkLines n (suc k) (line (e .start .0) (e .reach .0)) es in
+    let g = good-both (entryGood n b e es) more (BadLine k) h in
+    let p = startGood n b e in
+    let q = restGood n b e in
+    let r = endingGood es (e .ending) in
+    (and-true p q (and-true (p && q) r (and-true (p && q && r) (leb (e .reach .0) (suc n)) (g .0) .0) .0) .0, g .1)
+
+-- Each line starts past the start of the line before it.
+abbrev pub Rising : List Entry → Type 0
+Rising [] = Unit {0}
+Rising (e ∷ []) = Unit {0}
+Rising (e ∷ f ∷ es) = (e .start .0 < f .start .0) × Rising (f ∷ es)
+
+pub lines-rise : (n k : ℕ) (b : Before) (es : List Entry) → checkLines n k b es ≡ Good → Rising es
+unfolding startGood
+lines-rise n k b [] h = tt
+lines-rise n k b (e ∷ []) h = tt
+lines-rise n k b (e ∷ f ∷ es) h =
+    let more = good-first n k b e (f ∷ es) h .1 in
+    let g = good-first n (suc k) (line (e .start .0) (e .reach .0)) f es more .0 in
+    let p = ltb (e .start .0) (f .start .0) in
+    let q = leb (f .start .0) (e .reach .0) in (
+      ltb-true (e .start .0) (f .start .0) (and-true p q (and-true (p && q) (leb (f .start .0) n) g .0) .0),
+      lines-rise n (suc k) (line (e .start .0) (e .reach .0)) (f ∷ es) more,
+    )
+
+pub lines-start : (n k : ℕ) (e : Entry) (es : List Entry) → checkLines n k nothing (e ∷ es) ≡ Good → e .start .0 ≡ 0
+unfolding startGood
+lines-start n k e es h = eqb-true (e .start .0) 0 (good-first n k nothing e es h .0)
+
+module _ (s : Settings) (cs : List ℕ) where
+  pub layout-rises : Rising (layout s cs)
+  layout-rises = lines-rise (size cs) 0 nothing (layout s cs) (layout-lines s cs 0)
+
+  pub first-start : (e : Entry) (es : List Entry) → layout s cs ≡ e ∷ es → e .start .0 ≡ 0
+  first-start e es p = lines-start (size cs) 0 e es (rw p at (layout-lines s cs 0))
