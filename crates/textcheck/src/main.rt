@@ -13,6 +13,9 @@ use unicode::text::count_chars;
 ghost use Prim.Native.Nat.{_≤_};
 ghost use lib.ListN.{length};
 
+// The refusal whose value this program has to count.
+const TEXT_TOO_LONG: u32 = 3;
+
 fn say_good(bytes: usize, characters: usize) {
     io::write_all(STDOUT_FILENO, b"good: ");
     io::print_decimal(STDOUT_FILENO, bytes as u64);
@@ -54,7 +57,7 @@ fn say(text: &[u8])
         say_good(text.len(), count_chars(text));
         return;
     }
-    if number == 3 {
+    if number == TEXT_TOO_LONG {
         say_too_long(number, text.len());
         return;
     }

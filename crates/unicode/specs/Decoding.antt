@@ -43,7 +43,7 @@ unfoldable pub decodeHead : List ℕ → Decoded
 decodeHead [] = End
 decodeHead (a ∷ s) = charOf (take (seqLen a) (a ∷ s))
 
--- What stands at a position of a text.
+-- What stands at a position of a text (Tables 3-6 and 3-7).
 unfoldable pub decodeAt : List ℕ → ℕ → Decoded
 decodeAt t i = decodeHead (drop i t)
 
@@ -53,7 +53,7 @@ onChar (Char c n) f = f c n
 onChar Bad f = []
 onChar End f = []
 
--- The characters that follow one another once k bytes are passed.
+-- The characters that follow one another once k bytes are passed: after each, the rest of its bytes are (Table 3-6).
 unfoldable pub decodeAfter : ℕ → List ℕ → List ℕ
 decodeAfter k [] = []
 decodeAfter zero (a ∷ s) = onChar (decodeHead (a ∷ s)) (λ c n. c ∷ decodeAfter (pred n) s)

@@ -10,6 +10,7 @@ pub record Range : Type 0 where
   pub lo : ℕ
   pub hi : ℕ
 
+-- A field as the table writes it, 80..BF.
 infix 40 _to_
 abbrev pub _to_ : ℕ → ℕ → Range
 a to b = record { lo = a; hi = b }
