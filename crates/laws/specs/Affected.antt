@@ -4,6 +4,7 @@ use Prim.Native.Nat.{ℕ, zero, suc, _+_, _≤_, _<_}
 use native.Mathlib.Nat.{not-suc-le-zero}
 use native.Mathlib.Omega.{arith}
 use mathlib.Core.Path.{_≡_, refl, sym, ap, _∙_}
+use mathlib.Core.Bool.{true}
 use mathlib.Core.List.{List, [], _∷_, _++_, map, append-assoc}
 use lib.Dec.{leb}
 use lib.ListN.{length, take, drop, length-append, length-drop, take-append-drop}
@@ -16,13 +17,13 @@ use Rattle.unicode.specs.Sizes.{size-append}
 use Rattle.meaning.specs.LineIter.{Held, nothingHeld}
 use Rattle.meaning.specs.Line.{layLine, entryAt}
 use Rattle.meaning.specs.Layout.{Row, rowAt, unlessEnded, rowsBy, rows, layout, entryOfRow}
-use Rattle.meaning.specs.Edit.{unaffected, affected, heldOf}
+use Rattle.meaning.specs.Edit.{unaffected, affected, restFits, heldOf}
 use Rattle.meaning.specs.declared.settings.Settings.{Settings}
 use Rattle.meaning.specs.declared.line.LineEnd.the-variants.{EndOfText}
 use Rattle.meaning.specs.declared.line.Entry.{Entry}
 use Rattle.laws.specs.LineLocal.{take-local, size-within, lay-local, row-local}
 use Rattle.laws.specs.LineBounds.{line-chars, line-held, line-takes, line-reach-low, line-end}
-use Rattle.laws.specs.Rests.{held-of}
+use Rattle.laws.specs.Rests.{held-of, rest-fits}
 use Rattle.laws.specs.Stands.{Stand, first-stand, stand-on, stand-size, unless-both}
 
 -- The lines before the first affected one, and those from it on, are all.
@@ -50,6 +51,7 @@ module _ (s : Settings) (pre x y : List ℕ) where
     pub found : affected (size pre) old ≡ entry ∷ more
     pub before : entry .start .0 ≤ size pre
     pub stands : Stand (pre ++ y) (entry .start .0) (heldOf entry part) part
+    pub fits : restFits entry part ≡ true
     pub enough : length part < fuel
     pub new-is : new ≡ unaffected (size pre) old ++ map entryOfRow (rowsBy fuel s (entry .start .0) (heldOf entry part) part)
 
@@ -65,6 +67,7 @@ module _ (s : Settings) (pre x y : List ℕ) where
         found = rw (le-leb _ _ b) (f .found);
         before = f .before;
         stands = f .stands;
+        fits = f .fits;
         enough = f .enough;
         new-is = rw (le-leb _ _ b) (ap (_∷_ e) (f .new-is));
       }
@@ -93,6 +96,7 @@ module _ (s : Settings) (pre x y : List ℕ) where
           found = rw (lt-leb _ _ b);
           before = omega (arith, ap size (at .is), size-append (at .front) p);
           stands = rw e (stand-on pre start h p y at);
+          fits = rest-fits start h p x y l (at .chars) (at .count);
           enough = c;
           new-is = rw (lt-leb _ _ b, e);
         }

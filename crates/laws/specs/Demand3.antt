@@ -88,7 +88,7 @@ module _ (s : Settings) (ed : Edit) (pre mid ins post : List ℕ) (r : Replaces 
       }
 
   -- The lent part is what the first affected line starts.
-  part-is : (part : List ℕ) → Lent ed (layout s (pre ++ (mid ++ post))) (pre ++ (ins ++ post)) part
+  pub part-is : (part : List ℕ) → Lent ed (layout s (pre ++ (mid ++ post))) (pre ++ (ins ++ post)) part
       → part ≡ layout-first s pre (mid ++ post) (ins ++ post) .part
   part-is part k =
       let f = layout-first s pre (mid ++ post) (ins ++ post) in

@@ -3,7 +3,7 @@
 use Prim.Native.Nat.{ℕ, _+_, _≤_}
 use mathlib.Core.Path.{_≡_, refl}
 use mathlib.Core.Bool.{Bool, true}
-use mathlib.Core.List.{List, [], _∷_}
+use mathlib.Core.List.{List, [], _∷_, _++_}
 use native.Mathlib.Nat.{add-assoc}
 use native.Mathlib.Omega.{arith}
 use lib.ListN.{length, take, drop, length-append, take-append-drop}
@@ -25,7 +25,7 @@ pub size-take : (k : ℕ) (cs : List ℕ) → size (take k cs) ≤ size cs
 size-take k cs = omega (arith, rw take-append-drop at (size-append (take k cs) (drop k cs)))
 
 -- The text of a token, and of those after it.
-spell-length : (t : Tok) (ts : List Tok) → length (spell (t ∷ ts)) ≡ charsOf t + length (spell ts)
+pub spell-length : (t : Tok) (ts : List Tok) → length (spell (t ∷ ts)) ≡ charsOf t + length (spell ts)
 unfolding spell
 spell-length t ts = rw (chars-text t) (length-append (textOf t) (spell ts))
 
@@ -34,10 +34,13 @@ unfolding spell
 part-size k t ts h =
     rw (take-append-le k (textOf t) (spell ts) (omega (arith, chars-text t)), size-text t) (size-take k (textOf t))
 
+-- A token and k characters after it.
+pub whole-text : (k : ℕ) (t : Tok) (cs : List ℕ) → size (take (charsOf t + k) (textOf t ++ cs)) ≡ sizeOf t + size (take k cs)
+whole-text k t cs = rw (chars-text t, size-text t, take-append-add (textOf t) cs k) (size-append (textOf t) (take k cs))
+
 whole-size : (k : ℕ) (t : Tok) (ts : List Tok) → size (take (charsOf t + k) (spell (t ∷ ts))) ≡ sizeOf t + size (take k (spell ts))
 unfolding spell
-whole-size k t ts =
-    rw (chars-text t, size-text t, take-append-add (textOf t) (spell ts) k) (size-append (textOf t) (take k (spell ts)))
+whole-size k t ts = whole-text k t (spell ts)
 
 -- All of it, of a pass over the text cs from an offset on.
 record Bounds (empty : Bool) (at : ℕ) (cs : List ℕ) (r : Ran) : Type 0 where

@@ -66,12 +66,13 @@ held-after chars count k f g =
     pick-cases (λ (h : Held). (k + h .chars ≤ chars) × (h .count ≤ h .chars)) (eqb (chars - k) 0) (λ _. omega arith)
     (λ _. omega arith)
 
-too-wide : (c : LineCursor) (w : ℕ) → fitsIn c w ≡ false → roomOf c < w
+-- What does not fit is wider than the room.
+pub too-wide : (c : LineCursor) (w : ℕ) → fitsIn c w ≡ false → roomOf c < w
 unfolding fitsIn
 too-wide c w e = leb-false w (roomOf c) e
 
 -- A width of no spaces is 0, and 0 fits.
-some-spaces : (sp : Spaces) (n m : ℕ) → m < spacesWidth sp n → 1 ≤ n
+pub some-spaces : (sp : Spaces) (n m : ℕ) → m < spacesWidth sp n → 1 ≤ n
 unfolding spacesWidth
 some-spaces sp zero m h = omega arith
 some-spaces sp (suc n) m h = omega arith

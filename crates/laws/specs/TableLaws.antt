@@ -73,6 +73,13 @@ unfolding entriesIn
 entries-length zero t = refl
 entries-length (suc n) t = ap suc (entries-length n (drop entryNumbers t))
 
+-- The first entries of some are those that are read at first.
+pub entries-first : (k n : ℕ) (t : List ℕ) → k ≤ n → take k (entriesIn n t) ≡ entriesIn k t
+unfolding entriesIn
+entries-first zero n t h = refl
+entries-first (suc k) zero t h = absurd (omega arith)
+entries-first (suc k) (suc n) t h = ap (_∷_ (entryIn t)) (entries-first k n (drop entryNumbers t) (omega arith))
+
 -- The values at the first n numbers.
 abbrev values : ℕ → (ℕ → ℕ) → List ℕ
 values zero f = []
