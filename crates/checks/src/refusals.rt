@@ -3,7 +3,7 @@ use meaning::refusals::Refusal;
 ghost use mathlib.Core.Path.{_≡_};
 ghost use Rattle.meaning.specs.Refusals.{numberOf, besides, checkedNumber, checkedValue};
 
-fn number(r: Refusal) -> u32
+pub fn number(r: Refusal) -> u32
     ensures { λ n. ⌜ n ≡ numberOf r ⌝ }
 {
     match r {
@@ -18,7 +18,7 @@ fn number(r: Refusal) -> u32
     }
 }
 
-fn value(r: Refusal) -> u64
+pub fn value(r: Refusal) -> u64
     ensures { λ n. ⌜ n ≡ besides r ⌝ }
 {
     match r {

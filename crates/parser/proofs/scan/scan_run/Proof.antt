@@ -1,0 +1,158 @@
+-- `parser::scan::scan_run` meets its contract. The invariant: what is left to scan gives what the whole scan gives.
+-- Assumes nothing.
+use mathlib.Core.Path.{_≡_, refl, sym, ap, _∙_}
+use mathlib.Core.List.{List}
+use Prim.Native.Nat.{ℕ, _+_, _-_, _≤_}
+use native.Mathlib.Omega.{arith}
+use lib.ListN.{length}
+use borrow.Author.Needs.{needs}
+use borrow.Author.Tests.{not-true, not-false}
+use Rattle.unicode.specs.Decoding.{decodeAt}
+use Rattle.unicode.specs.Walk.{isChar}
+use Rattle.unicode.specs.declared.sequence.Decoded.the-variants.{Char}
+use Rattle.meaning.specs.Characters.{inRun}
+use Rattle.parser.specs.Lexing.{charsFrom}
+use Rattle.parser.specs.Scanning.{spaceOf, scanFrom}
+use Rattle.parser.proofs.ScanLaws.{scan-more, scan-stop, scan-end, space-one, char-room}
+use Rattle.parser.proofs.scan.scan_run.Statement.{statement}
+use Rattle.parser.proofs.scan.scan_run.Tie as tie
+
+abbrev Inv-loop : tie.InvT-loop
+Inv-loop text from at₀ chars₀ weight₀ at chars weight =
+    (scanFrom inRun spaceOf at chars weight (charsFrom text at) ≡ scanFrom inRun spaceOf from 1 1 (charsFrom text from))
+    × (at ≤ length text) × (chars ≤ at + 1) × (weight ≤ at + 1)
+
+abbrev μ-loop : tie.MeasureT-loop
+μ-loop text from at₀ chars₀ weight₀ at chars weight = length text - at
+
+loop-holds : tie.Need-loop-holds Inv-loop μ-loop
+loop-holds c = (refl, search needs, search needs, search needs)
+
+decode-requires : tie.Need-decode-requires Inv-loop μ-loop
+decode-requires c κs = search needs
+
+enum-known-cp : tie.Need-enum-known-cp Inv-loop μ-loop
+enum-known-cp c = search needs
+
+in-run-requires : tie.Need-in-run-requires Inv-loop μ-loop
+in-run-requires c κs = search needs
+
+-- In a turn that reads a character: the text, the position, the character, and how many bytes it has.
+abbrev Read : Type 0
+Read = tie.After-known-told Inv-loop μ-loop
+
+abbrev T : Read → List ℕ
+T c = c .before .before .before .before .before .before .args .text .now
+
+abbrev I : Read → ℕ
+I c = c .before .before .before .before .loop .at
+
+abbrev C : Read → ℕ
+C c = c .before .cp .given .0 .0
+
+abbrev N : Read → ℕ
+N c = c .before .cp .given .0 .1 .0
+
+read : (c : Read) → decodeAt (T c) (I c) ≡ Char (C c) (N c)
+read c = sym (c .before .before .before .decode .ensures) ∙ c .before .cp .given .1
+
+room : (c : Read) → (1 ≤ N c) × (N c ≤ 4) × (I c + N c ≤ length (T c))
+room c = char-room (T c) (I c) (C c) (N c) (read c)
+
+ended-requires : tie.Need-ended-requires Inv-loop μ-loop
+ended-requires c κs = omega (arith, room (c .before .before))
+
+returns : tie.Need-returns Inv-loop μ-loop
+returns c =
+    let i = c .before .before in
+    let r = i .before in
+    let l = r .before .before .before .before .loop in
+    c .ended .ensures
+    ∙ sym (scan-stop inRun spaceOf (T r) _ _ _ _ _ (read r) (sym (i .in-run .ensures) ∙ not-true _ (c .before .if1 .taken)))
+    ∙ l .inv .0
+
+space-of-requires : tie.Need-space-of-requires Inv-loop μ-loop
+space-of-requires c κs = search needs
+
+add-weight : tie.Need-add-weight Inv-loop μ-loop
+add-weight c = omega (arith, c .space-of .ensures, space-one (C (c .before .before .before)))
+
+add-chars : tie.Need-add-chars Inv-loop μ-loop
+add-chars c = search needs
+
+cast-at : tie.Need-cast-at Inv-loop μ-loop
+cast-at c = search needs
+
+add-at : tie.Need-add-at Inv-loop μ-loop
+add-at c = omega (arith, room (c .before .before .before))
+
+loop-less : tie.Need-loop-less Inv-loop μ-loop
+loop-less c = omega (arith, room (c .before .before .before))
+
+loop-again : tie.Need-loop-again Inv-loop μ-loop
+loop-again c =
+    let i = c .before .before in
+    let r = i .before in
+    let l = r .before .before .before .before .loop in
+    let h = room r in (
+      ap (λ (w : ℕ). scanFrom inRun spaceOf (l .at + N r) (l .chars + 1) (l .weight + w) (charsFrom (T r) (l .at + N r))) (c .space-of .ensures)
+          ∙ sym (scan-more inRun spaceOf (T r) _ _ _ _ _ (read r) (sym (i .in-run .ensures) ∙ not-false _ (c .before .if1 .left)))
+          ∙ l .inv .0,
+      omega arith,
+      omega arith,
+      omega (arith, c .space-of .ensures, space-one (C r)),
+    )
+
+enum-told : tie.Need-enum-told Inv-loop μ-loop
+enum-told c = search needs
+
+ended-requires-2 : tie.Need-ended-requires-2 Inv-loop μ-loop
+ended-requires-2 c κs = search needs
+
+returns-2 : tie.Need-returns-2 Inv-loop μ-loop
+returns-2 c =
+    let d = c .before .before .before in
+    let l = d .before .loop in
+    c .ended2 .ensures
+    ∙ sym (scan-end inRun spaceOf _ _ _ _ (ap isChar (sym (d .decode .ensures) ∙ c .before .enum-told .given .1)))
+    ∙ l .inv .0
+
+enum-told-2 : tie.Need-enum-told-2 Inv-loop μ-loop
+enum-told-2 c = search needs
+
+ended-requires-3 : tie.Need-ended-requires-3 Inv-loop μ-loop
+ended-requires-3 c κs = search needs
+
+returns-3 : tie.Need-returns-3 Inv-loop μ-loop
+returns-3 c =
+    let d = c .before .before .before in
+    let l = d .before .loop in
+    c .ended3 .ensures
+    ∙ sym (scan-end inRun spaceOf _ _ _ _ (ap isChar (sym (d .decode .ensures) ∙ c .before .enum-told2 .given .1)))
+    ∙ l .inv .0
+
+pub scan-run-spec : {M : Type 1} → statement M
+scan-run-spec =
+    tie.close
+    (tie.spec
+    Inv-loop
+    μ-loop
+    loop-holds
+    decode-requires
+    enum-known-cp
+    in-run-requires
+    ended-requires
+    returns
+    space-of-requires
+    add-weight
+    add-chars
+    cast-at
+    add-at
+    loop-less
+    loop-again
+    enum-told
+    ended-requires-2
+    returns-2
+    enum-told-2
+    ended-requires-3
+    returns-3)

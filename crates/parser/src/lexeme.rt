@@ -1,0 +1,26 @@
+use meaning::counts::Chars;
+use meaning::counts::Offset;
+use meaning::tokens::TokenKind;
+
+// A token as the passes read it: where it ends, its characters, the spaces that it counts, how many of its characters glue, and
+// the offset after the character that ends it.
+pub struct Lexeme {
+    pub kind: TokenKind,
+    pub end: Offset,
+    pub chars: Chars,
+    pub count: Chars,
+    pub glues: Chars,
+    pub reach: Offset,
+}
+
+// What stands at an offset: a token, or the end of the text.
+pub enum Lexed {
+    End,
+    Token(Lexeme),
+}
+
+// The first characters of a stretch: where they end, and how many of them glue.
+pub struct Part {
+    pub end: Offset,
+    pub glues: Chars,
+}

@@ -1,0 +1,9 @@
+// Tokens of a text, by offsets into its bytes (the crate's parser/mod.rs).
+pub mod characters;
+pub mod count;
+pub mod lexeme;
+pub mod lexer;
+pub mod part;
+pub mod scan;
+pub mod tokenize;
+pub mod write;

@@ -1,0 +1,48 @@
+// The first characters of a stretch of a text.
+ghost use mathlib.Core.Path.{_≡_};
+ghost use Prim.Native.Nat.{_≤_};
+ghost use lib.ListN.{length};
+ghost use Rattle.parser.specs.Lexing.{charsFrom, partOf};
+ghost use Rattle.parser.specs.Scanning.{partAt};
+use crate::characters::glue_of;
+use crate::lexeme::Part;
+use meaning::counts::Chars;
+use meaning::counts::Offset;
+use unicode::sequence::Decoded;
+use unicode::sequence::decode;
+
+fn part_at(end: usize, glues: u32) -> Part
+    requires { ⌜ end ≤ 65535 ⌝ }
+    ensures { λ r. ⌜ r ≡ partAt end glues ⌝ }
+{
+    Part {
+        end: Offset(end as u32),
+        glues: Chars(glues),
+    }
+}
+
+// The first k characters from an offset on, or as many as there are.
+pub fn part_of(text: &[u8], at: usize, k: u32) -> Part
+    requires { ⌜ (length (now text) ≤ 65535) × (at ≤ 65535) ⌝ }
+    ensures { λ r. ⌜ r ≡ partOf at k (charsFrom (now (text .entry)) at) ⌝ }
+{
+    let mut end = at;
+    let mut glues: u32 = 0;
+    let mut left = k;
+    while 0 < left {
+        match decode(text, end) {
+            Decoded::Char { cp, len } => {
+                glues += glue_of(cp);
+                end += len as usize;
+                left -= 1;
+            }
+            Decoded::Bad => {
+                return part_at(end, glues);
+            }
+            Decoded::End => {
+                return part_at(end, glues);
+            }
+        }
+    }
+    part_at(end, glues)
+}

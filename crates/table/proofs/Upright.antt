@@ -1,0 +1,124 @@
+-- The vertical offset, a line's y, and whether it shows, as 32-bit signed numbers.
+-- Assumes nothing.
+use Prim.Native.Nat.{ℕ, _+_, _≤_, _<_}
+use mathlib.Core.Path.{_≡_, refl, sym, ap, _∙_}
+use mathlib.Core.Bool.{true, false, _&&_}
+use mathlib.Core.List.{List}
+use native.Mathlib.Omega.{arith}
+use borrow.Author.Tests.{eq-eqb, ne-eqb}
+use lib.Dec.{eqb}
+use lib.IntN.{ℤ, pos, _+ℤ_, _-ℤ_}
+use lib.Signed.{mag, leZ, quotZ}
+use mir.Val.{SFits, toZ, ofZ}
+use mir.Syntax.{w32}
+use mir.Facts.{toZ-ofZ}
+use Rattle.basis.specs.Choice.{pick, pick-true, pick-false, pick-cases}
+use Rattle.meaning.specs.Table.{entriesIn}
+use Rattle.meaning.specs.Height.{heightOf, offsetOf, addedBefore, yOf, showsAt}
+use Rattle.meaning.specs.declared.settings.Settings.{Settings}
+use Rattle.meaning.specs.declared.answers.LineY.the-variants.{Shows, Hidden}
+use Rattle.table.specs.GoodSettings.{Measures}
+use Rattle.table.specs.Heights.{shownAt, added-alone}
+use Rattle.table.proofs.Signs.{mag-sum, mag-less, mag-half, fits, kept, widened}
+
+module _ (s : Settings) (t : ℕ) where
+  pub offset-top : s .vertical ≡ 0 → pos 0 ≡ offsetOf s t
+  unfolding offsetOf pick
+  offset-top e = rw (eq-eqb _ _ e)
+
+  pub offset-middle : s .vertical ≡ 1 → quotZ (pos (s .height .0) -ℤ pos t) (pos 2) ≡ offsetOf s t
+  unfolding offsetOf pick
+  offset-middle e = rw e
+
+  pub offset-bottom : (s .vertical ≡ 0 → ⊥) → (s .vertical ≡ 1 → ⊥) → pos (s .height .0) -ℤ pos t ≡ offsetOf s t
+  unfolding offsetOf pick
+  offset-bottom d e = rw (ne-eqb _ _ d, ne-eqb _ _ e)
+
+  -- It is no further from 0 than box and text are high.
+  pub offset-near : mag (offsetOf s t) ≤ s .height .0 + t + 2
+  unfolding offsetOf
+  offset-near =
+      let d = mag-less (pos (s .height .0)) t in
+      pick-cases (λ z. mag z ≤ s .height .0 + t + 2) (eqb (s .vertical) 0) (λ _. omega arith)
+      (λ _. pick-cases (λ z. mag z ≤ s .height .0 + t + 2) (eqb (s .vertical) 1)
+      (λ _. omega (arith, mag-half (pos (s .height .0) -ℤ pos t))) (λ _. omega arith))
+
+pub offset-limit : (s : Settings) → Measures s → (t : ℕ) (z : ℤ) → z ≡ offsetOf s t → t ≤ 536870976 → mag z ≤ 600000000
+offset-limit s m t z e h = rw e (omega (arith, offset-near s t))
+
+module _ (s : Settings) (m : Measures s) where
+  abbrev top : ℤ
+  top = s .top
+
+  abbrev box : ℕ
+  box = s .height .0
+
+  abbrev base : ℕ
+  base = s .base .0
+
+  top-kept : toZ w32 (ofZ w32 top) ≡ top
+  top-kept = kept top (omega arith)
+
+  box-far : mag (top +ℤ pos box) ≤ 8193
+  box-far = omega (arith, mag-sum top (pos box))
+
+  pub bottom-fits : SFits w32 (toZ w32 (ofZ w32 top) +ℤ toZ w32 box)
+  bottom-fits = rw (top-kept, widened box (omega arith)) (fits (top +ℤ pos box) (omega (arith, box-far)))
+
+  bottom-is : toZ w32 (ofZ w32 (toZ w32 (ofZ w32 top) +ℤ toZ w32 box)) ≡ top +ℤ pos box
+  bottom-is = rw (top-kept, widened box (omega arith)) (kept (top +ℤ pos box) (omega (arith, box-far)))
+
+  lowest-far : mag (top +ℤ pos box -ℤ pos base) ≤ 8258
+  lowest-far = omega (arith, box-far, mag-less (top +ℤ pos box) base)
+
+  pub lowest-fits : SFits w32 (toZ w32 (ofZ w32 (toZ w32 (ofZ w32 top) +ℤ toZ w32 box)) -ℤ toZ w32 base)
+  lowest-fits = rw (bottom-is, widened base (omega arith)) (fits (top +ℤ pos box -ℤ pos base) (omega (arith, lowest-far)))
+
+  lowest-is : toZ w32 (ofZ w32 (toZ w32 (ofZ w32 (toZ w32 (ofZ w32 top) +ℤ toZ w32 box)) -ℤ toZ w32 base)) ≡ top +ℤ pos box -ℤ pos base
+  lowest-is = rw (bottom-is, widened base (omega arith)) (kept (top +ℤ pos box -ℤ pos base) (omega (arith, lowest-far)))
+
+  module _ (y : ℤ) (f : SFits w32 y) where
+    abbrev lowest : ℕ
+    lowest = ofZ w32 (toZ w32 (ofZ w32 (toZ w32 (ofZ w32 top) +ℤ toZ w32 box)) -ℤ toZ w32 base)
+
+    pub shows-is : leZ (toZ w32 (ofZ w32 top)) (toZ w32 (ofZ w32 y)) && leZ (toZ w32 (ofZ w32 y)) (toZ w32 lowest) ≡ showsAt s y
+    unfolding showsAt
+    shows-is = rw (lowest-is, top-kept, toZ-ofZ f)
+
+    -- A number that is passed on is read again as it is.
+    pub shown : showsAt s (toZ w32 (ofZ w32 y)) ≡ true → Shows (toZ w32 (ofZ w32 y)) ≡ shownAt s y
+    unfolding shownAt
+    shown e = rw (toZ-ofZ f) (sym (pick-true _ _ _ (rw (toZ-ofZ f) at e)))
+
+    pub hidden : showsAt s (toZ w32 (ofZ w32 y)) ≡ false → Hidden (toZ w32 (ofZ w32 y)) ≡ shownAt s y
+    unfolding shownAt
+    hidden e = rw (toZ-ofZ f) (sym (pick-false _ _ _ (rw (toZ-ofZ f) at e)))
+
+-- The box top, an offset and what line ends add.
+module _ (top offset : ℤ) (added : ℕ) (p : mag top ≤ 4096) (q : mag offset ≤ 600000000) (r : added ≤ 600000000) where
+  sum-far : mag (top +ℤ offset) ≤ 600004097
+  sum-far = omega (arith, mag-sum top offset)
+
+  pub sum-fits : SFits w32 (toZ w32 (ofZ w32 top) +ℤ toZ w32 (ofZ w32 offset))
+  sum-fits = rw (kept top (omega arith), kept offset (omega arith)) (fits (top +ℤ offset) (omega (arith, sum-far)))
+
+  sum-is : toZ w32 (ofZ w32 (toZ w32 (ofZ w32 top) +ℤ toZ w32 (ofZ w32 offset))) ≡ top +ℤ offset
+  sum-is = rw (kept top (omega arith), kept offset (omega arith)) (kept (top +ℤ offset) (omega (arith, sum-far)))
+
+  y-far : mag (top +ℤ offset +ℤ pos added) ≤ 1200004098
+  y-far = omega (arith, sum-far, mag-sum (top +ℤ offset) (pos added))
+
+  pub y-fits : SFits w32 (toZ w32 (ofZ w32 (toZ w32 (ofZ w32 top) +ℤ toZ w32 (ofZ w32 offset))) +ℤ toZ w32 added)
+  y-fits = rw (sum-is, widened added (omega arith)) (fits (top +ℤ offset +ℤ pos added) (omega (arith, y-far)))
+
+  pub y-is : toZ w32 (ofZ w32 (toZ w32 (ofZ w32 (toZ w32 (ofZ w32 top) +ℤ toZ w32 (ofZ w32 offset))) +ℤ toZ w32 added)) ≡ top +ℤ offset +ℤ pos added
+  y-is = rw (sum-is, widened added (omega arith)) (kept (top +ℤ offset +ℤ pos added) (omega (arith, y-far)))
+
+-- The three parts of a line's y, as the code has found them.
+pub y-parts : (s : Settings) (t : List ℕ) (lines k h added : ℕ) (offset : ℤ) → k ≤ lines → offset ≡ offsetOf s h → h ≡ heightOf s (entriesIn lines t)
+    → added ≡ addedBefore s k (entriesIn k t) → s .top +ℤ offset +ℤ pos added ≡ yOf s k (entriesIn lines t)
+unfolding yOf
+y-parts s t lines k h added offset l o e a =
+    let q : offset ≡ offsetOf s (heightOf s (entriesIn lines t)) = o ∙ ap (offsetOf s) e in
+    let r : added ≡ addedBefore s k (entriesIn lines t) = a ∙ sym (added-alone s k lines t l) in
+    λ i. s .top +ℤ q i +ℤ pos (r i)

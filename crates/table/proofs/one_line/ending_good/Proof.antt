@@ -1,0 +1,14 @@
+use Rattle.table.specs.OneLine.{endingAt}
+use Rattle.table.proofs.one_line.ending_good.Statement.{statement}
+use Rattle.table.proofs.one_line.ending_good.Tie as tie
+
+returns : tie.Need-returns
+unfolding endingAt
+returns c = rw (c .if1 .taken)
+
+returns-2 : tie.Need-returns-2
+unfolding endingAt
+returns-2 c = rw (c .if1 .left)
+
+pub ending-good-spec : {M : Type 1} → statement M
+ending-good-spec = tie.close (tie.spec returns returns-2)

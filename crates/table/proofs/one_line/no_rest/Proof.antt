@@ -1,0 +1,11 @@
+use mathlib.Core.Path.{refl}
+use Rattle.meaning.specs.WellFormed.{noRest}
+use Rattle.table.proofs.one_line.no_rest.Statement.{statement}
+use Rattle.table.proofs.one_line.no_rest.Tie as tie
+
+returns : tie.Need-returns
+unfolding noRest
+returns c = refl
+
+pub no-rest-spec : {M : Type 1} → statement M
+no-rest-spec = tie.close (tie.spec returns)

@@ -1,0 +1,25 @@
+use Rattle.table.proofs.LineByLine.{reach-none, reach-last}
+use borrow.Author.Needs.{needs}
+use Rattle.table.proofs.well_formed.last_reach.Statement.{statement}
+use Rattle.table.proofs.well_formed.last_reach.Tie as tie
+
+returns : tie.Need-returns
+returns c = reach-none (c .before .args .table .now) (c .before .args .lines) (c .if1 .taken)
+
+mul-t4 : tie.Need-mul-t4
+mul-t4 c = search needs
+
+sub-t5 : tie.Need-sub-t5
+sub-t5 c = search needs
+
+mul-t6 : tie.Need-mul-t6
+mul-t6 c = search needs
+
+shared-slice-read-t8 : tie.Need-shared-slice-read-t8
+shared-slice-read-t8 c = search needs
+
+returns-2 : tie.Need-returns-2
+returns-2 c = let s = c .before .before in reach-last (s .args .table .now) (s .args .lines) (c .before .if1 .left)
+
+pub last-reach-spec : {M : Type 1} → statement M
+last-reach-spec = tie.close (tie.spec returns mul-t4 sub-t5 mul-t6 shared-slice-read-t8 returns-2)

@@ -1,0 +1,61 @@
+-- Refusals 3, 5 and 6 of an edit and a table, without the edited text.
+-- Assumes nothing.
+use Prim.Native.Nat.{ℕ, _+_, _-_, _≤_, _<_}
+use mathlib.Core.Path.{_≡_, refl, sym, _∙_}
+use mathlib.Core.Bool.{Bool, true, false, _&&_}
+use mathlib.Core.List.{List, [], _∷_}
+use native.Mathlib.Omega.{arith}
+use lib.Dec.{leb}
+use lib.ListN.{length}
+use Rattle.basis.specs.Choice.{pick, by-test}
+use Rattle.meaning.specs.Table.{entriesIn}
+use Rattle.meaning.specs.Checks.{refuseIf, firstOf, checkLength}
+use Rattle.meaning.specs.WellFormed.{textLength, checkTable}
+use Rattle.meaning.specs.Edit.{inOrder, newLength, checkWhole, checkOrder, unaffected}
+use Rattle.meaning.specs.Calls.{checkAffected, affectedAnswer}
+use Rattle.meaning.specs.declared.edit.Edit.{Edit}
+use Rattle.meaning.specs.declared.refusals.Refusal.{Refusal}
+use Rattle.meaning.specs.declared.refusals.Refusal.the-variants.{BadEdit}
+use Rattle.meaning.specs.declared.refusals.Checked.{Checked}
+use Rattle.meaning.specs.declared.refusals.Checked.the-variants.{Good, Refused}
+use Rattle.meaning.specs.declared.answers.Affected.the-variants as affecting
+
+-- Of a text of so many bytes.
+unfoldable pub checkPlace : (length : ℕ) → Edit → Checked
+checkPlace n ed =
+    pick (leb (ed .from .0) (ed .to .0) && leb (ed .to .0) n)
+    (checkLength (n + ed .inserted .0 - (ed .to .0 - ed .from .0)))
+    (Refused BadEdit)
+
+first-alone : (c : Checked) → firstOf (c ∷ Good ∷ Good ∷ []) ≡ c
+unfolding firstOf
+first-alone Good = refl
+first-alone (Refused r) = refl
+
+module _ (t : List ℕ) (lines : ℕ) (ed : Edit) where
+  pub affected-place : checkTable lines t ≡ Good → checkAffected t lines ed ≡ checkPlace (textLength (entriesIn lines t)) ed
+  unfolding checkAffected checkWhole checkOrder checkPlace inOrder newLength refuseIf pick firstOf
+  affected-place h =
+      by-test (leb (ed .from .0) (ed .to .0) && leb (ed .to .0) (textLength (entriesIn lines t)))
+      (λ e. rw (h, e) (first-alone (checkLength (newLength (entriesIn lines t) ed)))) (λ e. rw (h, e))
+
+  pub affected-bad : (r : Refusal) → checkTable lines t ≡ Refused r → checkAffected t lines ed ≡ Refused r
+  unfolding checkAffected checkWhole firstOf
+  affected-bad r h = rw h
+
+  pub affected-good : checkAffected t lines ed ≡ Good → checkTable lines t ≡ Good
+  affected-good h = known (checkTable lines t) refl
+    where
+      known : (c : Checked) → checkTable lines t ≡ c → checkTable lines t ≡ Good
+      known Good e = e
+      known (Refused r) e = absurd (let f = affected-bad r e in let z : _≡_ {A = ℕ} 0 1 = cc in omega arith)
+
+  -- What the call answers.
+  pub affected-line : checkAffected t lines ed ≡ Good
+      → affecting.Line (length (unaffected (ed .from .0) (entriesIn lines t))) ≡ affectedAnswer t lines ed
+  unfolding affectedAnswer
+  affected-line h = rw h
+
+  pub affected-refused : (r : Refusal) → checkAffected t lines ed ≡ Refused r → affecting.Refused r ≡ affectedAnswer t lines ed
+  unfolding affectedAnswer
+  affected-refused r h = rw h

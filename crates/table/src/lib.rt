@@ -1,0 +1,9 @@
+// Line tables as numbers: read, written, checked, searched and measured.
+pub mod affected;
+pub mod entries;
+pub mod events;
+pub mod height;
+pub mod one_line;
+pub mod spacing;
+pub mod vertical;
+pub mod well_formed;
