@@ -1,14 +1,30 @@
 // The calls for C. include/bisquemop.h says what each one does.
+mod answers;
+
+use answers::affected_number;
+use answers::affected_value;
+use answers::height_number;
+use answers::height_value;
+use answers::tokens_number;
+use answers::tokens_value;
 use checks::refusals::checked_number;
 use checks::refusals::checked_value;
 use checks::settings::check_settings;
 use checks::text::check_text;
+use meaning::counts::Offset;
 use meaning::counts::Pixels;
+use meaning::edit::Edit;
 use meaning::settings::Settings;
+use parser::tokenize::tokenize;
+use table::affected::first_affected;
+use table::height::text_height;
 ghost use mathlib.Core.Path.{_≡_};
 ghost use Rattle.meaning.specs.Settings.{settingsOf};
 ghost use Rattle.meaning.specs.Refusals.{checkedNumber, checkedValue};
 ghost use Rattle.meaning.specs.Checks.{checkSettings, checkText};
+ghost use Rattle.meaning.specs.Answers.{tokensNumber, tokensValue, affectedNumber, affectedValue, heightNumber, heightValue};
+ghost use Rattle.meaning.specs.Calls.{tokensAnswer, tokensBuffer, affectedAnswer, heightAnswer};
+ghost use Rattle.bisquemop.specs.Edits.{editOf};
 
 #[no_mangle]
 pub extern "C" fn bisquemop_check_settings(
@@ -56,4 +72,77 @@ pub extern "C" fn bisquemop_check_text(text: &[u8], value: &mut u64) -> u32
     let checked = check_text(text);
     *value = checked_value(checked);
     checked_number(checked)
+}
+
+#[no_mangle]
+pub extern "C" fn bisquemop_tokens(text: &[u8], tokens: &mut [u32], value: &mut u64) -> u32
+    ensures { λ r. ⌜ r ≡ tokensNumber (tokensAnswer (now (text .entry)) (now (tokens .entry))) ⌝ }
+    ensures { λ r. ⌜ now (tokens .exit) ≡ tokensBuffer (now (text .entry)) (now (tokens .entry)) ⌝ }
+    ensures { λ r. ⌜ now (value .exit) ≡ tokensValue (tokensAnswer (now (text .entry)) (now (tokens .entry))) ⌝ }
+{
+    let answer = tokenize(text, tokens);
+    *value = tokens_value(answer);
+    tokens_number(answer)
+}
+
+#[no_mangle]
+pub extern "C" fn bisquemop_first_affected(
+    table: &[u32],
+    lines: u64,
+    a: u32,
+    b: u32,
+    inserted: u32,
+    value: &mut u64,
+) -> u32
+    ensures { λ r. ⌜ r ≡ affectedNumber (affectedAnswer (now (table .entry)) lines (editOf a b inserted)) ⌝ }
+    ensures { λ r. ⌜ now (value .exit) ≡ affectedValue (affectedAnswer (now (table .entry)) lines (editOf a b inserted)) ⌝ }
+{
+    let edit = Edit {
+        from: Offset(a),
+        to: Offset(b),
+        inserted: Offset(inserted),
+    };
+    let answer = first_affected(table, lines as usize, edit);
+    *value = affected_value(answer);
+    affected_number(answer)
+}
+
+#[no_mangle]
+pub extern "C" fn bisquemop_height(
+    glyph: u32,
+    width: u32,
+    tab: u32,
+    spacing: u32,
+    paragraph: u32,
+    base: u32,
+    height: u32,
+    top: i32,
+    alignment: u32,
+    vertical: u32,
+    leading: u32,
+    trailing: u32,
+    table: &[u32],
+    lines: u64,
+    value: &mut u64,
+) -> u32
+    ensures { λ r. ⌜ r ≡ heightNumber (heightAnswer (settingsOf glyph width tab spacing paragraph base height top alignment vertical leading trailing) (now (table .entry)) lines) ⌝ }
+    ensures { λ r. ⌜ now (value .exit) ≡ heightValue (heightAnswer (settingsOf glyph width tab spacing paragraph base height top alignment vertical leading trailing) (now (table .entry)) lines) ⌝ }
+{
+    let s = Settings {
+        glyph: Pixels(glyph),
+        width: Pixels(width),
+        tab: Pixels(tab),
+        spacing: Pixels(spacing),
+        paragraph: Pixels(paragraph),
+        base: Pixels(base),
+        height: Pixels(height),
+        top,
+        alignment,
+        vertical,
+        leading,
+        trailing,
+    };
+    let answer = text_height(s, table, lines as usize);
+    *value = height_value(answer);
+    height_number(answer)
 }

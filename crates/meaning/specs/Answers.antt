@@ -1,6 +1,7 @@
 -- What the scope's numbers are for each answer: 0 where a call was done, else the refusal's number; and the values besides.
 -- Assumes nothing.
 use Prim.Native.Nat.{ℕ}
+use lib.IntN.{ℤ}
 use Rattle.meaning.specs.Refusals.{numberOf, besides}
 use Rattle.meaning.specs.declared.answers.Tokenized.{Tokenized}
 use Rattle.meaning.specs.declared.answers.Tokenized.the-variants as tokenized
@@ -75,15 +76,22 @@ abbrev pub heightValue : Height → ℕ
 heightValue (height.Pixels h) = h
 heightValue (height.Refused r) = besides r
 
--- 1 if the line shows, 0 if not, 2 if there is no such line.
 abbrev pub yNumber : LineY → ℕ
 yNumber (liney.Shows y) = 0
 yNumber (liney.Hidden y) = 0
 yNumber liney.NoLine = 0
 yNumber (liney.Refused r) = numberOf r
 
+-- 1 if the line shows, 0 if not, 2 if there is no such line.
 abbrev pub yValue : LineY → ℕ
 yValue (liney.Shows y) = 1
 yValue (liney.Hidden y) = 0
 yValue liney.NoLine = 2
 yValue (liney.Refused r) = besides r
+
+-- The y is written only where there is such a line.
+abbrev pub yPlace : LineY → (old : ℤ) → ℤ
+yPlace (liney.Shows y) old = y
+yPlace (liney.Hidden y) old = y
+yPlace liney.NoLine old = old
+yPlace (liney.Refused r) old = old

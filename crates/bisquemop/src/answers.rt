@@ -1,0 +1,62 @@
+// Each answer as C gets it: 0 or the refusal's number, and the value that goes with it.
+use checks::refusals::number;
+use checks::refusals::value;
+use meaning::answers::Affected;
+use meaning::answers::Height;
+use meaning::answers::Tokenized;
+ghost use mathlib.Core.Path.{_≡_};
+ghost use Rattle.meaning.specs.Answers.{tokensNumber, tokensValue, affectedNumber, affectedValue, heightNumber, heightValue};
+
+pub fn tokens_number(a: Tokenized) -> u32
+    ensures { λ r. ⌜ r ≡ tokensNumber a ⌝ }
+{
+    match a {
+        Tokenized::Tokens(_) => 0,
+        Tokenized::Refused(refusal) => number(refusal),
+    }
+}
+
+pub fn tokens_value(a: Tokenized) -> u64
+    ensures { λ r. ⌜ r ≡ tokensValue a ⌝ }
+{
+    match a {
+        Tokenized::Tokens(n) => n,
+        Tokenized::Refused(refusal) => value(refusal),
+    }
+}
+
+pub fn affected_number(a: Affected) -> u32
+    ensures { λ r. ⌜ r ≡ affectedNumber a ⌝ }
+{
+    match a {
+        Affected::Line(_) => 0,
+        Affected::Refused(refusal) => number(refusal),
+    }
+}
+
+pub fn affected_value(a: Affected) -> u64
+    ensures { λ r. ⌜ r ≡ affectedValue a ⌝ }
+{
+    match a {
+        Affected::Line(line) => line,
+        Affected::Refused(refusal) => value(refusal),
+    }
+}
+
+pub fn height_number(a: Height) -> u32
+    ensures { λ r. ⌜ r ≡ heightNumber a ⌝ }
+{
+    match a {
+        Height::Pixels(_) => 0,
+        Height::Refused(refusal) => number(refusal),
+    }
+}
+
+pub fn height_value(a: Height) -> u64
+    ensures { λ r. ⌜ r ≡ heightValue a ⌝ }
+{
+    match a {
+        Height::Pixels(pixels) => pixels,
+        Height::Refused(refusal) => value(refusal),
+    }
+}
