@@ -1,15 +1,15 @@
 -- What line ends add, line by line, and what the last two lines say is left out.
 -- Assumes nothing.
-use Prim.Native.Nat.{ℕ, zero, suc, _+_, _-_, _*_, _≤_, _<_}
-use mathlib.Core.Path.{_≡_, refl, sym, ap, _∙_}
-use mathlib.Core.Bool.{true, false, _&&_}
-use mathlib.Core.List.{List, [], _∷_}
+use Prim.Native.Nat.{ℕ, suc, _+_, _-_, _*_, _≤_, _<_}
+use mathlib.Core.Path.{_≡_, sym, ap, _∙_}
+use mathlib.Core.Bool.{_&&_}
+use mathlib.Core.List.{List}
 use native.Mathlib.Omega.{arith}
 use borrow.Author.Tests.{eq-eqb, ne-eqb}
 use lib.Dec.{eqb}
-use lib.ListN.{length, getD, drop}
+use lib.ListN.{getD}
 use Rattle.basis.specs.Choice.{pick}
-use Rattle.meaning.specs.Table.{entryIn, entriesIn}
+use Rattle.meaning.specs.Table.{entriesIn}
 use Rattle.meaning.specs.Height.{endAdds, addedBefore}
 use Rattle.meaning.specs.declared.settings.Settings.{Settings}
 use Rattle.table.specs.LinesFrom.{linesFrom, lines-all, lines-more, lines-end, ending-at}
@@ -28,7 +28,8 @@ module _ (s : Settings) (ending : ℕ) where
   unfolding endAdds pick
   end-other d e = rw (ne-eqb _ _ d, ne-eqb _ _ e)
 
-pub added-start : (s : Settings) (t : List ℕ) (k : ℕ) → addedBefore s k (entriesIn k t) ≡ 0 + addedBefore s (k - 0) (linesFrom t k 0)
+pub added-start : (s : Settings) (t : List ℕ) (k : ℕ)
+    → addedBefore s k (entriesIn k t) ≡ 0 + addedBefore s (k - 0) (linesFrom t k 0)
 added-start s t k =
     let e : k - 0 ≡ k = omega arith in
     rw (e, lines-all t k) (omega arith)
@@ -36,7 +37,8 @@ added-start s t k =
 -- The lines from i on, of k lines.
 module _ (s : Settings) (t : List ℕ) (k i : ℕ) where
   pub added-more : i < k
-      → addedBefore s (k - i) (linesFrom t k i) ≡ endAdds s (getD t (10 * i + 3) 0) + addedBefore s (k - (i + 1)) (linesFrom t k (i + 1))
+      → addedBefore s (k - i) (linesFrom t k i)
+      ≡ endAdds s (getD t (10 * i + 3) 0) + addedBefore s (k - (i + 1)) (linesFrom t k (i + 1))
   unfolding addedBefore
   added-more h =
       let e : k - i ≡ suc (k - (i + 1)) = omega arith in

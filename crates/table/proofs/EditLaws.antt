@@ -1,16 +1,14 @@
 -- An edit alone, on each way through its tests; and the search for the first affected line, line by line.
 -- Assumes nothing.
 use Prim.Native.Nat.{ℕ, suc, _+_, _-_, _*_, _≤_, _<_}
-use mathlib.Core.Path.{_≡_, refl, sym, ap, _∙_}
-use mathlib.Core.List.{List, [], _∷_}
+use mathlib.Core.Path.{_≡_}
+use mathlib.Core.List.{List}
 use borrow.Author.Tests.{lt-ltb, le-ltb, le-leb, lt-leb}
-use lib.ListN.{length, getD, drop}
+use lib.ListN.{length, getD}
 use Rattle.basis.specs.Choice.{pick}
-use Rattle.meaning.specs.Table.{entryIn, entriesIn}
 use Rattle.meaning.specs.Checks.{refuseIf, checkLength}
 use Rattle.meaning.specs.Edit.{unaffected}
 use Rattle.meaning.specs.declared.edit.Edit.{Edit}
-use Rattle.meaning.specs.declared.line.Entry.{Entry}
 use Rattle.meaning.specs.declared.refusals.Refusal.the-variants.{TextTooLong, BadEdit}
 use Rattle.meaning.specs.declared.refusals.Checked.the-variants.{Good, Refused}
 use Rattle.table.specs.LinesFrom.{linesFrom, lines-more, lines-end, reach-at}
@@ -30,13 +28,15 @@ module _ (n : ℕ) (ed : Edit) where
       abbrev whole : ℕ
       whole = n + ed .inserted .0 - (ed .to .0 - ed .from .0)
 
-      pub whole-long : 65535 < whole → Refused (TextTooLong whole) ≡ checkPlace n ed
-      unfolding checkPlace checkLength refuseIf pick
-      whole-long l = rw (le-leb _ _ h, le-leb _ _ p, lt-ltb _ _ l)
+      -- The length that the code has found.
+      module _ (l : ℕ) (q : l ≡ whole) where
+        pub whole-long : 65535 < l → Refused (TextTooLong l) ≡ checkPlace n ed
+        unfolding checkPlace checkLength refuseIf pick
+        whole-long m = rw q (rw (le-leb _ _ h, le-leb _ _ p, lt-ltb _ _ (rw q at m)))
 
-      pub whole-fits : whole ≤ 65535 → Good ≡ checkPlace n ed
-      unfolding checkPlace checkLength refuseIf pick
-      whole-fits l = rw (le-leb _ _ h, le-leb _ _ p, le-ltb _ _ l)
+        pub whole-fits : l ≤ 65535 → Good ≡ checkPlace n ed
+        unfolding checkPlace checkLength refuseIf pick
+        whole-fits m = rw (le-leb _ _ h, le-leb _ _ p, le-ltb _ _ (rw q at m))
 
 module _ (t : List ℕ) (lines k a : ℕ) where
   pub search-past : k < lines → getD t (10 * k + 9) 0 ≤ a

@@ -3,15 +3,15 @@
 use Prim.Native.Nat.{ℕ, zero, suc, _+_, _-_, _*_, _/_, _≤_, _<_}
 use mathlib.Core.Path.{_≡_, refl, sym, ap, _∙_}
 use mathlib.Core.Bool.{true, false}
-use mathlib.Core.List.{List, [], _∷_}
+use mathlib.Core.List.{List, _∷_}
 use native.Mathlib.Numerals.{add-one}
 use native.Mathlib.Omega.{arith}
 use borrow.Author.Tests.{le-leb, lt-leb, eq-eqb, ne-eqb}
 use lib.Dec.{eqb}
 use lib.ListN.{length, getD, drop}
-use Rattle.basis.specs.Choice.{pick, pick-true, pick-false}
+use Rattle.basis.specs.Choice.{pick-true, pick-false}
 use Rattle.basis.specs.Order.{by-eq, within-is, within-not}
-use Rattle.meaning.specs.Table.{entryNumbers, capacityOf, entryIn, entriesIn}
+use Rattle.meaning.specs.Table.{capacityOf, entryIn, entriesIn}
 use Rattle.meaning.specs.WellFormed.{lastReach, textLength, Before, nothing, line, entryGood, checkLines, checkEntries, checkTable}
 use Rattle.meaning.specs.declared.line.Entry.{Entry}
 use Rattle.meaning.specs.declared.refusals.Refusal.the-variants.{BadLine}

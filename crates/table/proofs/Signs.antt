@@ -1,7 +1,7 @@
 -- Sums, differences and halves of signed numbers that are far from the ends of 32 bits: they fit, and are what they say.
 -- Assumes nothing.
 use Prim.Native.Nat.{ℕ, zero, suc, _+_, _/_, _≤_, _<_}
-use mathlib.Core.Path.{_≡_, refl, sym, ap, _∙_}
+use mathlib.Core.Path.{_≡_}
 use native.Mathlib.Omega.{arith}
 use borrow.Author.Tests.{lt-ltb, le-ltb}
 use lib.IntN.{ℤ, pos, negsuc, negℤ, _+ℤ_, _-ℤ_}
@@ -14,8 +14,10 @@ use Rattle.basis.specs.Order.{by-lt}
 -- How far from 0 a sum, a difference and a half are.
 pub mag-sum : (a b : ℤ) → mag (a +ℤ b) ≤ mag a + mag b + 1
 mag-sum (pos a) (pos b) = omega arith
-mag-sum (pos a) (negsuc b) = by-lt a (suc b) (λ h. simp (lt-ltb a (suc b) h) (omega arith)) (λ h. simp (le-ltb a (suc b) h) (omega arith))
-mag-sum (negsuc a) (pos b) = by-lt b (suc a) (λ h. simp (lt-ltb b (suc a) h) (omega arith)) (λ h. simp (le-ltb b (suc a) h) (omega arith))
+mag-sum (pos a) (negsuc b) =
+    by-lt a (suc b) (λ h. simp (lt-ltb a (suc b) h) (omega arith)) (λ h. simp (le-ltb a (suc b) h) (omega arith))
+mag-sum (negsuc a) (pos b) =
+    by-lt b (suc a) (λ h. simp (lt-ltb b (suc a) h) (omega arith)) (λ h. simp (le-ltb b (suc a) h) (omega arith))
 mag-sum (negsuc a) (negsuc b) = omega arith
 
 mag-negative : (n : ℕ) → mag (negℤ (pos n)) ≤ n

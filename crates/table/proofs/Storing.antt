@@ -12,7 +12,8 @@ module _ (t : List ℕ) (k : ℕ) (e : Event) (number : ℕ) where
   abbrev numbers : List ℕ
   numbers = number ∷ e .start .0 ∷ e .end .0 ∷ e .count .0 ∷ e .width .0 ∷ e .x .0 ∷ []
 
-  pub event-stored : number ≡ eventNumber (e .kind) → 6 * k + 6 ≤ length t → stored t (6 * k) numbers ≡ putIfRoom 6 t k (ofEvent e)
+  pub event-stored : number ≡ eventNumber (e .kind) → 6 * k + 6 ≤ length t
+      → stored t (6 * k) numbers ≡ putIfRoom 6 t k (ofEvent e)
   unfolding ofEvent
   event-stored q h =
       stored-are numbers t (6 * k) h

@@ -1,7 +1,7 @@
 -- The vertical offset, a line's y, and whether it shows, as 32-bit signed numbers.
 -- Assumes nothing.
-use Prim.Native.Nat.{ℕ, _+_, _≤_, _<_}
-use mathlib.Core.Path.{_≡_, refl, sym, ap, _∙_}
+use Prim.Native.Nat.{ℕ, _+_, _≤_}
+use mathlib.Core.Path.{_≡_, sym, ap, _∙_}
 use mathlib.Core.Bool.{true, false, _&&_}
 use mathlib.Core.List.{List}
 use native.Mathlib.Omega.{arith}
@@ -74,7 +74,8 @@ module _ (s : Settings) (m : Measures s) where
   pub lowest-fits : SFits w32 (toZ w32 (ofZ w32 (toZ w32 (ofZ w32 top) +ℤ toZ w32 box)) -ℤ toZ w32 base)
   lowest-fits = rw (bottom-is, widened base (omega arith)) (fits (top +ℤ pos box -ℤ pos base) (omega (arith, lowest-far)))
 
-  lowest-is : toZ w32 (ofZ w32 (toZ w32 (ofZ w32 (toZ w32 (ofZ w32 top) +ℤ toZ w32 box)) -ℤ toZ w32 base)) ≡ top +ℤ pos box -ℤ pos base
+  lowest-is : toZ w32 (ofZ w32 (toZ w32 (ofZ w32 (toZ w32 (ofZ w32 top) +ℤ toZ w32 box)) -ℤ toZ w32 base))
+      ≡ top +ℤ pos box -ℤ pos base
   lowest-is = rw (bottom-is, widened base (omega arith)) (kept (top +ℤ pos box -ℤ pos base) (omega (arith, lowest-far)))
 
   module _ (y : ℤ) (f : SFits w32 y) where
@@ -111,11 +112,13 @@ module _ (top offset : ℤ) (added : ℕ) (p : mag top ≤ 4096) (q : mag offset
   pub y-fits : SFits w32 (toZ w32 (ofZ w32 (toZ w32 (ofZ w32 top) +ℤ toZ w32 (ofZ w32 offset))) +ℤ toZ w32 added)
   y-fits = rw (sum-is, widened added (omega arith)) (fits (top +ℤ offset +ℤ pos added) (omega (arith, y-far)))
 
-  pub y-is : toZ w32 (ofZ w32 (toZ w32 (ofZ w32 (toZ w32 (ofZ w32 top) +ℤ toZ w32 (ofZ w32 offset))) +ℤ toZ w32 added)) ≡ top +ℤ offset +ℤ pos added
+  pub y-is : toZ w32 (ofZ w32 (toZ w32 (ofZ w32 (toZ w32 (ofZ w32 top) +ℤ toZ w32 (ofZ w32 offset))) +ℤ toZ w32 added))
+      ≡ top +ℤ offset +ℤ pos added
   y-is = rw (sum-is, widened added (omega arith)) (kept (top +ℤ offset +ℤ pos added) (omega (arith, y-far)))
 
 -- The three parts of a line's y, as the code has found them.
-pub y-parts : (s : Settings) (t : List ℕ) (lines k h added : ℕ) (offset : ℤ) → k ≤ lines → offset ≡ offsetOf s h → h ≡ heightOf s (entriesIn lines t)
+pub y-parts : (s : Settings) (t : List ℕ) (lines k h added : ℕ) (offset : ℤ) → k ≤ lines → offset ≡ offsetOf s h
+    → h ≡ heightOf s (entriesIn lines t)
     → added ≡ addedBefore s k (entriesIn k t) → s .top +ℤ offset +ℤ pos added ≡ yOf s k (entriesIn lines t)
 unfolding yOf
 y-parts s t lines k h added offset l o e a =

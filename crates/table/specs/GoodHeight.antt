@@ -5,13 +5,12 @@ use mathlib.Core.Path.{_≡_, refl, sym, ap, _∙_}
 use mathlib.Core.List.{List, [], _∷_}
 use native.Mathlib.Omega.{arith}
 use borrow.Author.Tests.{lt-ltb, le-ltb}
-use lib.IntN.{pos, _+ℤ_}
 use lib.ListN.{length}
 use Rattle.basis.specs.Choice.{pick}
 use Rattle.meaning.specs.Table.{entriesIn}
 use Rattle.meaning.specs.Checks.{firstOf, checkSettings}
 use Rattle.meaning.specs.WellFormed.{textLength, checkTable}
-use Rattle.meaning.specs.Height.{heightFrom, heightOf, addedBefore, yOf, showsAt}
+use Rattle.meaning.specs.Height.{heightFrom, heightOf, addedBefore, yOf}
 use Rattle.meaning.specs.Calls.{checkHeight, heightAnswer, yAnswer}
 use Rattle.meaning.specs.declared.settings.Settings.{Settings}
 use Rattle.meaning.specs.declared.line.Entry.{Entry}
@@ -23,7 +22,7 @@ use Rattle.meaning.specs.declared.answers.LineY.the-variants as liney
 use Rattle.laws.specs.TableLaws.{entries-length}
 use Rattle.table.specs.GoodTable.{table-room, table-count}
 use Rattle.table.specs.GoodSettings.{Measures, measures}
-use Rattle.table.specs.Heights.{notCounted, shownAt, height-counted, added-alone, added-small}
+use Rattle.table.specs.Heights.{notCounted, shownAt, height-counted, added-small}
 
 first-alone : (c : Checked) → firstOf (c ∷ []) ≡ c
 unfolding firstOf
@@ -67,7 +66,8 @@ module _ (s : Settings) (t : List ℕ) (lines : ℕ) where
 
     -- Of k lines: the table holds them, there are few, and their ends add little.
     pub few-held : (k : ℕ) → k ≤ lines → Measures s × (k ≤ 65536) × (10 * k ≤ length t)
-    few-held k h = (height-measures, omega (arith, table-count lines t height-table), omega (arith, table-room lines t height-table))
+    few-held k h =
+        (height-measures, omega (arith, table-count lines t height-table), omega (arith, table-room lines t height-table))
 
     pub little-added : (k : ℕ) → k ≤ lines → addedBefore s k (entriesIn k t) ≤ 536870912
     little-added k h = omega (arith, added-small s height-measures k (entriesIn k t), few-held k h .1)

@@ -1,20 +1,19 @@
 -- How large the settings can be that heights are made of, if the settings are in range.
 -- Assumes nothing.
-use Prim.Native.Nat.{ℕ, suc, _≤_}
+use Prim.Native.Nat.{_≤_}
 use mathlib.Core.Path.{_≡_}
-use mathlib.Core.Bool.{Bool, true, false, _&&_}
+use mathlib.Core.Bool.{true, _&&_}
 use native.Mathlib.Omega.{arith}
 use borrow.Author.Tests.{leb-true}
 use lib.Dec.{leb}
 use lib.IntN.{ℤ, pos, negsuc}
-use lib.Signed.{mag, leZ}
+use lib.Signed.{mag}
 use Rattle.basis.specs.Choice.{pick, and-true}
 use Rattle.basis.specs.Order.{within, within-true}
 use Rattle.meaning.specs.Settings.{topInRange, sizesInRange, inRange, isSwitch, knownAlignment, knownVertical}
 use Rattle.meaning.specs.Checks.{checkSettings}
 use Rattle.meaning.specs.declared.settings.Settings.{Settings}
 use Rattle.meaning.specs.declared.refusals.Refusal.the-variants.{SettingOutOfRange, UnknownAlignment}
-use Rattle.meaning.specs.declared.refusals.Checked.{Checked}
 use Rattle.meaning.specs.declared.refusals.Checked.the-variants.{Good, Refused}
 use Rattle.table.specs.GoodTable.{good-both}
 
@@ -50,7 +49,8 @@ module _ (s : Settings) (h : checkSettings s ≡ Good) where
       let e = leb (s .height .0) 4096 in
       let t = topInRange (s .top) in
       let l = isSwitch (s .leading) in
-      let top = and-true (a && b && c && d && e) t (and-true (a && b && c && d && e && t) l (and-true (a && b && c && d && e && t && l) (isSwitch (s .trailing)) in-range .0) .0) in
+      let all = and-true (a && b && c && d && e && t && l) (isSwitch (s .trailing)) in-range in
+      let top = and-true (a && b && c && d && e) t (and-true (a && b && c && d && e && t) l (all .0) .0) in
       let height = and-true (a && b && c && d) e (top .0) in
       let base = and-true (a && b && c) d (height .0) in
       let paragraph = and-true (a && b) c (base .0) in

@@ -1,12 +1,12 @@
 -- What a well formed table gives: it holds its lines, there are 1 to 65,536 of them, and the text is at most 65,535 bytes long.
 -- Assumes nothing.
 use Prim.Native.Nat.{ℕ, zero, suc, _+_, _-_, _*_, _/_, _≤_, _<_}
-use mathlib.Core.Path.{_≡_, refl, sym, _∙_}
+use mathlib.Core.Path.{_≡_, refl}
 use mathlib.Core.Bool.{Bool, true, false, _&&_}
 use mathlib.Core.List.{List, [], _∷_}
 use native.Mathlib.Omega.{arith}
 use borrow.Author.Tests.{leb-true, ltb-true, eqb-true}
-use lib.Dec.{leb, ltb, eqb}
+use lib.Dec.{leb, ltb}
 use lib.ListN.{length}
 use Rattle.basis.specs.Choice.{pick, and-true}
 use Rattle.basis.specs.Order.{within, within-true}
@@ -76,7 +76,8 @@ start-after n start reach e h =
 
 -- ---- how many lines there are
 
-few-after : (n k start reach : ℕ) (es : List Entry) → start ≤ n → checkLines n k (line start reach) es ≡ Good → length es ≤ n - start
+few-after : (n k start reach : ℕ) (es : List Entry) → start ≤ n → checkLines n k (line start reach) es ≡ Good
+    → length es ≤ n - start
 few-after n k start reach [] s h = omega arith
 few-after n k start reach (e ∷ es) s h =
     let a = start-after n start reach e (good-start n k (line start reach) e es h) in

@@ -1,16 +1,16 @@
 -- Rule 11 as sums over the lines: the height is what all line ends add, less the one LineBreak that it leaves out.
 -- Assumes nothing.
-use Prim.Native.Nat.{ℕ, zero, suc, _+_, _-_, _*_, _≤_, _<_}
-use mathlib.Core.Path.{_≡_, refl, sym, ap, _∙_}
-use mathlib.Core.Bool.{Bool, true, false, _&&_}
+use Prim.Native.Nat.{ℕ, zero, suc, _+_, _*_, _≤_, _<_}
+use mathlib.Core.Path.{_≡_, refl}
+use mathlib.Core.Bool.{Bool, true, _&&_}
 use mathlib.Core.List.{List, [], _∷_}
 use native.Mathlib.Omega.{arith}
 use borrow.Author.Tests.{eqb-true}
-use lib.Dec.{ltb, eqb}
+use lib.Dec.{eqb}
 use lib.IntN.{ℤ}
 use lib.ListN.{length, getD, drop}
 use lib.Seq.{getD-drop}
-use Rattle.basis.specs.Choice.{pick, pick-true, pick-false, pick-cases, by-test, and-true}
+use Rattle.basis.specs.Choice.{pick, pick-cases, by-test, and-true}
 use Rattle.meaning.specs.Table.{entryIn, entriesIn}
 use Rattle.meaning.specs.Height.{endAdds, heightAdds, heightFrom, addedBefore, showsAt}
 use Rattle.meaning.specs.declared.settings.Settings.{Settings}
@@ -51,7 +51,8 @@ module _ (s : Settings) where
   height-counted n (e ∷ f ∷ g ∷ es) = omega (arith, height-counted n (f ∷ g ∷ es))
 
   -- The first k lines alone say what their ends add.
-  pub added-alone : (k lines : ℕ) (t : List ℕ) → k ≤ lines → addedBefore s k (entriesIn lines t) ≡ addedBefore s k (entriesIn k t)
+  pub added-alone : (k lines : ℕ) (t : List ℕ) → k ≤ lines
+      → addedBefore s k (entriesIn lines t) ≡ addedBefore s k (entriesIn k t)
   unfolding addedBefore entriesIn
   added-alone zero zero t h = refl
   added-alone zero (suc m) t h = refl
@@ -79,7 +80,8 @@ not-counted-few s n (suc zero) t h = refl
 not-counted-few s n (suc (suc m)) t h = absurd (omega arith)
 
 pub not-counted-two : (s : Settings) (n m : ℕ) (t : List ℕ)
-    → notCounted s n (entriesIn (suc (suc m)) t) ≡ pick (eqb (getD t (10 * m + 3) 0) 3 && eqb (getD t (10 * m + 10) 0) n) (s .spacing .0) 0
+    → notCounted s n (entriesIn (suc (suc m)) t)
+    ≡ pick (eqb (getD t (10 * m + 3) 0) 3 && eqb (getD t (10 * m + 10) 0) n) (s .spacing .0) 0
 unfolding notCounted entriesIn entryIn
 not-counted-two s n zero t = rw (getD-drop 10 t 0 0)
 not-counted-two s n (suc m) t =

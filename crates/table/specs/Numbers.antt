@@ -1,15 +1,15 @@
 -- Numbers put into a buffer at a place, one by one or as one run, and rows of numbers put one after the other.
 -- Assumes nothing.
-use Prim.Native.Nat.{ℕ, zero, suc, _+_, _*_, _≤_, _<_}
-use mathlib.Core.Path.{_≡_, refl, sym, ap, _∙_}
+use Prim.Native.Nat.{ℕ, suc, _+_, _*_, _≤_, _<_}
+use mathlib.Core.Path.{_≡_, refl, ap, _∙_}
 use mathlib.Core.List.{List, [], _∷_, _++_, append-assoc, append-nil}
-use native.Mathlib.Nat.{add-zero, add-suc, mul-suc}
+use native.Mathlib.Nat.{add-suc}
 use native.Mathlib.Numerals.{add-one}
 use native.Mathlib.Omega.{arith}
 use borrow.Author.Tests.{le-leb, lt-leb}
 use lib.Dec.{leb}
-use lib.ListN.{length, take, drop, set, length-append, length-take, length-drop, length-set}
-use lib.Seq.{sets, sets-eq, take-at, drop-drop, drop-append-add, length-take-le}
+use lib.ListN.{length, take, drop, set, length-append, length-take, length-drop}
+use lib.Seq.{sets, sets-eq, take-at, drop-drop, drop-append-add}
 use Rattle.basis.specs.Choice.{pick, pick-true, pick-false}
 use Rattle.meaning.specs.Table.{ofEntry, ofEvent, ofAll, written}
 use Rattle.meaning.specs.declared.line.Entry.{Entry}
@@ -37,12 +37,14 @@ stored t i (x ∷ xs) = storedFrom (set t i x) i 1 xs
 
 stored-from : (xs t : List ℕ) (i n : ℕ) → storedFrom t i n xs ≡ sets t (i + n) xs
 stored-from [] t i n = refl
-stored-from (x ∷ xs) t i n = stored-from xs (set t (i + n) x) i (suc n) ∙ ap (λ (j : ℕ). sets (set t (i + n) x) j xs) (add-suc i n)
+stored-from (x ∷ xs) t i n =
+    stored-from xs (set t (i + n) x) i (suc n) ∙ ap (λ (j : ℕ). sets (set t (i + n) x) j xs) (add-suc i n)
 
 pub stored-are : (xs t : List ℕ) (i : ℕ) → i + length xs ≤ length t → stored t i xs ≡ putNumbers t i xs
 unfolding putNumbers
 stored-are [] t i h = sets-eq [] t i h
-stored-are (x ∷ xs) t i h = stored-from xs (set t i x) i 1 ∙ ap (λ (j : ℕ). sets (set t i x) j xs) (add-one i) ∙ sets-eq (x ∷ xs) t i h
+stored-are (x ∷ xs) t i h =
+    stored-from xs (set t i x) i 1 ∙ ap (λ (j : ℕ). sets (set t i x) j xs) (add-one i) ∙ sets-eq (x ∷ xs) t i h
 
 pub put-length : (t : List ℕ) (i : ℕ) (xs : List ℕ) → i + length xs ≤ length t → length (putNumbers t i xs) ≡ length t
 unfolding putNumbers
@@ -58,7 +60,12 @@ nothing-written t = refl
 put-behind : (t xs ys : List ℕ) → putNumbers (written t xs) (length xs) ys ≡ written t (xs ++ ys)
 unfolding putNumbers written
 put-behind t xs ys =
-    rw (take-at xs (drop (length xs) t) (length xs) refl, drop-append-add xs (drop (length xs) t) (length ys), drop-drop (length ys) (length xs) t, length-append xs ys)
+    rw (
+      take-at xs (drop (length xs) t) (length xs) refl,
+      drop-append-add xs (drop (length xs) t) (length ys),
+      drop-drop (length ys) (length xs) t,
+      length-append xs ys,
+    )
 
 module _ {ℓ} {X : Type ℓ} (f : X → List ℕ) (n : ℕ) (width : (x : X) → length (f x) ≡ n) where
   -- The row behind the last.

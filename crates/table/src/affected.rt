@@ -5,7 +5,7 @@ use meaning::counts::Offset;
 use meaning::edit::Edit;
 use meaning::refusals::Checked;
 use meaning::refusals::Refusal;
-ghost use Prim.Native.Nat.{_*_, _≤_};
+ghost use Prim.Native.Nat.{_+_, _-_, _*_, _≤_};
 ghost use mathlib.Core.Path.{_≡_};
 ghost use lib.ListN.{length};
 ghost use Rattle.meaning.specs.Table.{entriesIn};
@@ -13,7 +13,16 @@ ghost use Rattle.meaning.specs.Edit.{unaffected};
 ghost use Rattle.meaning.specs.Calls.{checkAffected, affectedAnswer};
 ghost use Rattle.table.specs.EditAlone.{checkPlace};
 
-// Refusals 3 and 6, of an edit of a text of so many bytes. Sums of three 32-bit numbers fit 64 bits.
+// The length of the edited whole. 32-bit numbers are added in 64 bits, so that nothing wraps.
+fn whole_length(text: Offset, edit: Edit) -> u64
+    requires { ⌜ (edit .from .0 ≤ edit .to .0) × (edit .to .0 ≤ text .0) ⌝ }
+    ensures { λ r. ⌜ r ≡ text .0 + edit .inserted .0 - (edit .to .0 - edit .from .0) ⌝ }
+{
+    let replaced = edit.to.0 - edit.from.0;
+    text.0 as u64 + edit.inserted.0 as u64 - replaced as u64
+}
+
+// Refusals 3 and 6, of an edit of a text of so many bytes.
 fn check_place(text: Offset, edit: Edit) -> Checked
     ensures { λ r. ⌜ r ≡ checkPlace (text .0) edit ⌝ }
 {
@@ -25,7 +34,7 @@ fn check_place(text: Offset, edit: Edit) -> Checked
     if text.0 < to {
         return Checked::Refused(Refusal::BadEdit);
     }
-    let length = text.0 as u64 + edit.inserted.0 as u64 - (to - from) as u64;
+    let length = whole_length(text, edit);
     if 65535 < length {
         return Checked::Refused(Refusal::TextTooLong(length));
     }

@@ -42,13 +42,14 @@ fn check_lines(table: &[u32], lines: usize, text: Offset) -> Checked
     let mut k: usize = 0;
     while k < lines {
         let e = read_entry(table, k);
-        if !entry_good(text, prior, e, k + 1 == lines) {
+        let next = k + 1;
+        if !entry_good(text, prior, e, next == lines) {
             return Checked::Refused(Refusal::BadLine(k as u64));
         }
         let start = e.start;
         let reach = e.reach;
         prior = LineBefore::Line(start, reach);
-        k += 1;
+        k = next;
     }
     Checked::Good
 }

@@ -1,25 +1,32 @@
-use Rattle.table.proofs.EditLaws.{search-past, search-met, search-end}
-use Rattle.table.specs.LinesFrom.{linesFrom, lines-all}
+-- `table::affected::unaffected_lines` meets its contract.
+-- Assumes nothing.
+use Prim.Native.Nat.{_+_, _-_, _≤_}
+use mathlib.Core.List.{List}
+use mathlib.Core.Path.{_≡_, ap}
+use native.Mathlib.Omega.{arith}
+use borrow.Author.Needs.{needs}
+use lib.ListN.{length}
 use Rattle.meaning.specs.declared.line.Entry.{Entry}
 use Rattle.meaning.specs.Edit.{unaffected}
 use Rattle.meaning.specs.Table.{entriesIn}
-use lib.ListN.{length}
-use native.Mathlib.Omega.{arith}
-use mathlib.Core.List.{List}
-use mathlib.Core.Path.{_≡_, ap}
-use Prim.Native.Nat.{ℕ, _+_, _-_, _≤_}
-use borrow.Author.Needs.{needs}
+use Rattle.table.specs.LinesFrom.{linesFrom, lines-all}
+use Rattle.table.proofs.EditLaws.{search-past, search-met, search-end}
 use Rattle.table.proofs.affected.unaffected_lines.Statement.{statement}
 use Rattle.table.proofs.affected.unaffected_lines.Tie as tie
 
 abbrev Inv-loop : tie.InvT-loop
-Inv-loop table lines a k₀ k = (length (unaffected (a .0) (entriesIn lines table)) ≡ k + length (unaffected (a .0) (linesFrom table lines k))) × (k ≤ lines)
+Inv-loop table lines a k₀ k =
+    (length (unaffected (a .0) (entriesIn lines table)) ≡ k + length (unaffected (a .0) (linesFrom table lines k))) × (k ≤ lines)
 
 abbrev μ-loop : tie.MeasureT-loop
 μ-loop table lines a k₀ k = lines - k
 
 loop-holds : tie.Need-loop-holds Inv-loop μ-loop
-loop-holds c = let a = c .args in (omega (arith, ap (λ (es : List Entry). length (unaffected (a .a .0) es)) (lines-all (a .table .now) (a .lines))), search needs)
+loop-holds c =
+    let a = c .args in (
+      omega (arith, ap (λ (es : List Entry). length (unaffected (a .a .0) es)) (lines-all (a .table .now) (a .lines))),
+      search needs,
+    )
 
 mul-if1 : tie.Need-mul-if1 Inv-loop μ-loop
 mul-if1 c = search needs
@@ -34,7 +41,11 @@ shared-slice-read-if1 : tie.Need-shared-slice-read-if1 Inv-loop μ-loop
 shared-slice-read-if1 c = search needs
 
 returns : tie.Need-returns Inv-loop μ-loop
-returns c = let i = c .before .before .before in let l = i .before in let a = l .before .args in omega (arith, search-met (a .table .now) (a .lines) (l .loop .k) (a .a .0) (i .loop-test .taken) (c .if1 .taken))
+returns c =
+    let i = c .before .before .before in
+    let l = i .before in
+    let a = l .before .args in
+    omega (arith, search-met (a .table .now) (a .lines) (l .loop .k) (a .a .0) (i .loop-test .taken) (c .if1 .taken))
 
 add-k : tie.Need-add-k Inv-loop μ-loop
 add-k c = search needs
@@ -43,10 +54,17 @@ loop-less : tie.Need-loop-less Inv-loop μ-loop
 loop-less c = search needs
 
 loop-again : tie.Need-loop-again Inv-loop μ-loop
-loop-again c = let i = c .before .before .before in let l = i .before in let a = l .before .args in omega (arith, search-past (a .table .now) (a .lines) (l .loop .k) (a .a .0) (i .loop-test .taken) (c .if1 .left))
+loop-again c =
+    let i = c .before .before .before in
+    let l = i .before in
+    let a = l .before .args in
+    omega (arith, search-past (a .table .now) (a .lines) (l .loop .k) (a .a .0) (i .loop-test .taken) (c .if1 .left))
 
 returns-2 : tie.Need-returns-2 Inv-loop μ-loop
-returns-2 c = let l = c .before in let a = l .before .args in omega (arith, search-end (a .table .now) (a .lines) (l .loop .k) (a .a .0) (c .loop-test .left))
+returns-2 c =
+    let l = c .before in
+    let a = l .before .args in
+    omega (arith, search-end (a .table .now) (a .lines) (l .loop .k) (a .a .0) (c .loop-test .left))
 
 pub unaffected-lines-spec : {M : Type 1} → statement M
 unaffected-lines-spec =

@@ -1,6 +1,8 @@
+-- `table::entries::read_entry` meets its contract.
+-- Assumes nothing.
 use Prim.Native.Nat.{_*_}
-use Rattle.table.proofs.Reading.{entry-from}
 use borrow.Author.Needs.{needs}
+use Rattle.table.proofs.Reading.{entry-from}
 use Rattle.table.proofs.entries.read_entry.Statement.{statement}
 use Rattle.table.proofs.entries.read_entry.Tie as tie
 
@@ -95,7 +97,9 @@ shared-slice-read-t43 : tie.Need-shared-slice-read-t43
 shared-slice-read-t43 c = search needs
 
 returns : tie.Need-returns
-returns c = let s = c .before .before .before .before .before .before .before .before .before .before in entry-from (s .args .table .now) (10 * s .args .k)
+returns c =
+    let s = c .before .before .before .before .before .before .before .before .before .before in
+    entry-from (s .args .table .now) (10 * s .args .k)
 
 pub read-entry-spec : {M : Type 1} → statement M
 read-entry-spec =

@@ -1,9 +1,11 @@
-use Rattle.table.specs.Numbers.{stored-are}
-use Rattle.meaning.specs.Table.{ofEntry}
-use lib.ListN.{length-set}
-use native.Mathlib.Omega.{arith}
+-- `table::entries::write_entry` meets its contract.
+-- Assumes nothing.
 use Prim.Native.Nat.{_*_}
+use native.Mathlib.Omega.{arith}
 use borrow.Author.Needs.{needs}
+use lib.ListN.{length-set}
+use Rattle.meaning.specs.Table.{ofEntry}
+use Rattle.table.specs.Numbers.{stored-are}
 use Rattle.table.proofs.entries.write_entry.Statement.{statement}
 use Rattle.table.proofs.entries.write_entry.Tie as tie
 

@@ -1,10 +1,12 @@
-use Rattle.table.proofs.Storing.{event-stored}
-use Rattle.table.specs.Numbers.{no-room}
-use Rattle.meaning.specs.Table.{ofEvent}
-use lib.ListN.{length-set}
-use native.Mathlib.Omega.{arith}
+-- `table::events::put_event` meets its contract.
+-- Assumes nothing.
 use mathlib.Core.Path.{sym}
+use native.Mathlib.Omega.{arith}
 use borrow.Author.Needs.{needs}
+use lib.ListN.{length-set}
+use Rattle.meaning.specs.Table.{ofEvent}
+use Rattle.table.specs.Numbers.{no-room}
+use Rattle.table.proofs.Storing.{event-stored}
 use Rattle.table.proofs.events.put_event.Statement.{statement}
 use Rattle.table.proofs.events.put_event.Tie as tie
 
@@ -18,7 +20,9 @@ add-if1 : tie.Need-add-if1
 add-if1 c = search needs
 
 returns : tie.Need-returns
-returns c = let s = c .before .before .before in sym (no-room 6 (s .args .events .now) (s .args .k) (ofEvent (s .args .e)) (c .if1 .taken))
+returns c =
+    let s = c .before .before .before in
+    sym (no-room 6 (s .args .events .now) (s .args .k) (ofEvent (s .args .e)) (c .if1 .taken))
 
 mul-events : tie.Need-mul-events
 mul-events c = search needs
@@ -75,7 +79,9 @@ same-length : tie.Need-same-length
 same-length c = search needs
 
 returns-2 : tie.Need-returns-2
-returns-2 c = let s = c .before .before .before in event-stored (s .args .events .now) (s .args .k) (s .args .e) _ (c .before .event-number .ensures) (c .if1 .left)
+returns-2 c =
+    let s = c .before .before .before in
+    event-stored (s .args .events .now) (s .args .k) (s .args .e) _ (c .before .event-number .ensures) (c .if1 .left)
 
 pub put-event-spec : {M : Type 1} → statement M
 put-event-spec =

@@ -1,3 +1,5 @@
+-- `table::one_line::ending_good` meets its contract.
+-- Assumes nothing.
 use Rattle.table.specs.OneLine.{endingAt}
 use Rattle.table.proofs.one_line.ending_good.Statement.{statement}
 use Rattle.table.proofs.one_line.ending_good.Tie as tie

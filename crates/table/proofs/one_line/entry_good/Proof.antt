@@ -1,5 +1,7 @@
-use Rattle.table.proofs.Judging.{all-tests}
+-- `table::one_line::entry_good` meets its contract.
+-- Assumes nothing.
 use borrow.Author.Needs.{needs}
+use Rattle.table.proofs.Judging.{all-tests}
 use Rattle.table.proofs.one_line.entry_good.Statement.{statement}
 use Rattle.table.proofs.one_line.entry_good.Tie as tie
 
@@ -16,7 +18,13 @@ add-result : tie.Need-add-result
 add-result c = search needs
 
 returns : tie.Need-returns
-returns c = let g = c .before .before in let r = g .before in let t = r .before in let s = t .before in all-tests (s .args .length .0) (s .args .e) (s .args .prior) (s .args .last) _ _ _ (t .start-good .ensures) (r .rest-good .ensures) (g .ending-good .ensures)
+returns c =
+    let g = c .before .before in
+    let r = g .before in
+    let t = r .before in
+    let s = t .before in
+    all-tests (s .args .length .0) (s .args .e) (s .args .prior) (s .args .last) _ _ _ (t .start-good .ensures)
+    (r .rest-good .ensures) (g .ending-good .ensures)
 
 pub entry-good-spec : {M : Type 1} → statement M
 entry-good-spec =

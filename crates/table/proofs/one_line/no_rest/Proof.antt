@@ -1,3 +1,5 @@
+-- `table::one_line::no_rest` meets its contract.
+-- Assumes nothing.
 use mathlib.Core.Path.{refl}
 use Rattle.meaning.specs.WellFormed.{noRest}
 use Rattle.table.proofs.one_line.no_rest.Statement.{statement}

@@ -1,5 +1,7 @@
-use Rattle.table.proofs.Judging.{start-first, start-after}
+-- `table::one_line::start_good` meets its contract.
+-- Assumes nothing.
 use borrow.Author.Needs.{needs}
+use Rattle.table.proofs.Judging.{start-first, start-after}
 use Rattle.table.proofs.one_line.start_good.Statement.{statement}
 use Rattle.table.proofs.one_line.start_good.Tie as tie
 
@@ -10,10 +12,15 @@ enum-known-prior : tie.Need-enum-known-prior
 enum-known-prior c = search needs
 
 returns : tie.Need-returns
-returns c = let s = c .before .before in start-first (s .args .length .0) (s .args .e) (s .args .prior) (c .enum-told .given .1)
+returns c =
+    let s = c .before .before in
+    start-first (s .args .length .0) (s .args .e) (s .args .prior) (c .enum-told .given .1)
 
 returns-2 : tie.Need-returns-2
-returns-2 c = let l = c .before .before .before .before in let s = l .before .before in start-after (s .args .length .0) (s .args .e) (s .args .prior) _ _ (l .prior .given .1)
+returns-2 c =
+    let l = c .before .before .before .before in
+    let s = l .before .before in
+    start-after (s .args .length .0) (s .args .e) (s .args .prior) _ _ (l .prior .given .1)
 
 pub start-good-spec : {M : Type 1} → statement M
 start-good-spec = tie.close (tie.spec enum-told enum-known-prior returns returns-2)

@@ -1,20 +1,20 @@
-use Rattle.table.proofs.Adding.{added-start, added-more, added-end}
-use Rattle.table.specs.Heights.{added-small}
-use Rattle.table.specs.LinesFrom.{linesFrom, lines-all}
-use Rattle.meaning.specs.declared.line.Entry.{Entry}
-use Rattle.meaning.specs.Height.{endAdds, addedBefore}
-use Rattle.meaning.specs.Table.{entriesIn}
-use lib.ListN.{length, getD}
+-- `table::spacing::added_before` meets its contract.
+-- Assumes nothing.
+use Prim.Native.Nat.{_+_, _-_, _≤_}
+use mathlib.Core.Path.{_≡_}
 use native.Mathlib.Omega.{arith}
-use mathlib.Core.List.{List}
-use mathlib.Core.Path.{_≡_, ap}
-use Prim.Native.Nat.{ℕ, _+_, _-_, _*_, _≤_}
 use borrow.Author.Needs.{needs}
+use Rattle.meaning.specs.Height.{addedBefore}
+use Rattle.meaning.specs.Table.{entriesIn}
+use Rattle.table.specs.Heights.{added-small}
+use Rattle.table.specs.LinesFrom.{linesFrom}
+use Rattle.table.proofs.Adding.{added-start, added-more, added-end}
 use Rattle.table.proofs.spacing.added_before.Statement.{statement}
 use Rattle.table.proofs.spacing.added_before.Tie as tie
 
 abbrev Inv-loop : tie.InvT-loop
-Inv-loop s table k sum₀ i₀ sum i = (addedBefore s k (entriesIn k table) ≡ sum + addedBefore s (k - i) (linesFrom table k i)) × (i ≤ k)
+Inv-loop s table k sum₀ i₀ sum i =
+    (addedBefore s k (entriesIn k table) ≡ sum + addedBefore s (k - i) (linesFrom table k i)) × (i ≤ k)
 
 abbrev μ-loop : tie.MeasureT-loop
 μ-loop s table k sum₀ i₀ sum i = k - i
@@ -37,11 +37,14 @@ shared-slice-read-end-adds c = search needs
 end-adds-requires : tie.Need-end-adds-requires Inv-loop μ-loop
 end-adds-requires c κs = search needs
 
-step : (c : tie.After-end-adds Inv-loop μ-loop) → let l = c .before .before .before in let a = l .before .before .args in addedBefore (a .s) (a .k - l .loop .i) (linesFrom (a .table .now) (a .k) (l .loop .i)) ≡ endAdds (a .s) (getD (a .table .now) (10 * l .loop .i + 3) 0) + addedBefore (a .s) (a .k - (l .loop .i + 1)) (linesFrom (a .table .now) (a .k) (l .loop .i + 1))
-step c = let l = c .before .before .before in let a = l .before .before .args in added-more (a .s) (a .table .now) (a .k) (l .loop .i) (c .before .before .loop-test .taken)
-
 add-sum : tie.Need-add-sum Inv-loop μ-loop
-add-sum c = let i = c .before .before in let l = i .before in let b = l .before .before in let a = b .args in record { fits = omega (arith, step c, c .end-adds .ensures, added-small (a .s) (b .pre .0) (a .k) (entriesIn (a .k) (a .table .now))) }
+add-sum c =
+    let i = c .before .before in
+    let l = i .before in
+    let b = l .before .before in
+    let a = b .args in
+    let more = added-more (a .s) (a .table .now) (a .k) (l .loop .i) (i .loop-test .taken) in
+    record { fits = omega (arith, c .end-adds .ensures, added-small (a .s) (b .pre .0) (a .k) (entriesIn (a .k) (a .table .now))) }
 
 add-i : tie.Need-add-i Inv-loop μ-loop
 add-i c = search needs
@@ -50,10 +53,18 @@ loop-less : tie.Need-loop-less Inv-loop μ-loop
 loop-less c = search needs
 
 loop-again : tie.Need-loop-again Inv-loop μ-loop
-loop-again c = omega (arith, step c, c .end-adds .ensures)
+loop-again c =
+    let i = c .before .before in
+    let l = i .before in
+    let a = l .before .before .args in
+    let more = added-more (a .s) (a .table .now) (a .k) (l .loop .i) (i .loop-test .taken) in
+    omega (arith, c .end-adds .ensures)
 
 returns : tie.Need-returns Inv-loop μ-loop
-returns c = let l = c .before in let a = l .before .before .args in omega (arith, added-end (a .s) (a .table .now) (a .k) (l .loop .i) (c .loop-test .left))
+returns c =
+    let l = c .before in
+    let a = l .before .before .args in
+    omega (arith, added-end (a .s) (a .table .now) (a .k) (l .loop .i) (c .loop-test .left))
 
 pub added-before-spec : {M : Type 1} → statement M
 added-before-spec =

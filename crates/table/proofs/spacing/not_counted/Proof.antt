@@ -1,5 +1,7 @@
-use Rattle.table.proofs.Adding.{left-few, left-ending, left-start, left-out}
+-- `table::spacing::not_counted` meets its contract.
+-- Assumes nothing.
 use borrow.Author.Needs.{needs}
+use Rattle.table.proofs.Adding.{left-few, left-ending, left-start, left-out}
 use Rattle.table.proofs.spacing.not_counted.Statement.{statement}
 use Rattle.table.proofs.spacing.not_counted.Tie as tie
 
@@ -22,7 +24,10 @@ shared-slice-read-if2 : tie.Need-shared-slice-read-if2
 shared-slice-read-if2 c = search needs
 
 returns-2 : tie.Need-returns-2
-returns-2 c = let l = c .before .before in let a = l .before .args in left-ending (a .s) (a .text .0) (a .lines) (a .table .now) (l .if1 .left) (c .if2 .taken)
+returns-2 c =
+    let l = c .before .before in
+    let a = l .before .args in
+    left-ending (a .s) (a .text .0) (a .lines) (a .table .now) (l .if1 .left) (c .if2 .taken)
 
 add-if3 : tie.Need-add-if3
 add-if3 c = search needs
@@ -34,10 +39,18 @@ shared-slice-read-if3 : tie.Need-shared-slice-read-if3
 shared-slice-read-if3 c = search needs
 
 returns-3 : tie.Need-returns-3
-returns-3 c = let m = c .before .before .before in let l = m .before .before in let a = l .before .args in left-start (a .s) (a .text .0) (a .lines) (a .table .now) (l .if1 .left) (m .if2 .left) (c .if3 .taken)
+returns-3 c =
+    let m = c .before .before .before in
+    let l = m .before .before in
+    let a = l .before .args in
+    left-start (a .s) (a .text .0) (a .lines) (a .table .now) (l .if1 .left) (m .if2 .left) (c .if3 .taken)
 
 returns-4 : tie.Need-returns-4
-returns-4 c = let m = c .before .before .before in let l = m .before .before in let a = l .before .args in left-out (a .s) (a .text .0) (a .lines) (a .table .now) (l .if1 .left) (m .if2 .left) (c .if3 .left)
+returns-4 c =
+    let m = c .before .before .before in
+    let l = m .before .before in
+    let a = l .before .args in
+    left-out (a .s) (a .text .0) (a .lines) (a .table .now) (l .if1 .left) (m .if2 .left) (c .if3 .left)
 
 pub not-counted-spec : {M : Type 1} → statement M
 not-counted-spec =

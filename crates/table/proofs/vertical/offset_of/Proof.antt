@@ -1,8 +1,10 @@
+-- `table::vertical::offset_of` meets its contract.
+-- Assumes nothing.
+use mathlib.Core.Path.{_∙_}
+use native.Mathlib.Omega.{arith}
+use borrow.Author.Needs.{needs}
 use Rattle.table.proofs.Upright.{offset-top, offset-middle, offset-bottom}
 use Rattle.table.proofs.Signs.{difference-fits, difference-is, half-fits, half-is}
-use native.Mathlib.Omega.{arith}
-use mathlib.Core.Path.{_∙_}
-use borrow.Author.Needs.{needs}
 use Rattle.table.proofs.vertical.offset_of.Statement.{statement}
 use Rattle.table.proofs.vertical.offset_of.Tie as tie
 
@@ -16,16 +18,27 @@ cast-difference-2 : tie.Need-cast-difference-2
 cast-difference-2 c = search needs
 
 sub-difference : tie.Need-sub-difference
-sub-difference c = let b = c .before .before .before in difference-fits (b .args .s .height .0) (b .args .text) (b .pre .0 .height) (b .pre .1)
+sub-difference c =
+    let b = c .before .before .before in
+    difference-fits (b .args .s .height .0) (b .args .text) (b .pre .0 .height) (b .pre .1)
 
 div-result : tie.Need-div-result
-div-result c = let b = c .before .before .before .before .before in (omega arith, half-fits (b .args .s .height .0) (b .args .text) (b .pre .0 .height) (b .pre .1))
+div-result c =
+    let b = c .before .before .before .before .before in
+    (omega arith, half-fits (b .args .s .height .0) (b .args .text) (b .pre .0 .height) (b .pre .1))
 
 returns-2 : tie.Need-returns-2
-returns-2 c = let b = c .before .before .before .before .before in half-is (b .args .s .height .0) (b .args .text) (b .pre .0 .height) (b .pre .1) ∙ offset-middle (b .args .s) (b .args .text) (c .if2 .taken)
+returns-2 c =
+    let b = c .before .before .before .before .before in
+    half-is (b .args .s .height .0) (b .args .text) (b .pre .0 .height) (b .pre .1)
+    ∙ offset-middle (b .args .s) (b .args .text) (c .if2 .taken)
 
 returns-3 : tie.Need-returns-3
-returns-3 c = let l = c .before .before .before in let b = l .before .before in difference-is (b .args .s .height .0) (b .args .text) (b .pre .0 .height) (b .pre .1) ∙ offset-bottom (b .args .s) (b .args .text) (l .if1 .left) (c .if2 .left)
+returns-3 c =
+    let l = c .before .before .before in
+    let b = l .before .before in
+    difference-is (b .args .s .height .0) (b .args .text) (b .pre .0 .height) (b .pre .1)
+    ∙ offset-bottom (b .args .s) (b .args .text) (l .if1 .left) (c .if2 .left)
 
 pub offset-of-spec : {M : Type 1} → statement M
 offset-of-spec =

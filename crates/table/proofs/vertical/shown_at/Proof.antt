@@ -1,6 +1,8 @@
-use Rattle.table.proofs.Upright.{shown, hidden}
+-- `table::vertical::shown_at` meets its contract.
+-- Assumes nothing.
 use mathlib.Core.Path.{sym, _∙_}
 use borrow.Author.Needs.{needs}
+use Rattle.table.proofs.Upright.{shown, hidden}
 use Rattle.table.proofs.vertical.shown_at.Statement.{statement}
 use Rattle.table.proofs.vertical.shown_at.Tie as tie
 
@@ -8,10 +10,14 @@ shows-requires : tie.Need-shows-requires
 shows-requires c κs = search needs
 
 returns : tie.Need-returns
-returns c = let b = c .before .before in shown (b .args .s) (b .pre) (b .args .y) (b .fits .y) (sym (c .before .shows .ensures) ∙ c .if1 .taken)
+returns c =
+    let b = c .before .before in
+    shown (b .args .s) (b .pre) (b .args .y) (b .fits .y) (sym (c .before .shows .ensures) ∙ c .if1 .taken)
 
 returns-2 : tie.Need-returns-2
-returns-2 c = let b = c .before .before in hidden (b .args .s) (b .pre) (b .args .y) (b .fits .y) (sym (c .before .shows .ensures) ∙ c .if1 .left)
+returns-2 c =
+    let b = c .before .before in
+    hidden (b .args .s) (b .pre) (b .args .y) (b .fits .y) (sym (c .before .shows .ensures) ∙ c .if1 .left)
 
 pub shown-at-spec : {M : Type 1} → statement M
 shown-at-spec = tie.close (tie.spec shows-requires returns returns-2)

@@ -1,5 +1,7 @@
-use Rattle.table.proofs.Upright.{bottom-fits, lowest-fits, shows-is}
+-- `table::vertical::shows` meets its contract.
+-- Assumes nothing.
 use borrow.Author.Needs.{needs}
+use Rattle.table.proofs.Upright.{bottom-fits, lowest-fits, shows-is}
 use Rattle.table.proofs.vertical.shows.Statement.{statement}
 use Rattle.table.proofs.vertical.shows.Tie as tie
 

@@ -1,5 +1,7 @@
-use Rattle.table.proofs.LineByLine.{reach-none, reach-last}
+-- `table::well_formed::last_reach` meets its contract.
+-- Assumes nothing.
 use borrow.Author.Needs.{needs}
+use Rattle.table.proofs.LineByLine.{reach-none, reach-last}
 use Rattle.table.proofs.well_formed.last_reach.Statement.{statement}
 use Rattle.table.proofs.well_formed.last_reach.Tie as tie
 
