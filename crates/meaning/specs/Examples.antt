@@ -28,41 +28,31 @@ unfoldable pub codes : String → List ℕ
 codes string.[] = []
 codes (string._∷_ c s) = code c ∷ codes s
 
--- The examples' settings: glyph 6, tab 24, left, leading on, trailing off. What height and y take plays no part.
-abbrev pub box : ℕ → Settings
-box w =
+-- The settings that a layout depends on, but for the tab, which is 24 wide. What height and y take plays no part.
+abbrev pub laidOut : (glyph width alignment leading trailing : ℕ) → Settings
+laidOut glyph width alignment leading trailing =
     record {
-      glyph = record { 0 = 6 };
-      width = record { 0 = w };
+      glyph = record { 0 = glyph };
+      width = record { 0 = width };
       tab = record { 0 = 24 };
       spacing = record { 0 = 0 };
       paragraph = record { 0 = 0 };
       base = record { 0 = 1 };
       height = record { 0 = 0 };
       top = pos 0;
-      alignment = 0;
+      alignment = alignment;
       vertical = 0;
-      leading = 1;
-      trailing = 0;
+      leading = leading;
+      trailing = trailing;
     }
+
+-- The examples' settings: glyph 6, left, leading on, trailing off.
+abbrev pub box : ℕ → Settings
+box w = laidOut 6 w 0 1 0
 
 -- Justified, leading off.
 abbrev pub justifiedBox : ℕ → Settings
-justifiedBox w =
-    record {
-      glyph = record { 0 = 6 };
-      width = record { 0 = w };
-      tab = record { 0 = 24 };
-      spacing = record { 0 = 0 };
-      paragraph = record { 0 = 0 };
-      base = record { 0 = 1 };
-      height = record { 0 = 0 };
-      top = pos 0;
-      alignment = 3;
-      vertical = 0;
-      leading = 0;
-      trailing = 0;
-    }
+justifiedBox w = laidOut 6 w 3 0 0
 
 -- A text in a box, the ten numbers of each of its lines, and the six of each of its events.
 pub record Example : Type 0 where
@@ -133,6 +123,18 @@ examples =
     ((0 ∷ 0 ∷ 0 ∷ 3 ∷ 0 ∷ 7 ∷ 0 ∷ 48 ∷ 0 ∷ 11 ∷ []) ∷ (10 ∷ 0 ∷ 0 ∷ 2 ∷ 0 ∷ 6 ∷ 0 ∷ 12 ∷ 0 ∷ 13 ∷ []) ∷ [])
     ((0 ∷ 0 ∷ 1 ∷ 1 ∷ 0 ∷ 0 ∷ []) ∷ (1 ∷ 1 ∷ 3 ∷ 0 ∷ 12 ∷ 0 ∷ []) ∷ (0 ∷ 3 ∷ 4 ∷ 1 ∷ 7 ∷ 12 ∷ []) ∷ (1 ∷ 4 ∷ 6 ∷ 0 ∷ 12 ∷ 19 ∷ [])
     ∷ (0 ∷ 6 ∷ 7 ∷ 1 ∷ 7 ∷ 31 ∷ []) ∷ (1 ∷ 7 ∷ 9 ∷ 0 ∷ 12 ∷ 38 ∷ []) ∷ (1 ∷ 10 ∷ 12 ∷ 0 ∷ 12 ∷ 0 ∷ []) ∷ [])
+    -- centred, and a line feed, which is drawn as a space of no width
+    ∷ example (laidOut 6 30 1 0 0) "ab\ncd"
+    ((0 ∷ 0 ∷ 0 ∷ 0 ∷ 9 ∷ 6 ∷ 0 ∷ 12 ∷ 0 ∷ 3 ∷ []) ∷ (3 ∷ 0 ∷ 0 ∷ 2 ∷ 9 ∷ 6 ∷ 0 ∷ 12 ∷ 0 ∷ 6 ∷ []) ∷ [])
+    ((1 ∷ 0 ∷ 2 ∷ 0 ∷ 12 ∷ 9 ∷ []) ∷ (0 ∷ 2 ∷ 3 ∷ 0 ∷ 0 ∷ 21 ∷ []) ∷ (1 ∷ 3 ∷ 5 ∷ 0 ∷ 12 ∷ 9 ∷ []) ∷ [])
+    -- to the right with trailing spaces on, which count in the width
+    ∷ example (laidOut 5 23 2 0 1) "ab  "
+    ((0 ∷ 0 ∷ 0 ∷ 2 ∷ 3 ∷ 5 ∷ 0 ∷ 20 ∷ 0 ∷ 5 ∷ []) ∷ [])
+    ((1 ∷ 0 ∷ 2 ∷ 0 ∷ 10 ∷ 3 ∷ []) ∷ (0 ∷ 2 ∷ 4 ∷ 2 ∷ 10 ∷ 13 ∷ []) ∷ [])
+    -- a carriage return
+    ∷ example (box 30) "ab\rcd"
+    ((0 ∷ 0 ∷ 0 ∷ 1 ∷ 0 ∷ 6 ∷ 0 ∷ 12 ∷ 0 ∷ 3 ∷ []) ∷ (3 ∷ 0 ∷ 0 ∷ 2 ∷ 0 ∷ 6 ∷ 0 ∷ 12 ∷ 0 ∷ 6 ∷ []) ∷ [])
+    ((1 ∷ 0 ∷ 2 ∷ 0 ∷ 12 ∷ 0 ∷ []) ∷ (0 ∷ 2 ∷ 3 ∷ 0 ∷ 0 ∷ 12 ∷ []) ∷ (1 ∷ 3 ∷ 5 ∷ 0 ∷ 12 ∷ 0 ∷ []) ∷ [])
     -- the clue that lost a streak: an indent as wide as the column drops "not", and the line says so
     ∷ example (box 30) "     not the baker"
     ((0 ∷ 0 ∷ 0 ∷ 3 ∷ 0 ∷ 6 ∷ 0 ∷ 0 ∷ 3 ∷ 9 ∷ []) ∷ (8 ∷ 0 ∷ 0 ∷ 3 ∷ 0 ∷ 6 ∷ 0 ∷ 24 ∷ 0 ∷ 19 ∷ [])
