@@ -3,9 +3,10 @@ use checks::refusals::number;
 use checks::refusals::value;
 use meaning::answers::Affected;
 use meaning::answers::Height;
+use meaning::answers::Laid;
 use meaning::answers::Tokenized;
 ghost use mathlib.Core.Path.{_≡_};
-ghost use Rattle.meaning.specs.Answers.{tokensNumber, tokensValue, affectedNumber, affectedValue, heightNumber, heightValue};
+ghost use Rattle.meaning.specs.Answers.{tokensNumber, tokensValue, layoutNumber, layoutValue, affectedNumber, affectedValue, heightNumber, heightValue};
 
 pub fn tokens_number(a: Tokenized) -> u32
     ensures { λ r. ⌜ r ≡ tokensNumber a ⌝ }
@@ -22,6 +23,24 @@ pub fn tokens_value(a: Tokenized) -> u64
     match a {
         Tokenized::Tokens(n) => n,
         Tokenized::Refused(refusal) => value(refusal),
+    }
+}
+
+pub fn layout_number(a: Laid) -> u32
+    ensures { λ r. ⌜ r ≡ layoutNumber a ⌝ }
+{
+    match a {
+        Laid::Lines(_) => 0,
+        Laid::Refused(refusal) => number(refusal),
+    }
+}
+
+pub fn layout_value(a: Laid) -> u64
+    ensures { λ r. ⌜ r ≡ layoutValue a ⌝ }
+{
+    match a {
+        Laid::Lines(n) => n,
+        Laid::Refused(refusal) => value(refusal),
     }
 }
 

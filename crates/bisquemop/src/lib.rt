@@ -5,12 +5,15 @@ use answers::affected_number;
 use answers::affected_value;
 use answers::height_number;
 use answers::height_value;
+use answers::layout_number;
+use answers::layout_value;
 use answers::tokens_number;
 use answers::tokens_value;
 use checks::refusals::checked_number;
 use checks::refusals::checked_value;
 use checks::settings::check_settings;
 use checks::text::check_text;
+use layout::fresh::layout;
 use meaning::counts::Offset;
 use meaning::counts::Pixels;
 use meaning::edit::Edit;
@@ -22,8 +25,8 @@ ghost use mathlib.Core.Path.{_≡_};
 ghost use Rattle.meaning.specs.Settings.{settingsOf};
 ghost use Rattle.meaning.specs.Refusals.{checkedNumber, checkedValue};
 ghost use Rattle.meaning.specs.Checks.{checkSettings, checkText};
-ghost use Rattle.meaning.specs.Answers.{tokensNumber, tokensValue, affectedNumber, affectedValue, heightNumber, heightValue};
-ghost use Rattle.meaning.specs.Calls.{tokensAnswer, tokensBuffer, affectedAnswer, heightAnswer};
+ghost use Rattle.meaning.specs.Answers.{tokensNumber, tokensValue, layoutNumber, layoutValue, affectedNumber, affectedValue, heightNumber, heightValue};
+ghost use Rattle.meaning.specs.Calls.{tokensAnswer, tokensBuffer, layoutAnswer, layoutTable, affectedAnswer, heightAnswer};
 ghost use Rattle.bisquemop.specs.Edits.{editOf};
 
 #[no_mangle]
@@ -83,6 +86,47 @@ pub extern "C" fn bisquemop_tokens(text: &[u8], tokens: &mut [u32], value: &mut 
     let answer = tokenize(text, tokens);
     *value = tokens_value(answer);
     tokens_number(answer)
+}
+
+#[no_mangle]
+pub extern "C" fn bisquemop_layout(
+    glyph: u32,
+    width: u32,
+    tab: u32,
+    spacing: u32,
+    paragraph: u32,
+    base: u32,
+    height: u32,
+    top: i32,
+    alignment: u32,
+    vertical: u32,
+    leading: u32,
+    trailing: u32,
+    text: &[u8],
+    table: &mut [u32],
+    value: &mut u64,
+) -> u32
+    ensures { λ r. ⌜ r ≡ layoutNumber (layoutAnswer (settingsOf glyph width tab spacing paragraph base height top alignment vertical leading trailing) (now (text .entry)) (now (table .entry))) ⌝ }
+    ensures { λ r. ⌜ now (table .exit) ≡ layoutTable (settingsOf glyph width tab spacing paragraph base height top alignment vertical leading trailing) (now (text .entry)) (now (table .entry)) ⌝ }
+    ensures { λ r. ⌜ now (value .exit) ≡ layoutValue (layoutAnswer (settingsOf glyph width tab spacing paragraph base height top alignment vertical leading trailing) (now (text .entry)) (now (table .entry))) ⌝ }
+{
+    let s = Settings {
+        glyph: Pixels(glyph),
+        width: Pixels(width),
+        tab: Pixels(tab),
+        spacing: Pixels(spacing),
+        paragraph: Pixels(paragraph),
+        base: Pixels(base),
+        height: Pixels(height),
+        top,
+        alignment,
+        vertical,
+        leading,
+        trailing,
+    };
+    let answer = layout(s, text, table);
+    *value = layout_value(answer);
+    layout_number(answer)
 }
 
 #[no_mangle]

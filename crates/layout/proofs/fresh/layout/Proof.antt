@@ -1,0 +1,66 @@
+-- `layout` meets its contract.
+-- Assumes nothing.
+use mathlib.Core.Path.{sym, _∙_}
+use Rattle.layout.proofs.FreshLaws.{refused-settings, refused-text}
+use borrow.Author.Needs.{needs}
+use Rattle.layout.proofs.fresh.layout.Statement.{statement}
+use Rattle.layout.proofs.fresh.layout.Tie as tie
+
+check-settings-requires : tie.Need-check-settings-requires
+check-settings-requires c κs = search needs
+
+enum-known-settings : tie.Need-enum-known-settings
+enum-known-settings c = search needs
+
+returns : tie.Need-returns
+returns c =
+    let e = c .before in
+    refused-settings _ _ _ _ (sym (e .before .before .check-settings .ensures) ∙ e .settings .given .1)
+
+enum-told : tie.Need-enum-told
+enum-told c = search needs
+
+check-text-requires : tie.Need-check-text-requires
+check-text-requires c κs = search needs
+
+enum-known-checked : tie.Need-enum-known-checked
+enum-known-checked c = search needs
+
+returns-2 : tie.Need-returns-2
+returns-2 c =
+    let e = c .before in
+    let x = e .before .before in
+    let g = x .before in
+    refused-text _ _ _ (sym (g .before .before .check-settings .ensures) ∙ g .enum-told .given .1) _ (sym (x .check-text .ensures) ∙ e .checked .given .1)
+
+enum-told-2 : tie.Need-enum-told-2
+enum-told-2 c = search needs
+
+lay-in-requires : tie.Need-lay-in-requires
+lay-in-requires c κs =
+    let e = c .before in
+    let x = e .before .before in
+    let g = x .before in
+    (sym (g .before .before .check-settings .ensures) ∙ g .enum-told .given .1, sym (x .check-text .ensures) ∙ e .enum-told2 .given .1)
+
+same-length : tie.Need-same-length
+same-length c = search needs
+
+returns-3 : tie.Need-returns-3
+returns-3 c = search needs
+
+pub layout-spec : {M : Type 1} → statement M
+layout-spec =
+    tie.close
+    (tie.spec
+    check-settings-requires
+    enum-known-settings
+    returns
+    enum-told
+    check-text-requires
+    enum-known-checked
+    returns-2
+    enum-told-2
+    lay-in-requires
+    same-length
+    returns-3)

@@ -1,0 +1,81 @@
+-- What the checks of settings and text say for the lines: no sum wraps, and there are few of them.
+-- Assumes nothing.
+use Prim.Native.Nat.{ℕ, suc, _+_, _≤_}
+use native.Mathlib.Omega.{arith}
+use mathlib.Core.Path.{_≡_, refl}
+use mathlib.Core.Bool.{true, _&&_}
+use mathlib.Core.List.{List, map}
+use borrow.Author.Tests.{leb-true}
+use lib.Dec.{leb}
+use lib.ListN.{length, length-map}
+use Rattle.basis.specs.Choice.{pick, and-true}
+use Rattle.basis.specs.Order.{within, within-true}
+use Rattle.meaning.specs.Settings.{topInRange, sizesInRange, inRange, isSwitch, knownAlignment, knownVertical}
+use Rattle.meaning.specs.Checks.{checkSettings, checkText}
+use Rattle.meaning.specs.Layout.{rows, entryOfRow}
+use Rattle.meaning.specs.Calls.{textRows, textEntries}
+use Rattle.meaning.specs.declared.settings.Settings.{Settings}
+use Rattle.meaning.specs.declared.refusals.Refusal.the-variants.{SettingOutOfRange, UnknownAlignment}
+use Rattle.meaning.specs.declared.refusals.Checked.the-variants.{Good, Refused}
+use Rattle.laws.specs.LayoutBounds.{few-lines}
+use Rattle.laws.specs.TokenLaws.{length-size}
+use Rattle.parser.specs.Lexing.{charsFrom}
+use Rattle.parser.proofs.TokenizeLaws.{good-length}
+use Rattle.rendering.specs.Fine.{FineSettings}
+use Rattle.rendering.specs.Lexed.{chars-within}
+use Rattle.table.specs.GoodTable.{good-both}
+use Rattle.layout.specs.RowsFrom.{TextReady, entriesOf}
+
+module _ (s : Settings) (h : checkSettings s ≡ Good) where
+  judged : (inRange s ≡ true) × (knownAlignment (s .alignment) ≡ true)
+  unfolding checkSettings
+  judged =
+      let vertical = pick (knownVertical (s .vertical)) Good (Refused (UnknownAlignment (s .vertical))) in
+      let a = good-both (inRange s) (pick (knownAlignment (s .alignment)) vertical (Refused (UnknownAlignment (s .alignment)))) SettingOutOfRange h in
+      (a .0, good-both (knownAlignment (s .alignment)) vertical (UnknownAlignment (s .alignment)) (a .1) .0)
+
+  fine-settings : FineSettings s
+  unfolding inRange sizesInRange
+  fine-settings =
+      let g = within 1 64 (s .glyph .0) in
+      let w = leb (s .width .0) 4096 in
+      let a = leb (s .tab .0) 4096 in
+      let b = leb (s .spacing .0) 4096 in
+      let c = leb (s .paragraph .0) 4096 in
+      let d = within 1 64 (s .base .0) in
+      let e = leb (s .height .0) 4096 in
+      let t = topInRange (s .top) in
+      let l = isSwitch (s .leading) in
+      let all = and-true (g && w && a && b && c && d && e && t && l) (isSwitch (s .trailing)) (judged .0) in
+      let leading = and-true (g && w && a && b && c && d && e && t) l (all .0) in
+      let top = and-true (g && w && a && b && c && d && e) t (leading .0) in
+      let height = and-true (g && w && a && b && c && d) e (top .0) in
+      let base = and-true (g && w && a && b && c) d (height .0) in
+      let paragraph = and-true (g && w && a && b) c (base .0) in
+      let spacing = and-true (g && w && a) b (paragraph .0) in
+      let tab = and-true (g && w) a (spacing .0) in
+      let width = and-true g w (tab .0) in
+      let glyph = within-true 1 64 (s .glyph .0) (width .0) in (
+        glyph .0,
+        glyph .1,
+        leb-true (s .width .0) 4096 (width .1),
+        leb-true (s .tab .0) 4096 (tab .1),
+        leb-true (s .alignment) 3 (judged .1),
+        leb-true (s .leading) 1 (leading .1),
+        leb-true (s .trailing) 1 (all .1),
+      )
+
+  pub text-ready : (t : List ℕ) → checkText t ≡ Good → TextReady s t
+  text-ready t e = record { settings = fine-settings; short = good-length t e }
+
+-- The entries that the definitions of the call speak of.
+pub entries-are : (s : Settings) (t : List ℕ) → entriesOf s t ≡ textEntries s t
+unfolding entriesOf textEntries textRows charsFrom
+entries-are s t = refl
+
+-- At most one line more than bytes.
+pub few-entries : (s : Settings) (t : List ℕ) → length (entriesOf s t) ≤ length t + 1
+unfolding entriesOf
+few-entries s t =
+    let cs = charsFrom t 0 in
+    rw length-map (omega (arith, few-lines s cs, length-size cs, chars-within t 0))

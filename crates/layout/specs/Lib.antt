@@ -1,0 +1,5 @@
+pub mod RowsFrom
+pub mod Writing
+pub mod Answering
+pub mod Turns
+pub mod GoodInput

@@ -1,0 +1,3 @@
+// The public calls that lay a text.
+pub mod fresh;
+mod lines;

@@ -1,0 +1,12 @@
+pub mod DrawLaws
+pub mod FitsLaws
+pub mod HyphenLaws
+pub mod KindLaws
+pub mod LayLaws
+pub mod MoveLaws
+pub mod PassLaws
+pub mod RestLaws
+pub mod RunLaws
+pub mod TabLaws
+pub mod WidthLaws
+pub mod WordLaws

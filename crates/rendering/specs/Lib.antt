@@ -1,0 +1,17 @@
+pub mod Ahead
+pub mod Fine
+pub mod FineLaws
+pub mod Lexed
+pub mod PlaceLaws
+pub mod Stepping
+pub mod FineSteps
+pub mod FinePass
+pub mod Unrolled
+pub mod LineFrom
+pub mod Ready
+pub mod Pending
+pub mod Stopping
+pub mod Running
+pub mod Runs
+pub mod Laying
+pub mod LineLaws

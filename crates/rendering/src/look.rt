@@ -1,0 +1,14 @@
+use meaning::counts::Offset;
+use meaning::cursor::NextWord;
+
+// Whether the next word fits, and the offset after the furthest character looked at.
+pub struct Look {
+    pub fits: bool,
+    pub reach: Offset,
+}
+
+// The next word's width, and the offset after the furthest character looked at.
+pub struct WidthAhead {
+    pub width: NextWord,
+    pub reach: Offset,
+}

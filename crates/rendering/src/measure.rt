@@ -1,0 +1,70 @@
+// What was measured so far (rule 10).
+use meaning::counts::Chars;
+use meaning::counts::Pixels;
+use meaning::line::Measure;
+use meaning::settings::Settings;
+ghost use Prim.Native.Nat.{_+_, _<_};
+ghost use mathlib.Core.Path.{_≡_};
+ghost use Rattle.meaning.specs.Line.{noted, unmeasured, measuredWidth, measuredCount};
+ghost use Rattle.meaning.specs.declared.line.EventKind.the-variants.{Space, Printed};
+
+// Nothing is drawn yet.
+pub fn nothing_measured() -> Measure
+    ensures { λ r. ⌜ r ≡ unmeasured ⌝ }
+{
+    Measure {
+        pen: Pixels(0),
+        spaces: Chars(0),
+        width: Pixels(0),
+        count: Chars(0),
+    }
+}
+
+// Spaces or a move: the pen and the spaces counted grow.
+pub fn noted_space(m: Measure, count: u32, width: u32) -> Measure
+    requires { ⌜ (m .pen .0 + width < 4294967296) × (m .spaces .0 + count < 4294967296) ⌝ }
+    ensures { λ r. ⌜ r ≡ noted Space (m .pen .0 + width) (m .spaces .0 + count) m ⌝ }
+{
+    let last = m.width;
+    let before = m.count;
+    Measure {
+        pen: Pixels(m.pen.0 + width),
+        spaces: Chars(m.spaces.0 + count),
+        width: last,
+        count: before,
+    }
+}
+
+// A print, which counts no space: width and count become the pen and the spaces.
+pub fn noted_print(m: Measure, width: u32) -> Measure
+    requires { ⌜ m .pen .0 + width < 4294967296 ⌝ }
+    ensures { λ r. ⌜ r ≡ noted Printed (m .pen .0 + width) (m .spaces .0 + 0) m ⌝ }
+{
+    let pen = Pixels(m.pen.0 + width);
+    let spaces = m.spaces;
+    Measure {
+        pen,
+        spaces,
+        width: pen,
+        count: spaces,
+    }
+}
+
+// The measured width: with trailing spaces on, those at the line's end count.
+pub fn measured_width(s: Settings, m: Measure) -> u32
+    ensures { λ r. ⌜ r ≡ measuredWidth s m ⌝ }
+{
+    if s.trailing == 1 {
+        return m.pen.0;
+    }
+    m.width.0
+}
+
+pub fn measured_count(s: Settings, m: Measure) -> u32
+    ensures { λ r. ⌜ r ≡ measuredCount s m ⌝ }
+{
+    if s.trailing == 1 {
+        return m.spaces.0;
+    }
+    m.count.0
+}
