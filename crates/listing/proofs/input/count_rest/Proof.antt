@@ -1,7 +1,7 @@
 use Prim.Native.Nat.{_≤_, _-_, _+_, _^_}
 use borrow.Author.Needs.{needs}
-use Rattle.textcheck.proofs.input.count_rest.Statement.{statement}
-use Rattle.textcheck.proofs.input.count_rest.Tie as tie
+use Rattle.listing.proofs.input.count_rest.Statement.{statement}
+use Rattle.listing.proofs.input.count_rest.Tie as tie
 
 abbrev Inv-loop : tie.InvT-loop
 Inv-loop bytes₀ bytes = bytes ≤ 2 ^ 62 + 2 ^ 16

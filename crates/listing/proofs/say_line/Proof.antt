@@ -1,0 +1,77 @@
+use Prim.Native.Nat.{_≤_, _-_}
+use borrow.Author.Needs.{needs}
+use Rattle.listing.proofs.say_line.Statement.{statement}
+use Rattle.listing.proofs.say_line.Tie as tie
+
+abbrev Inv-loop : tie.InvT-loop
+Inv-loop table from i₀ t4 t5 i = i ≤ 9
+
+abbrev μ-loop : tie.MeasureT-loop
+μ-loop table from i₀ t4 t5 i = 9 - i
+
+loop-holds : tie.Need-loop-holds Inv-loop μ-loop
+loop-holds c = search needs
+
+add-say-number : tie.Need-add-say-number Inv-loop μ-loop
+add-say-number c = search needs
+
+mul-say-number : tie.Need-mul-say-number Inv-loop μ-loop
+mul-say-number c = search needs
+
+shared-slice-read-say-number : tie.Need-shared-slice-read-say-number Inv-loop μ-loop
+shared-slice-read-say-number c = search needs
+
+slice-aggregate-say-number : tie.Need-slice-aggregate-say-number Inv-loop μ-loop
+slice-aggregate-say-number c = search needs
+
+say-number-requires : tie.Need-say-number-requires Inv-loop μ-loop
+say-number-requires c κs = search needs
+
+add-i : tie.Need-add-i Inv-loop μ-loop
+add-i c = search needs
+
+loop-less : tie.Need-loop-less Inv-loop μ-loop
+loop-less c = search needs
+
+loop-again : tie.Need-loop-again Inv-loop μ-loop
+loop-again c = search needs
+
+add-say-number-2 : tie.Need-add-say-number-2 Inv-loop μ-loop
+add-say-number-2 c = search needs
+
+mul-say-number-2 : tie.Need-mul-say-number-2 Inv-loop μ-loop
+mul-say-number-2 c = search needs
+
+shared-slice-read-say-number-2 : tie.Need-shared-slice-read-say-number-2 Inv-loop μ-loop
+shared-slice-read-say-number-2 c = search needs
+
+slice-aggregate-say-number-2 : tie.Need-slice-aggregate-say-number-2 Inv-loop μ-loop
+slice-aggregate-say-number-2 c = search needs
+
+say-number-requires-2 : tie.Need-say-number-requires-2 Inv-loop μ-loop
+say-number-requires-2 c κs = search needs
+
+returns : tie.Need-returns Inv-loop μ-loop
+returns c = search needs
+
+pub say-line-spec : {M : Type 1} → statement M
+say-line-spec =
+    tie.close
+    (tie.spec
+    Inv-loop
+    μ-loop
+    loop-holds
+    add-say-number
+    mul-say-number
+    shared-slice-read-say-number
+    slice-aggregate-say-number
+    say-number-requires
+    add-i
+    loop-less
+    loop-again
+    add-say-number-2
+    mul-say-number-2
+    shared-slice-read-say-number-2
+    slice-aggregate-say-number-2
+    say-number-requires-2
+    returns)
