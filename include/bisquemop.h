@@ -1,15 +1,21 @@
 /*
  * Bisquemop lays text in a box where every character has the same width, and says for each line where it starts, where
- * it ends and where it is drawn. This version has the two checks that come before any layout: of the settings, and of
- * the text.
+ * it ends and where it is drawn. This version checks settings and texts, splits a text into tokens, lays a text into a
+ * table of lines, says from such a table which line an edit affects first, and how high the lines stand. What is drawn
+ * inside a line, laying again after an edit, and the y of each line are still to come.
  *
  * Link with libbisquemop.a (x86-64 Linux). The header is C99, and C++ can include it too.
  *
  * What holds of every call:
- *  - It returns 0 when all is good, and else the number of the first test that failed (enum bisquemop_refusal).
- *  - It always writes *value, and nothing else: 0 when all is good, and else what goes with the number returned.
+ *  - It returns 0 when done, and else the number of the first test that failed (enum bisquemop_refusal).
+ *  - It always writes *value: when done what the call answers, and else what goes with the number returned.
+ *  - When it refuses it writes nothing else. A buffer then holds what it held.
  *  - It allocates nothing, keeps no pointer and has no state, so threads may call it side by side.
- *  - `value` points to a uint64_t of the caller's that the text does not overlap. It must not be NULL.
+ *  - `value` points to a uint64_t of the caller's. It must not be NULL.
+ *  - A buffer is a pointer and the number of its elements, not of its bytes, and may be NULL if that number is 0.
+ *  - The text, the buffer and *value must not overlap one another.
+ *
+ * Offsets are in bytes from the text's start, widths and heights in pixels, counts in characters.
  */
 #ifndef BISQUEMOP_H
 #define BISQUEMOP_H
@@ -27,7 +33,11 @@ enum bisquemop_refusal {
     BISQUEMOP_SETTING_OUT_OF_RANGE = 1,
     BISQUEMOP_UNKNOWN_ALIGNMENT = 2,
     BISQUEMOP_TEXT_TOO_LONG = 3,
-    BISQUEMOP_NOT_UTF8 = 4
+    BISQUEMOP_NOT_UTF8 = 4,
+    BISQUEMOP_BAD_LINE = 5,
+    BISQUEMOP_BAD_EDIT = 6,
+    BISQUEMOP_LINE_TAKES_NOTHING = 7, /* proved never to be returned */
+    BISQUEMOP_TOO_SMALL = 8
 };
 
 /* How a line stands between the sides of the box. */
@@ -58,6 +68,51 @@ enum bisquemop_vertical {
 #define BISQUEMOP_HEIGHT_MAX 4096
 #define BISQUEMOP_TOP_MIN (-4096)
 #define BISQUEMOP_TOP_MAX 4096
+
+/* The columns of a line in a table: line k's number of a column stands at BISQUEMOP_LINE_NUMBERS * k + the column. */
+enum bisquemop_line_column {
+    BISQUEMOP_LINE_START = 0,      /* the offset where the line starts */
+    BISQUEMOP_LINE_REST_END = 1,   /* if the line before cut a run of spaces, the offset where the rest ends that this
+                                      line starts with; else 0 */
+    BISQUEMOP_LINE_REST_COUNT = 2, /* how many spaces that rest counts as; 0 if there is none */
+    BISQUEMOP_LINE_END = 3,        /* how the line ends: one of enum bisquemop_end */
+    BISQUEMOP_LINE_LEFT = 4,       /* how far from the box's left side the line is drawn */
+    BISQUEMOP_LINE_SPACE = 5,      /* the width of a space */
+    BISQUEMOP_LINE_EXTRA = 6,      /* so many of the line's first spaces are one pixel wider, each */
+    BISQUEMOP_LINE_WIDTH = 7,      /* the width measured, with plain spaces */
+    BISQUEMOP_LINE_DROPPED = 8,    /* how many characters belong to words dropped here, which no line draws */
+    BISQUEMOP_LINE_REACH = 9       /* the offset after the furthest character that the line depends on, and the text's
+                                      length plus 1 if it depends on where the text ends */
+};
+#define BISQUEMOP_LINE_NUMBERS 10 /* how many numbers a line has in a table */
+
+/* How a line ends. The last line of a text ends by the end of the text, and no other does. */
+enum bisquemop_end {
+    BISQUEMOP_END_NEW_LINE = 0,
+    BISQUEMOP_END_CARRIAGE_RETURN = 1,
+    BISQUEMOP_END_END_OF_TEXT = 2,
+    BISQUEMOP_END_LINE_BREAK = 3 /* the line is full */
+};
+
+/* The columns of a token: token k's number of a column stands at BISQUEMOP_TOKEN_NUMBERS * k + the column. */
+enum bisquemop_token_column {
+    BISQUEMOP_TOKEN_KIND = 0,  /* one of enum bisquemop_kind */
+    BISQUEMOP_TOKEN_START = 1, /* the offset of its first byte */
+    BISQUEMOP_TOKEN_END = 2,   /* the offset after its last byte, where the next token starts */
+    BISQUEMOP_TOKEN_COUNT = 3  /* of white space the spaces that it counts as, else 0 */
+};
+#define BISQUEMOP_TOKEN_NUMBERS 4 /* how many numbers a token has in a buffer */
+
+/* What a token is. */
+enum bisquemop_kind {
+    BISQUEMOP_KIND_NEW_LINE = 0,        /* U+000A */
+    BISQUEMOP_KIND_CARRIAGE_RETURN = 1, /* U+000D */
+    BISQUEMOP_KIND_TAB = 2,             /* U+0009 */
+    BISQUEMOP_KIND_WHITESPACE = 3,      /* other white space as long as it goes on, U+00A0 not being one, and U+200B,
+                                           which counts 0 and stands alone where a token starts with it */
+    BISQUEMOP_KIND_WORD = 4,            /* other characters, U+00A0 among them, as long as they go on */
+    BISQUEMOP_KIND_BREAK = 5            /* U+00AD, where a word may be broken */
+};
 
 /* How a text is laid: eight numbers of pixels, two alignments and two switches. */
 struct bisquemop_settings {
@@ -101,6 +156,88 @@ static inline uint32_t bisquemop_settings_check(const struct bisquemop_settings 
  *   BISQUEMOP_NOT_UTF8       it is not UTF-8; *value is the length in bytes of its longest prefix that is
  */
 uint32_t bisquemop_check_text(const uint8_t *text, size_t len, uint64_t *value);
+
+/*
+ * Splits the `len` bytes at `text` into tokens, which follow one another and cover the text, and writes four numbers
+ * (enum bisquemop_token_column) for each to `tokens`, which has `tokens_len` numbers. One token for each byte of the
+ * text, 4 * len numbers, is surely enough. Numbers past the last token written keep what they held. Returns
+ *   BISQUEMOP_OK             done; *value is how many tokens were written
+ *   BISQUEMOP_TEXT_TOO_LONG  as by bisquemop_check_text; *value is `len`
+ *   BISQUEMOP_NOT_UTF8       as by bisquemop_check_text; *value is the length of its longest valid prefix
+ *   BISQUEMOP_TOO_SMALL      `tokens` has no room for all; *value is how many tokens there are
+ */
+uint32_t bisquemop_tokens(const uint8_t *text, size_t len, uint32_t *tokens, size_t tokens_len, uint64_t *value);
+
+/*
+ * Lays the `len` bytes at `text` by the twelve settings, and writes ten numbers (enum bisquemop_line_column) for each
+ * line to `table`, which has `table_len` numbers. One line more than the text has bytes, 10 * (len + 1) numbers, is
+ * surely enough. There is always a line, though the text be empty. Numbers past the last line written keep what they
+ * held. The numbers do not depend on the spacings, the heights, the top and the vertical alignment. Returns
+ *   BISQUEMOP_OK                    done; *value is how many lines were written
+ *   BISQUEMOP_SETTING_OUT_OF_RANGE  as by bisquemop_check_settings; *value is 0
+ *   BISQUEMOP_UNKNOWN_ALIGNMENT     as by bisquemop_check_settings; *value is the number that was given
+ *   BISQUEMOP_TEXT_TOO_LONG         as by bisquemop_check_text; *value is `len`
+ *   BISQUEMOP_NOT_UTF8              as by bisquemop_check_text; *value is the length of its longest valid prefix
+ *   BISQUEMOP_TOO_SMALL             `table` has no room for all; *value is how many lines there are
+ */
+uint32_t bisquemop_layout(uint32_t glyph, uint32_t width, uint32_t tab, uint32_t spacing, uint32_t paragraph,
+                          uint32_t base, uint32_t height, int32_t top, uint32_t alignment, uint32_t vertical,
+                          uint32_t leading, uint32_t trailing, const uint8_t *text, size_t len, uint32_t *table,
+                          size_t table_len, uint64_t *value);
+
+/* The same for settings in a struct, which must not be NULL. */
+static inline uint32_t bisquemop_settings_layout(const struct bisquemop_settings *s, const uint8_t *text, size_t len,
+                                                 uint32_t *table, size_t table_len, uint64_t *value)
+{
+    return bisquemop_layout(s->glyph, s->width, s->tab, s->spacing, s->paragraph, s->base, s->height, s->top,
+                            s->alignment, s->vertical, s->leading, s->trailing, text, len, table, table_len, value);
+}
+
+/*
+ * The next calls read a table that a layout wrote, and the caller says how many lines it holds. What they check is
+ * this: the last reach, which is the text's length plus 1, is 1 to 65,536; starts rise strictly from 0, and none passes
+ * the text's length or the reach before it; end types are known, and the last line and no other ends by the end of the
+ * text; no reach passes the last one; a rest ends above its line's start, and at most at the text's length and the
+ * reach before it, and counts at most its bytes; line 0 has no rest. They look at no line past the count.
+ */
+
+/*
+ * Says which line is the first that an edit affects. The `table_len` numbers at `table` hold the `lines` lines of the
+ * old text, whose length the last line's reach says. The edit replaces the old text's bytes from `a` up to `b` by
+ * `inserted` new ones. No line before the one answered changes, and it may stand before the line that holds `a`: it is
+ * the first whose reach is above `a`. The table is only read. Returns
+ *   BISQUEMOP_OK             done; *value is the line, counted from 0
+ *   BISQUEMOP_TEXT_TOO_LONG  the edited text has more than 65,535 bytes; *value is its length
+ *   BISQUEMOP_BAD_LINE       a line breaks what is said above; *value is the first that does, and 0 too if `lines` is 0
+ *                            or more than `table` has room for, or if the last reach is not 1 to 65,536
+ *   BISQUEMOP_BAD_EDIT       `a` is above `b`, or `b` above the old text's length; *value is 0
+ * An edited text that is too long is looked for only where the table and the edit are good, so 5 and 6 can be returned
+ * whatever `inserted` is.
+ */
+uint32_t bisquemop_first_affected(const uint32_t *table, size_t table_len, uint64_t lines, uint32_t a, uint32_t b,
+                                  uint32_t inserted, uint64_t *value);
+
+/*
+ * The height of a text whose `lines` lines the `table_len` numbers at `table` hold: `base`, plus `spacing` for each
+ * line that ends by a new line or is full, plus `paragraph` for each that ends by a new line. A full line before a last
+ * line that starts at the text's end adds nothing. The table is only read. Returns
+ *   BISQUEMOP_OK                    done; *value is the height in pixels, which may be more than the box's
+ *   BISQUEMOP_SETTING_OUT_OF_RANGE  as by bisquemop_check_settings; *value is 0
+ *   BISQUEMOP_UNKNOWN_ALIGNMENT     as by bisquemop_check_settings; *value is the number that was given
+ *   BISQUEMOP_BAD_LINE              as by bisquemop_first_affected; *value is the first bad line
+ */
+uint32_t bisquemop_height(uint32_t glyph, uint32_t width, uint32_t tab, uint32_t spacing, uint32_t paragraph,
+                          uint32_t base, uint32_t height, int32_t top, uint32_t alignment, uint32_t vertical,
+                          uint32_t leading, uint32_t trailing, const uint32_t *table, size_t table_len, uint64_t lines,
+                          uint64_t *value);
+
+/* The same for settings in a struct, which must not be NULL. */
+static inline uint32_t bisquemop_settings_height(const struct bisquemop_settings *s, const uint32_t *table,
+                                                 size_t table_len, uint64_t lines, uint64_t *value)
+{
+    return bisquemop_height(s->glyph, s->width, s->tab, s->spacing, s->paragraph, s->base, s->height, s->top,
+                            s->alignment, s->vertical, s->leading, s->trailing, table, table_len, lines, value);
+}
 
 #ifdef __cplusplus
 }

@@ -13,5 +13,13 @@ int main(void)
     test_sequences();
     printf("random texts\n");
     test_random();
+    printf("tokens\n");
+    test_tokens();
+    printf("layouts\n");
+    test_layout();
+    printf("tables\n");
+    test_tables();
+    printf("random edits\n");
+    test_edits();
     return finish();
 }

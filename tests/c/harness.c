@@ -2,6 +2,7 @@
 
 #include <inttypes.h>
 #include <stdio.h>
+#include <string.h>
 
 static unsigned long passed, failed;
 
@@ -65,18 +66,134 @@ void expect_settings(const char *what, struct bisquemop_settings s, uint32_t num
     }
 }
 
-void expect_text(const char *what, const uint8_t *text, size_t len, uint32_t number, uint64_t value)
+/* Ends the line of a case that failed with the text it was given. */
+static void show_text(const uint8_t *text, size_t len)
 {
-    struct answer a = no_answer();
-    a.number = bisquemop_check_text(text, len, &a.value);
-    if (compare(what, &a, number, value)) {
-        return;
-    }
     printf(", for %lu bytes:", (unsigned long)len);
     for (size_t i = 0; i < len && i < 24; i++) {
         printf(" %02X", (unsigned)text[i]);
     }
     printf(len > 24 ? " ..\n" : "\n");
+}
+
+void expect_text(const char *what, const uint8_t *text, size_t len, uint32_t number, uint64_t value)
+{
+    struct answer a = no_answer();
+    a.number = bisquemop_check_text(text, len, &a.value);
+    if (!compare(what, &a, number, value)) {
+        show_text(text, len);
+    }
+}
+
+/* The buffer that is lent, between two guards. */
+#define GUARD 16
+#define ROOM (BISQUEMOP_LINE_NUMBERS * (BISQUEMOP_TEXT_MAX + 4))
+
+static uint32_t lent[GUARD + ROOM + GUARD];
+
+/* What stands at a place of it before a call. */
+static uint32_t held(size_t i)
+{
+    return UINT32_C(0xC0000000) ^ (uint32_t)i * UINT32_C(2654435761);
+}
+
+static uint32_t *lend(size_t room)
+{
+    if (room > ROOM) {
+        expect("the tests' own buffer is large enough", 0);
+        return NULL;
+    }
+    for (size_t i = 0; i < GUARD + room + GUARD; i++) {
+        lent[i] = held(i);
+    }
+    return room == 0 ? NULL : lent + GUARD;
+}
+
+/* Does the buffer hold the `count` numbers at `written` at its front, and all else what it held. */
+static void compare_lent(const char *what, size_t room, const uint32_t *written, size_t count)
+{
+    for (size_t i = 0; i < GUARD + room + GUARD; i++) {
+        int front = GUARD <= i && i < GUARD + count;
+        uint32_t expected = front ? written[i - GUARD] : held(i);
+        if (lent[i] != expected) {
+            failed++;
+            printf("FAILED %s: in a buffer of %lu, at %ld: expected %" PRIu32 "%s, got %" PRIu32 "\n", what,
+                   (unsigned long)room, (long)i - GUARD, expected, front ? "" : " as before", lent[i]);
+            return;
+        }
+    }
+    passed++;
+}
+
+void expect_tokens(const char *what, const uint8_t *text, size_t len, size_t room, uint32_t number, uint64_t value,
+                   const uint32_t *written)
+{
+    struct answer a = no_answer();
+    size_t count = number == BISQUEMOP_OK ? BISQUEMOP_TOKEN_NUMBERS * (size_t)value : 0;
+    a.number = bisquemop_tokens(text, len, lend(room), room, &a.value);
+    if (!compare(what, &a, number, value)) {
+        show_text(text, len);
+    }
+    compare_lent(what, room, written, count);
+}
+
+void expect_layout(const char *what, struct bisquemop_settings s, const uint8_t *text, size_t len, size_t room,
+                   uint32_t number, uint64_t value, const uint32_t *written)
+{
+    struct answer plain = no_answer(), spread = no_answer();
+    size_t count = number == BISQUEMOP_OK ? BISQUEMOP_LINE_NUMBERS * (size_t)value : 0;
+    plain.number = bisquemop_layout(s.glyph, s.width, s.tab, s.spacing, s.paragraph, s.base, s.height, s.top,
+                                    s.alignment, s.vertical, s.leading, s.trailing, text, len, lend(room), room,
+                                    &plain.value);
+    if (!compare(what, &plain, number, value)) {
+        show_text(text, len);
+    }
+    compare_lent(what, room, written, count);
+    spread.number = bisquemop_settings_layout(&s, text, len, lend(room), room, &spread.value);
+    if (!compare(what, &spread, number, value)) {
+        printf(", from a struct");
+        show_text(text, len);
+    }
+    compare_lent(what, room, written, count);
+}
+
+/* A copy of the table a call is to read, between the guards. */
+static const uint32_t *lend_table(const uint32_t *table, size_t table_len)
+{
+    uint32_t *copy = lend(table_len);
+    if (copy != NULL) {
+        memcpy(copy, table, table_len * sizeof *table);
+    }
+    return copy;
+}
+
+void expect_affected(const char *what, const uint32_t *table, size_t table_len, uint64_t lines, uint32_t a, uint32_t b,
+                     uint32_t inserted, uint32_t number, uint64_t value)
+{
+    struct answer got = no_answer();
+    got.number = bisquemop_first_affected(lend_table(table, table_len), table_len, lines, a, b, inserted, &got.value);
+    if (!compare(what, &got, number, value)) {
+        printf(", for %" PRIu64 " lines, %" PRIu32 " %" PRIu32 " %" PRIu32 "\n", lines, a, b, inserted);
+    }
+    compare_lent(what, table_len, table, table_len);
+}
+
+void expect_height(const char *what, struct bisquemop_settings s, const uint32_t *table, size_t table_len,
+                   uint64_t lines, uint32_t number, uint64_t value)
+{
+    struct answer plain = no_answer(), spread = no_answer();
+    plain.number = bisquemop_height(s.glyph, s.width, s.tab, s.spacing, s.paragraph, s.base, s.height, s.top,
+                                    s.alignment, s.vertical, s.leading, s.trailing, lend_table(table, table_len),
+                                    table_len, lines, &plain.value);
+    if (!compare(what, &plain, number, value)) {
+        printf(", for %" PRIu64 " lines\n", lines);
+    }
+    compare_lent(what, table_len, table, table_len);
+    spread.number = bisquemop_settings_height(&s, lend_table(table, table_len), table_len, lines, &spread.value);
+    if (!compare(what, &spread, number, value)) {
+        printf(", from a struct, for %" PRIu64 " lines\n", lines);
+    }
+    compare_lent(what, table_len, table, table_len);
 }
 
 int finish(void)

@@ -11,7 +11,7 @@
 /* xorshift64: the same numbers in every run. */
 static uint64_t state = UINT64_C(0x9E3779B97F4A7C15);
 
-static uint32_t below(uint32_t n)
+uint32_t below(uint32_t n)
 {
     state ^= state << 13;
     state ^= state >> 7;
