@@ -29,6 +29,39 @@ ghost use Rattle.meaning.specs.Answers.{tokensNumber, tokensValue, layoutNumber
 ghost use Rattle.meaning.specs.Calls.{tokensAnswer, tokensBuffer, layoutAnswer, layoutTable, affectedAnswer, heightAnswer};
 ghost use Rattle.bisquemop.specs.Edits.{editOf};
 
+// The settings from the twelve numbers that C passes.
+fn settings_from(
+    glyph: u32,
+    width: u32,
+    tab: u32,
+    spacing: u32,
+    paragraph: u32,
+    base: u32,
+    height: u32,
+    top: i32,
+    alignment: u32,
+    vertical: u32,
+    leading: u32,
+    trailing: u32,
+) -> Settings
+    ensures { λ r. ⌜ r ≡ settingsOf glyph width tab spacing paragraph base height top alignment vertical leading trailing ⌝ }
+{
+    Settings {
+        glyph: Pixels(glyph),
+        width: Pixels(width),
+        tab: Pixels(tab),
+        spacing: Pixels(spacing),
+        paragraph: Pixels(paragraph),
+        base: Pixels(base),
+        height: Pixels(height),
+        top,
+        alignment,
+        vertical,
+        leading,
+        trailing,
+    }
+}
+
 #[no_mangle]
 pub extern "C" fn bisquemop_check_settings(
     glyph: u32,
@@ -48,20 +81,20 @@ pub extern "C" fn bisquemop_check_settings(
     ensures { λ r. ⌜ r ≡ checkedNumber (checkSettings (settingsOf glyph width tab spacing paragraph base height top alignment vertical leading trailing)) ⌝ }
     ensures { λ r. ⌜ now (value .exit) ≡ checkedValue (checkSettings (settingsOf glyph width tab spacing paragraph base height top alignment vertical leading trailing)) ⌝ }
 {
-    let s = Settings {
-        glyph: Pixels(glyph),
-        width: Pixels(width),
-        tab: Pixels(tab),
-        spacing: Pixels(spacing),
-        paragraph: Pixels(paragraph),
-        base: Pixels(base),
-        height: Pixels(height),
+    let s = settings_from(
+        glyph,
+        width,
+        tab,
+        spacing,
+        paragraph,
+        base,
+        height,
         top,
         alignment,
         vertical,
         leading,
         trailing,
-    };
+    );
     let checked = check_settings(s);
     *value = checked_value(checked);
     checked_number(checked)
@@ -110,20 +143,20 @@ pub extern "C" fn bisquemop_layout(
     ensures { λ r. ⌜ now (table .exit) ≡ layoutTable (settingsOf glyph width tab spacing paragraph base height top alignment vertical leading trailing) (now (text .entry)) (now (table .entry)) ⌝ }
     ensures { λ r. ⌜ now (value .exit) ≡ layoutValue (layoutAnswer (settingsOf glyph width tab spacing paragraph base height top alignment vertical leading trailing) (now (text .entry)) (now (table .entry))) ⌝ }
 {
-    let s = Settings {
-        glyph: Pixels(glyph),
-        width: Pixels(width),
-        tab: Pixels(tab),
-        spacing: Pixels(spacing),
-        paragraph: Pixels(paragraph),
-        base: Pixels(base),
-        height: Pixels(height),
+    let s = settings_from(
+        glyph,
+        width,
+        tab,
+        spacing,
+        paragraph,
+        base,
+        height,
         top,
         alignment,
         vertical,
         leading,
         trailing,
-    };
+    );
     let answer = layout(s, text, table);
     *value = layout_value(answer);
     layout_number(answer)
@@ -172,20 +205,20 @@ pub extern "C" fn bisquemop_height(
     ensures { λ r. ⌜ r ≡ heightNumber (heightAnswer (settingsOf glyph width tab spacing paragraph base height top alignment vertical leading trailing) (now (table .entry)) lines) ⌝ }
     ensures { λ r. ⌜ now (value .exit) ≡ heightValue (heightAnswer (settingsOf glyph width tab spacing paragraph base height top alignment vertical leading trailing) (now (table .entry)) lines) ⌝ }
 {
-    let s = Settings {
-        glyph: Pixels(glyph),
-        width: Pixels(width),
-        tab: Pixels(tab),
-        spacing: Pixels(spacing),
-        paragraph: Pixels(paragraph),
-        base: Pixels(base),
-        height: Pixels(height),
+    let s = settings_from(
+        glyph,
+        width,
+        tab,
+        spacing,
+        paragraph,
+        base,
+        height,
         top,
         alignment,
         vertical,
         leading,
         trailing,
-    };
+    );
     let answer = text_height(s, table, lines as usize);
     *value = height_value(answer);
     height_number(answer)

@@ -1,0 +1,11 @@
+use mir.Facts.{toZ-ofZ}
+use Rattle.meaning.specs.Settings.{settingsOf}
+use Rattle.bisquemop.proofs.settings_from.Statement.{statement}
+use Rattle.bisquemop.proofs.settings_from.Tie as tie
+
+returns : tie.Need-returns
+unfolding settingsOf
+returns c = rw (toZ-ofZ (c .fits .top))
+
+pub settings-from-spec : {M : Type 1} → statement M
+settings-from-spec = tie.close (tie.spec returns)

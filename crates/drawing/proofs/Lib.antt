@@ -1,0 +1,7 @@
+pub mod StretchLaws
+pub mod WordLoop
+pub mod RunEvents
+pub mod TabEvents
+pub mod WordEvents
+pub mod TokenEvents
+pub mod PassLoop

@@ -1,0 +1,98 @@
+-- The loop over a line's tokens: what is drawn when the rest is drawn stays the same.
+-- Assumes nothing.
+use Prim.Native.Nat.{ℕ, _+_, _*_, _≤_}
+use mathlib.Core.Path.{_≡_, refl, sym, ap, _∙_}
+use mathlib.Core.List.{List, []}
+use native.Mathlib.Omega.{arith}
+use lib.ListN.{length}
+use Rattle.meaning.specs.Line.{heldTokens}
+use Rattle.meaning.specs.declared.settings.Settings.{Settings}
+use Rattle.meaning.specs.declared.cursor.Place.{Place}
+use Rattle.meaning.specs.declared.counts.Offset.{Offset}
+use Rattle.meaning.specs.declared.line.Measure.{Measure}
+use Rattle.laws.specs.Measuring.{printedAt}
+use Rattle.parser.specs.Lexing.{charsFrom}
+use Rattle.parser.specs.declared.lexeme.Lexeme.{Lexeme}
+use Rattle.rendering.specs.Ready.{Ready, stepFrom}
+use Rattle.rendering.specs.Pending.{Pending}
+use Rattle.rendering.specs.Running.{PassReady, none-fits, step-keeps}
+use Rattle.rendering.specs.Unrolled.{nothingResumed}
+use Rattle.rendering.specs.declared.step.Resumed.{Resumed}
+use Rattle.rendering.specs.declared.step.Ended.{Ended}
+use Rattle.rendering.specs.declared.step.Stepped.the-variants.{Go, Stop}
+use Rattle.table.specs.Numbers.{putEvents}
+use Rattle.drawing.specs.Drawn.{drawnFrom, eventsFrom}
+use Rattle.drawing.specs.Sheet.{Sheet, sheet, drawnOn, on-append, on-none, on-is, widths, measured-pen, pen-after}
+use Rattle.drawing.specs.TokenDrawn.{tokDrawn, PenRoom}
+use Rattle.drawing.specs.PassDrawn.{DrawRoom, none-drawn, go-drawn, stop-drawn}
+use Rattle.drawing.specs.DrawnBounds.{tok-few}
+use Rattle.drawing.specs.declared.pen.Pen.{Pen}
+
+-- Between two tokens, the sheet at the end being known.
+pub record Drawing (t : List ℕ) (s : Settings) (goal : Sheet) (ev : List ℕ) (p : Place) (at : ℕ) (held : Resumed) (sum : Measure) (o : Pen) : Type 0 where
+  pub draws : drawnOn (sheet ev o) (drawnFrom s p t at (held .chars .0) (held .count .0)) ≡ goal
+  pub ready : PassReady s p t at held sum
+  pub few : o .next ≤ 500000000 + 3 * at
+  pub narrow : o .x .0 ≤ 100000000 + sum .pen .0
+
+abbrev pub penAt : (k x : ℕ) → Pen
+penAt k x = record { next = k; x = record { 0 = x } }
+
+pub drawing-first : (t : List ℕ) (s : Settings) (ev : List ℕ) (p : Place) (at : ℕ) (r : Resumed) (x k : ℕ) (sum : Measure)
+    → DrawRoom s p t at r x k → sum ≡ printedAt 0 0
+    → Drawing t s (drawnOn (sheet ev (penAt k x)) (drawnFrom s p t at (r .chars .0) (r .count .0))) ev p at r sum (penAt k x)
+drawing-first t s ev p at r x k sum h e =
+    rw e (record { draws = refl; ready = h .pass; few = omega (arith, h .few); narrow = omega (arith, h .narrow) })
+
+module _ (t : List ℕ) (s : Settings) (goal : Sheet) (ev : List ℕ) (p : Place) (at : ℕ) (held : Resumed) (sum : Measure) (o : Pen)
+    (d : Drawing t s goal ev p at held sum o)
+  where
+    pub pen-room : PenRoom o
+    pen-room =
+        let r = d .ready in
+        record {
+          few = omega (arith, d .few, r .inside, r .short);
+          narrow = omega (arith, d .narrow, r .small .0, r .inside, r .short);
+        }
+
+    pub drawing-ends : heldTokens (held .chars .0) (held .count .0) (charsFrom t at) ≡ [] → sheet ev o ≡ goal
+    drawing-ends e =
+        sym (on-none (sheet ev o)) ∙ ap (drawnOn (sheet ev o)) (sym (none-drawn s p t at (held .chars .0) (held .count .0) e)) ∙ d .draws
+
+    module _ (x : Lexeme) (y : Pending t at (held .chars .0) (held .count .0) x) where
+      pub token-ready : Ready s p t at x sum
+      token-ready =
+          let r = d .ready in
+          record { settings = r .settings; place = r .place; short = r .short; stands = y .stands; small = r .small }
+
+      module _ (u : List ℕ) (r : Pen) (e : sheet u r ≡ drawnOn (sheet ev o) (tokDrawn s p t at x)) where
+        pub drawing-stops : (z : Ended) → stepFrom s p t at x sum ≡ Stop z → sheet u r ≡ goal
+        drawing-stops z f =
+            e ∙ ap (drawnOn (sheet ev o)) (sym (stop-drawn s p t at (held .chars .0) (held .count .0) x sum y z f)) ∙ d .draws
+
+        pub drawing-goes : (q : Place) (n : Measure) (l : Offset) → stepFrom s p t at x sum ≡ Go q n l
+            → (z : Resumed) → z ≡ nothingResumed → Drawing t s goal u q (x .end .0) z n r
+        drawing-goes q n l f z b =
+            let i = d .ready in
+            let ds = tokDrawn s p t at x in
+            let g = go-drawn s p t at (held .chars .0) (held .count .0) x sum y q n l f in
+            let k = step-keeps s p t at (held .chars .0) (held .count .0) x sum (i .settings) (i .place) (i .small) y q n l f in
+            let a = pen-after ev u o r ds e in
+            let w : n .pen .0 ≡ sum .pen .0 + widths ds = ap (λ (m : Measure). m .pen .0) (g .1) ∙ measured-pen sum ds in
+            rw b
+            (record {
+              draws = ap (λ (z : Sheet). drawnOn z (drawnFrom s q t (x .end .0) 0 0)) e ∙ sym (on-append (sheet ev o) ds (drawnFrom s q t (x .end .0) 0 0))
+                  ∙ ap (drawnOn (sheet ev o)) (sym (g .0)) ∙ d .draws;
+              ready = record { settings = i .settings; place = k .0; short = i .short; inside = y .stands .within; rest = none-fits t (x .end .0) nothingResumed refl; small = k .1 };
+              few = omega (arith, a .0, d .few, tok-few s p t at (held .chars .0) (held .count .0) x y);
+              narrow = omega (arith, a .1, d .narrow, w);
+            })
+
+-- The sheet at the end has all events.
+pub goal-is : (s : Settings) (p : Place) (t : List ℕ) (at chars count : ℕ) (ev u : List ℕ) (k x : ℕ) (r : Pen)
+    → sheet u r ≡ drawnOn (sheet ev (penAt k x)) (drawnFrom s p t at chars count)
+    → (u ≡ putEvents ev k (eventsFrom s p t at chars count x)) × (r .next ≡ k + length (drawnFrom s p t at chars count))
+unfolding eventsFrom
+goal-is s p t at chars count ev u k x r e =
+    let f = e ∙ on-is ev (penAt k x) (drawnFrom s p t at chars count) in
+    (ap (λ (z : Sheet). z .numbers) f, ap (λ (z : Sheet). z .pen .next) f)

@@ -1,0 +1,6 @@
+// The events of a line, drawn into a lent buffer (rule 13).
+pub mod grown;
+pub mod pass;
+pub mod pen;
+pub mod tokens;
+pub mod words;

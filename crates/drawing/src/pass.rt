@@ -1,0 +1,73 @@
+// The events of a line: the running pass again, token by token, each drawn (rules 7 to 9, and 13).
+use crate::pen::Pen;
+use crate::tokens::draw_token;
+use meaning::counts::Chars;
+use meaning::counts::Offset;
+use meaning::counts::Pixels;
+use meaning::cursor::Place;
+use meaning::settings::Settings;
+use parser::lexeme::Lexed;
+use rendering::measure::nothing_measured;
+use rendering::pass::step_token;
+use rendering::pending::pending;
+use rendering::step::Resumed;
+use rendering::step::Stepped;
+ghost use Prim.Native.Nat.{_+_};
+ghost use mathlib.Core.Path.{_≡_};
+ghost use lib.ListN.{length};
+ghost use Rattle.rendering.specs.Unrolled.{nothingResumed};
+ghost use Rattle.table.specs.Numbers.{putEvents};
+ghost use Rattle.drawing.specs.Drawn.{drawnFrom, eventsFrom};
+ghost use Rattle.drawing.specs.PassDrawn.{DrawRoom};
+
+// After the first token a pass has no rest.
+fn no_rest() -> Resumed
+    ensures { λ r. ⌜ r ≡ nothingResumed ⌝ }
+{
+    Resumed {
+        end: Offset(0),
+        chars: Chars(0),
+        count: Chars(0),
+    }
+}
+
+// What a pass draws from a place and an offset on, after a resumed rest: events number k and on, from the pen at x. How many
+// there are with those before.
+pub fn draw_pass(
+    text: &[u8],
+    s: Settings,
+    start: Place,
+    from: usize,
+    rest: Resumed,
+    x: u32,
+    events: &mut [u32],
+    k: usize,
+) -> usize
+    requires { ⌜ DrawRoom s start (now text) from rest x k ⌝ }
+    ensures { λ r. ⌜ now (events .exit) ≡ putEvents (now (events .entry)) k (eventsFrom s start (now (text .entry)) from (rest .chars .0) (rest .count .0) x) ⌝ }
+    ensures { λ r. ⌜ r ≡ k + length (drawnFrom s start (now (text .entry)) from (rest .chars .0) (rest .count .0)) ⌝ }
+{
+    let mut p = start;
+    let mut at = from;
+    let mut held = rest;
+    let mut sum = nothing_measured();
+    let mut pen = Pen {
+        next: k,
+        x: Pixels(x),
+    };
+    loop {
+        let token = pending(text, at, held);
+        let Lexed::Token(t) = token else {
+            return pen.next;
+        };
+        let stepped = step_token(text, s, p, at, t, sum);
+        pen = draw_token(text, s, p, at, t, sum, stepped, pen, events);
+        let Stepped::Go(q, n, _) = stepped else {
+            return pen.next;
+        };
+        p = q;
+        sum = n;
+        at = t.end.0 as usize;
+        held = no_rest();
+    }
+}
