@@ -97,6 +97,3 @@ rows-end (suc n) s start h cs b f g =
 pub layout-ends : (s : Settings) (cs : List ℕ) → Ends (rows s cs)
 unfolding rows
 layout-ends s cs = rows-end (suc (length cs)) s 0 nothingHeld cs (omega arith) (omega arith) (omega arith)
-
-pub layout-takes : (s : Settings) (cs : List ℕ) → Takes (rows s cs)
-layout-takes s cs = ends-take (rows s cs) (layout-ends s cs)

@@ -32,6 +32,7 @@ pub mod Stands
 pub mod Steps
 pub mod Suffixes
 pub mod TableLaws
+pub mod TestOrder
 pub mod TokenLaws
 pub mod TokensAgree
 pub mod WellFormedLayout

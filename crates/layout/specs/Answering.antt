@@ -19,25 +19,8 @@ use Rattle.meaning.specs.declared.refusals.Checked.the-variants.{Good, Refused}
 use Rattle.meaning.specs.declared.answers.Laid.{Laid}
 use Rattle.meaning.specs.declared.answers.Laid.the-variants as laid
 use Rattle.laws.specs.Calls3.{layout-takes}
+use Rattle.laws.specs.TestOrder.{first-alone, first-refused, first-good}
 use Rattle.parser.specs.Lexing.{charsFrom}
-
--- Tests that are made one after the other: of two, one refuses, or what follows decides.
-first-refused : (a b : Checked) (more : List Checked) (r : Refusal) → firstOf (a ∷ b ∷ []) ≡ Refused r → firstOf (a ∷ b ∷ more) ≡ Refused r
-unfolding firstOf
-first-refused Good Good more r e = cc
-first-refused Good (Refused q) more r e = e
-first-refused (Refused q) b more r e = e
-
-first-good : (a b : Checked) (more : List Checked) → firstOf (a ∷ b ∷ []) ≡ Good → firstOf (a ∷ b ∷ more) ≡ firstOf more
-unfolding firstOf
-first-good Good Good more e = refl
-first-good Good (Refused q) more e = cc
-first-good (Refused q) b more e = cc
-
-last-one : (c : Checked) → firstOf (c ∷ []) ≡ c
-unfolding firstOf
-last-one Good = refl
-last-one (Refused r) = refl
 
 -- What the call answers, and the table afterwards.
 pub record Answers (s : Settings) (t table : List ℕ) (answer : Laid) (after : List ℕ) : Type 0 where
@@ -70,7 +53,7 @@ module _ (s : Settings) (t table : List ℕ) where
           let room = checkRoom (capacityOf 10 table) (length (textEntries s t)) in
           rw good
           (first-good (checkLength (length t)) (checkUtf8 t) (checkTakes 0 (rows s (decodeAll t)) ∷ room ∷ []) text
-          ∙ rw (layout-takes s (decodeAll t) 0) (last-one room))
+          ∙ rw (layout-takes s (decodeAll t) 0) (first-alone room))
 
       -- Refusal 8.
       pub too-small : (n : ℕ) → n ≡ length (textEntries s t) → capacityOf 10 table < n → Answers s t table (laid.Refused (TooSmall n)) table

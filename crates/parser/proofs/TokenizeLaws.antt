@@ -24,6 +24,7 @@ use Rattle.meaning.specs.declared.refusals.Checked.the-variants.{Good, Refused}
 use Rattle.meaning.specs.declared.answers.Tokenized.the-variants as tokenized
 use Rattle.laws.specs.TokenLaws.{length-size}
 use Rattle.checks.proofs.TextLaws.{too-long}
+use Rattle.laws.specs.TestOrder.{first-alone, first-refused, first-good}
 use Rattle.parser.specs.Lexing.{charsFrom}
 use Rattle.parser.specs.Writing.{numbersFrom, checkNeeded, roomAnswer, roomBuffer}
 
@@ -80,23 +81,6 @@ module _ (t : List ℕ) where
 refused-good : {r : Refusal} → Refused r ≡ Good → ⊥
 refused-good e = let z : _≡_ {A = ℕ} 0 1 = cc in omega arith
 
-alone : (x : Checked) → firstOf (x ∷ []) ≡ x
-unfolding firstOf
-alone Good = refl
-alone (Refused r) = refl
-
-then-good : (x y z : Checked) → firstOf (x ∷ y ∷ []) ≡ Good → firstOf (x ∷ y ∷ z ∷ []) ≡ z
-unfolding firstOf
-then-good Good Good z e = alone z
-then-good Good (Refused r) z e = absurd (refused-good e)
-then-good (Refused r) y z e = absurd (refused-good e)
-
-then-refused : (x y z : Checked) (r : Refusal) → firstOf (x ∷ y ∷ []) ≡ Refused r → firstOf (x ∷ y ∷ z ∷ []) ≡ Refused r
-unfolding firstOf
-then-refused Good Good z r e = absurd (refused-good (sym e))
-then-refused Good (Refused s) z r e = e
-then-refused (Refused s) y z r e = e
-
 module _ (t : List ℕ) where
   pub good-length : checkText t ≡ Good → length t ≤ 65535
   good-length e = by-lt 65535 (length t) (λ h. absurd (refused-good (too-long t h ∙ e))) (λ h. h)
@@ -104,8 +88,8 @@ module _ (t : List ℕ) where
   module _ (b : List ℕ) where
     pub text-good : checkText t ≡ Good → (roomAnswer t b ≡ tokensAnswer t b) × (roomBuffer t b ≡ tokensBuffer t b)
     unfolding checkText checkTokens roomAnswer roomBuffer tokensAnswer tokensBuffer checkNeeded
-    text-good e = rw (then-good (checkLength (length t)) (checkUtf8 t) (checkNeeded t b) e) (refl, refl)
+    text-good e = rw (first-good (checkLength (length t)) (checkUtf8 t) (checkNeeded t b ∷ []) e ∙ first-alone (checkNeeded t b)) (refl, refl)
 
     pub text-refused : (r : Refusal) → checkText t ≡ Refused r → (tokenized.Refused r ≡ tokensAnswer t b) × (b ≡ tokensBuffer t b)
     unfolding checkText checkTokens tokensAnswer tokensBuffer checkNeeded
-    text-refused r e = rw (then-refused (checkLength (length t)) (checkUtf8 t) (checkNeeded t b) r e) (refl, refl)
+    text-refused r e = rw (first-refused (checkLength (length t)) (checkUtf8 t) (checkNeeded t b ∷ []) r e) (refl, refl)

@@ -73,14 +73,6 @@ module _ (s : Settings) (t : List ℕ) (at : ℕ) (r : Resumed) where
       let k = layLine s (heldIn r) cs .chars in
       chars-after t (take k cs) (drop k cs) at (sym (take-append-drop k cs))
 
-  -- The entries of a layout: this line's, and those from where the next starts on.
-  pub rows-step : (n : ℕ) →
-      let l = lineFrom s t at r in
-      map entryOfRow (rowsBy (suc n) s at (heldIn r) (charsFrom t at))
-      ≡ l .entry ∷ map entryOfRow (unlessEnded (l .ended) (rowsBy n s (l .next .0) (heldIn (l .rest)) (charsFrom t (l .next .0))))
-  unfolding rowsBy rowAt lineFrom lineAtOf resumedAt
-  rows-step n = rw next-chars
-
   -- Within the text.
   pub next-within : at ≤ length t → lineFrom s t at r .next .0 ≤ length t
   unfolding lineFrom lineAtOf

@@ -1,0 +1,28 @@
+-- Tests that are made one after the other (`firstOf`): one refuses, or what follows decides.
+-- Assumes nothing.
+use mathlib.Core.Path.{_≡_, refl}
+use mathlib.Core.List.{List, [], _∷_}
+use Rattle.meaning.specs.Checks.{firstOf}
+use Rattle.meaning.specs.declared.refusals.Refusal.{Refusal}
+use Rattle.meaning.specs.declared.refusals.Checked.{Checked}
+use Rattle.meaning.specs.declared.refusals.Checked.the-variants.{Good, Refused}
+
+-- A test by itself.
+pub first-alone : (c : Checked) → firstOf (c ∷ []) ≡ c
+unfolding firstOf
+first-alone Good = refl
+first-alone (Refused r) = refl
+
+-- What one of the first two refuses is refused, whatever follows.
+pub first-refused : (a b : Checked) (more : List Checked) (r : Refusal) → firstOf (a ∷ b ∷ []) ≡ Refused r → firstOf (a ∷ b ∷ more) ≡ Refused r
+unfolding firstOf
+first-refused Good Good more r e = cc
+first-refused Good (Refused q) more r e = e
+first-refused (Refused q) b more r e = e
+
+-- Where neither does, what follows decides.
+pub first-good : (a b : Checked) (more : List Checked) → firstOf (a ∷ b ∷ []) ≡ Good → firstOf (a ∷ b ∷ more) ≡ firstOf more
+unfolding firstOf
+first-good Good Good more e = refl
+first-good Good (Refused q) more e = cc
+first-good (Refused q) b more e = cc
