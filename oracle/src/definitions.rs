@@ -1,7 +1,7 @@
 //! Cases by chance in the form of the definitions' own examples, as a module that the prover computes: so the definitions
 //! themselves are held to the crate, with no running code in between.
 
-use crate::{model, random, EXAMPLE};
+use crate::{model, random, show, EXAMPLE};
 use shape::*;
 use std::fmt::Write;
 
@@ -46,22 +46,6 @@ pub cases-hold : map computed cases ≡ cases
 unfolding computed
 cases-hold = refl
 ";
-
-/// A text in quotes, in which only letters and spaces stand for themselves.
-fn quoted(text: &str) -> String {
-    let mut out = String::from("\"");
-    for c in text.chars() {
-        match c {
-            '\n' => out.push_str("\\n"),
-            '\r' => out.push_str("\\r"),
-            '\t' => out.push_str("\\t"),
-            ' ' | 'a'..='z' => out.push(c),
-            c => write!(out, "\\u{{{:x}}}", u32::from(c)).unwrap(),
-        }
-    }
-    out.push('"');
-    out
-}
 
 /// Values with `∷` between them, and the empty list at last.
 fn list(values: impl Iterator<Item = String>) -> String {
@@ -119,7 +103,7 @@ pub fn write(count: u64, seed: u64) -> bool {
         let events = list(rules.events.iter().map(|e| row([e.kind, e.start, e.end, e.count, e.width, e.x as u32])));
         let between = if number == 0 { "" } else { "∷ " };
         let sets = format!("sets {glyph} {width} {tab} {alignment} {leading} {trailing}");
-        writeln!(out, "    {between}example ({sets}) {}\n    {lines}\n    {events}", quoted(&text)).unwrap();
+        writeln!(out, "    {between}example ({sets}) {}\n    {lines}\n    {events}", show::quoted(&text, |c| matches!(c, ' ' | 'a'..='z'))).unwrap();
     }
     println!("{out}    {}[]\n{TAIL}", if count == 0 { "" } else { "∷ " });
     eprintln!("oracle: seed {seed}: {own} layouts of the crate, {other} of the rules alone");

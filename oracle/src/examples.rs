@@ -24,6 +24,16 @@ impl Claims {
     }
 }
 
+/// The tokens of a text, by the crate and by the rules.
+fn both_tokens(text: &str) -> [(&'static str, Vec<Token>); 2] {
+    let mut apart = model::Text::default();
+    apart.take_apart(text);
+    let (mut krate, mut rules) = (Vec::new(), Vec::new());
+    checked::tokens(text, &mut krate);
+    apart.tokens(&mut rules);
+    [("crate", krate), ("rules", rules)]
+}
+
 /// The crate's layout, and whether it had to be had from the crate with wrapping arithmetic, because a line is measured wider
 /// than the box and the crate that checks its arithmetic stops there.
 fn by_crate(settings: &Settings, text: &str) -> (Laid, bool) {
@@ -118,14 +128,17 @@ fn hold(claims: &mut Claims, settings: &Settings, text: &str, lines: &[Vec<u32>]
     }
 }
 
-/// Settings as the tables name them: `box 30`, or `justifiedBox 51`.
+/// Settings as the tables name them: `box 30`, `justifiedBox 51`, or `laidOut` by glyph, width, alignment, leading, trailing.
 fn settings_of(value: &antt::Value) -> Settings {
     let (name, values) = value.applied();
-    let settings = Settings { width: values[0].number(), ..EXAMPLE };
-    match name {
-        "box" => settings,
-        "justifiedBox" => Settings { alignment: 3, leading: 0, ..settings },
-        other => panic!("settings {other} are not known"),
+    let numbers: Vec<u32> = values.iter().map(antt::Value::number).collect();
+    match (name, numbers.as_slice()) {
+        ("box", &[width]) => Settings { width, ..EXAMPLE },
+        ("justifiedBox", &[width]) => Settings { width, alignment: 3, leading: 0, ..EXAMPLE },
+        ("laidOut", &[glyph, width, alignment, leading, trailing]) => {
+            Settings { glyph, width, alignment, leading, trailing, ..EXAMPLE }
+        }
+        (other, _) => panic!("settings {other} are not known"),
     }
 }
 
@@ -151,12 +164,7 @@ fn tokens(claims: &mut Claims, specs: &str) {
     for example in antt::table(&file(specs, "SmallExamples.antt"), "tokenExamples") {
         let (_, values) = example.applied();
         let (text, rows) = (values[0].text(), values[1].rows());
-        let mut apart = model::Text::default();
-        apart.take_apart(text);
-        let (mut krate, mut rules) = (Vec::new(), Vec::new());
-        checked::tokens(text, &mut krate);
-        apart.tokens(&mut rules);
-        for (side, found) in [("crate", krate), ("rules", rules)] {
+        for (side, found) in both_tokens(text) {
             let found: Vec<_> = found.iter().map(|t| vec![t.kind, t.start, t.end, t.count]).collect();
             claims.claim(found == rows, || format!("tokens of {}\n  {side}   {found:?}\n  example {rows:?}", show::text(text)));
         }
@@ -331,12 +339,7 @@ fn scope(claims: &mut Claims, _specs: &str) {
     }
 
     let text = " \u{200b} ";
-    let mut apart = model::Text::default();
-    apart.take_apart(text);
-    let (mut krate, mut rules) = (Vec::new(), Vec::new());
-    checked::tokens(text, &mut krate);
-    apart.tokens(&mut rules);
-    for (side, found) in [("crate", krate), ("rules", rules)] {
+    for (side, found) in both_tokens(text) {
         let good = found == [Token { kind: WHITESPACE, start: 0, end: 5, count: 2 }];
         claims.claim(good, || format!("{side}: space ZWSP space: one Whitespace(2): {found:?}"));
     }

@@ -27,25 +27,25 @@ pub fn settings(s: &Settings, all: bool) -> String {
     out
 }
 
-/// A text in quotes, with every character that does not show written by its number.
-pub fn text(text: &str) -> String {
+/// A text in quotes, with every character that is not to show written by its number.
+pub fn quoted(text: &str, shows: impl Fn(char) -> bool) -> String {
     let mut out = String::from("\"");
     for c in text.chars() {
         match c {
             '\n' => out.push_str("\\n"),
             '\r' => out.push_str("\\r"),
             '\t' => out.push_str("\\t"),
-            '"' | '\\' => {
-                out.push('\\');
-                out.push(c);
-            }
-            ' ' => out.push(' '),
-            'a'..='z' | 'A'..='Z' | '0'..='9' | '-' | 'é' | '漢' | '😀' => out.push(c),
+            c if shows(c) => out.push(c),
             c => write!(out, "\\u{{{:x}}}", u32::from(c)).unwrap(),
         }
     }
     out.push('"');
     out
+}
+
+/// A text in quotes, for people.
+pub fn text(text: &str) -> String {
+    quoted(text, |c| matches!(c, ' ' | 'a'..='z' | 'A'..='Z' | '0'..='9' | '-' | 'é' | '漢' | '😀'))
 }
 
 /// The numbers of a line: ten where the side has them all, else eight.
