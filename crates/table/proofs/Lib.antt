@@ -6,3 +6,5 @@ pub mod EditLaws
 pub mod Signs
 pub mod Upright
 pub mod Adding
+pub mod MovedParts
+pub mod MoveTurns

@@ -1,4 +1,6 @@
 pub mod Numbers
+pub mod Stretches
+pub mod Moving
 pub mod LinesFrom
 pub mod OneLine
 pub mod GoodTable

@@ -3,6 +3,7 @@ pub mod affected;
 pub mod entries;
 pub mod events;
 pub mod height;
+pub mod moving;
 pub mod one_line;
 pub mod spacing;
 pub mod vertical;

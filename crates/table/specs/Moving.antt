@@ -1,0 +1,189 @@
+-- Old lines that follow after an edit, moved within their table: from line `from` on to line `to` on.
+-- Assumes nothing.
+use Prim.Native.Nat.{ℕ, zero, suc, _+_, _-_, _*_, _≤_, _<_}
+use mathlib.Core.Path.{_≡_, refl, sym, ap, subst, _∙_}
+use mathlib.Core.List.{List, [], _∷_, _++_, map, map-append, append-nil}
+use native.Mathlib.Omega.{arith}
+use lib.ListN.{length, drop, length-map}
+use lib.Seq.{drop-drop}
+use Rattle.meaning.specs.Table.{ofEntry, ofAll, entryIn, entriesIn}
+use Rattle.meaning.specs.Edit.{movedEntry}
+use Rattle.meaning.specs.declared.edit.Edit.{Edit}
+use Rattle.meaning.specs.declared.line.Entry.{Entry}
+use Rattle.laws.specs.TableLaws.{entry-numbers, entries-numbers, entries-length, all-append}
+use Rattle.table.specs.Numbers.{putNumbers, put-length}
+use Rattle.table.specs.Stretches.{put-past, put-behind, put-ahead, put-none, entries-before, entries-last}
+
+-- A table with so many lines moved, and with one.
+abbrev pub linesMoved : List ℕ → (from to count : ℕ) → Edit → List ℕ
+linesMoved t from to count ed =
+    putNumbers t (10 * to) (ofAll ofEntry (map (movedEntry ed) (entriesIn count (drop (10 * from) t))))
+
+abbrev pub lineMoved : List ℕ → (from to : ℕ) → Edit → List ℕ
+lineMoved t from to ed = putNumbers t (10 * to) (ofEntry (movedEntry ed (entryIn (drop (10 * from) t))))
+
+-- ---- what can be moved without a number that wraps
+
+-- The edit's offsets are in order, and it inserts no more than a text can have.
+pub record MovableEdit (ed : Edit) : Type 0 where
+  pub order : ed .from .0 ≤ ed .to .0
+  pub few : ed .inserted .0 ≤ 131071
+
+-- An offset behind the replaced bytes, and a line there: its start, its rest's end if it has a rest, and its reach.
+abbrev pub MovableOffset : Edit → ℕ → Type 0
+MovableOffset ed x = (ed .to .0 - ed .from .0 ≤ x) × (x ≤ 65536)
+
+pub record MovableEntry (ed : Edit) (e : Entry) : Type 0 where
+  pub start : MovableOffset ed (e .start .0)
+  pub rest : 0 < e .rest .end .0 → MovableOffset ed (e .rest .end .0)
+  pub reach : MovableOffset ed (e .reach .0)
+
+abbrev pub AllMovable : Edit → List Entry → Type 0
+AllMovable ed [] = Unit {0}
+AllMovable ed (e ∷ es) = MovableEntry ed e × AllMovable ed es
+
+-- The table holds both stretches of lines.
+pub record Movable (t : List ℕ) (from to count : ℕ) (ed : Edit) : Type 0 where
+  pub from-room : 10 * (from + count) ≤ length t
+  pub to-room : 10 * (to + count) ≤ length t
+  pub edit : MovableEdit ed
+  pub each : AllMovable ed (entriesIn count (drop (10 * from) t))
+
+all-front : (ed : Edit) (xs ys : List Entry) → AllMovable ed (xs ++ ys) → AllMovable ed xs
+all-front ed [] ys h = tt
+all-front ed (x ∷ xs) ys h = (h .0, all-front ed xs ys (h .1))
+
+all-end : (ed : Edit) (xs ys : List Entry) → AllMovable ed (xs ++ ys) → AllMovable ed ys
+all-end ed [] ys h = h
+all-end ed (x ∷ xs) ys h = all-end ed xs ys (h .1)
+
+-- ---- one line
+
+module _ (t : List ℕ) (from to : ℕ) (ed : Edit) where
+  abbrev one : Entry
+  one = movedEntry ed (entryIn (drop (10 * from) t))
+
+  pub line-movable : Movable t from to 1 ed → MovableEntry ed (entryIn (drop (10 * from) t))
+  unfolding entriesIn
+  line-movable m = m .each .0
+
+  pub line-length : 10 * to + 10 ≤ length t → length (lineMoved t from to ed) ≡ length t
+  line-length h = put-length t (10 * to) (ofEntry one) (omega (arith, entry-numbers one))
+
+-- ---- from the first line on
+
+module _ (t : List ℕ) (from to n : ℕ) (ed : Edit) where
+  -- The first line, and those behind it.
+  front : entriesIn (suc n) (drop (10 * from) t) ≡ entryIn (drop (10 * from) t) ∷ entriesIn n (drop (10 * (from + 1)) t)
+  unfolding entriesIn
+  front =
+      let e : 10 * from + 10 ≡ 10 * (from + 1) = omega arith in
+      ap (λ (l : List ℕ). entryIn (drop (10 * from) t) ∷ entriesIn n l) (drop-drop 10 (10 * from) t ∙ ap (λ (k : ℕ). drop k t) e)
+
+  pub first-movable : Movable t from to (suc n) ed → Movable t from to 1 ed
+  unfolding entriesIn
+  first-movable m =
+      record {
+        from-room = omega (arith, m .from-room);
+        to-room = omega (arith, m .to-room);
+        edit = m .edit;
+        each = (subst (AllMovable ed) front (m .each) .0, tt);
+      }
+
+  module _ (order : to ≤ from) where
+    -- Those behind it are read as they were.
+    behind : 10 * to + 10 ≤ length t → drop (10 * (from + 1)) (lineMoved t from to ed) ≡ drop (10 * (from + 1)) t
+    behind h =
+        let e = movedEntry ed (entryIn (drop (10 * from) t)) in
+        put-past t (10 * to) (ofEntry e) (omega arith) (10 * (from + 1)) (omega (arith, entry-numbers e))
+
+    pub first-moved : 10 * to + 10 ≤ length t
+        → linesMoved t from to (suc n) ed ≡ linesMoved (lineMoved t from to ed) (from + 1) (to + 1) n ed
+    unfolding ofAll
+    first-moved h =
+        let e = movedEntry ed (entryIn (drop (10 * from) t)) in
+        let es = map (movedEntry ed) (entriesIn n (drop (10 * (from + 1)) t)) in
+        let place : 10 * to + length (ofEntry e) ≡ 10 * (to + 1) = omega (arith, entry-numbers e) in
+        ap (λ (l : List Entry). putNumbers t (10 * to) (ofAll ofEntry (map (movedEntry ed) l))) front
+        ∙ sym (put-behind t (10 * to) (ofEntry e) (omega arith) (ofAll ofEntry es))
+        ∙ ap (λ (k : ℕ). putNumbers (lineMoved t from to ed) k (ofAll ofEntry es)) place
+        ∙ ap
+        (λ (l : List ℕ). putNumbers (lineMoved t from to ed) (10 * (to + 1)) (ofAll ofEntry (map (movedEntry ed) (entriesIn n l))))
+        (sym (behind h))
+
+    pub rest-movable : Movable t from to (suc n) ed → Movable (lineMoved t from to ed) (from + 1) (to + 1) n ed
+    rest-movable m =
+        let k = line-length t from to ed (omega (arith, m .to-room)) in
+        record {
+          from-room = omega (arith, k, m .from-room);
+          to-room = omega (arith, k, m .to-room);
+          edit = m .edit;
+          each = subst (λ (l : List ℕ). AllMovable ed (entriesIn n l)) (sym (behind (omega (arith, m .to-room)))) (subst (AllMovable ed) front (m .each) .1);
+        }
+
+-- ---- from the last line on
+
+module _ (t : List ℕ) (from to n : ℕ) (ed : Edit) where
+  -- The last line, and those before it.
+  end : entriesIn (suc n) (drop (10 * from) t) ≡ entriesIn n (drop (10 * from) t) ++ (entryIn (drop (10 * (from + n)) t) ∷ [])
+  end =
+      let e : 10 * from + 10 * n ≡ 10 * (from + n) = omega arith in
+      entries-last n (drop (10 * from) t)
+      ∙ ap (λ (l : List ℕ). entriesIn n (drop (10 * from) t) ++ (entryIn l ∷ [])) (drop-drop (10 * n) (10 * from) t ∙ ap (λ (k : ℕ). drop k t) e)
+
+  pub last-movable : Movable t from to (suc n) ed → Movable t (from + n) (to + n) 1 ed
+  unfolding entriesIn
+  last-movable m =
+      record {
+        from-room = omega (arith, m .from-room);
+        to-room = omega (arith, m .to-room);
+        edit = m .edit;
+        each = all-end ed (entriesIn n (drop (10 * from) t)) _ (subst (AllMovable ed) end (m .each));
+      }
+
+  module _ (order : from ≤ to) where
+    -- Those before it are read as they were.
+    ahead : 10 * (to + n) ≤ length t
+        → entriesIn n (drop (10 * from) (lineMoved t (from + n) (to + n) ed)) ≡ entriesIn n (drop (10 * from) t)
+    ahead h =
+        let e = movedEntry ed (entryIn (drop (10 * (from + n)) t)) in
+        entries-before n (10 * from) (10 * (to + n)) t (ofEntry e) (omega arith) h
+
+    pub last-moved : 10 * (to + n) ≤ length t
+        → linesMoved t from to (suc n) ed ≡ linesMoved (lineMoved t (from + n) (to + n) ed) from to n ed
+    unfolding ofAll
+    last-moved h =
+        let e = movedEntry ed (entryIn (drop (10 * (from + n)) t)) in
+        let old = entriesIn n (drop (10 * from) t) in
+        let xs = ofAll ofEntry (map (movedEntry ed) old) in
+        let all : ofAll ofEntry (map (movedEntry ed) (entriesIn (suc n) (drop (10 * from) t))) ≡ xs ++ ofEntry e =
+        ap (λ (es : List Entry). ofAll ofEntry (map (movedEntry ed) es)) end
+        ∙ ap (ofAll ofEntry) (map-append (movedEntry ed) old (entryIn (drop (10 * (from + n)) t) ∷ []))
+        ∙ all-append ofEntry (map (movedEntry ed) old) (e ∷ [])
+        ∙ ap (λ (l : List ℕ). xs ++ l) (append-nil (ofEntry e)) in
+        let place : 10 * to + length xs ≡ 10 * (to + n) =
+        omega (arith, entries-numbers (map (movedEntry ed) old), length-map old (movedEntry ed), entries-length n (drop (10 * from) t)) in
+        ap (putNumbers t (10 * to)) all
+        ∙ sym (put-ahead t (10 * to) xs (ofEntry e) (omega arith))
+        ∙ ap (λ (k : ℕ). putNumbers (putNumbers t k (ofEntry e)) (10 * to) xs) place
+        ∙ ap
+        (λ (es : List Entry). putNumbers (lineMoved t (from + n) (to + n) ed) (10 * to) (ofAll ofEntry (map (movedEntry ed) es)))
+        (sym (ahead h))
+
+    pub before-movable : Movable t from to (suc n) ed → Movable (lineMoved t (from + n) (to + n) ed) from to n ed
+    before-movable m =
+        let k = line-length t (from + n) (to + n) ed (omega (arith, m .to-room)) in
+        record {
+          from-room = omega (arith, k, m .from-room);
+          to-room = omega (arith, k, m .to-room);
+          edit = m .edit;
+          each =
+              subst (AllMovable ed) (sym (ahead (omega (arith, m .to-room))))
+              (all-front ed (entriesIn n (drop (10 * from) t)) _ (subst (AllMovable ed) end (m .each)));
+        }
+
+-- ---- nothing left
+
+pub none-moved : (t : List ℕ) (from to : ℕ) (ed : Edit) → linesMoved t from to 0 ed ≡ t
+unfolding entriesIn ofAll
+none-moved t from to ed = put-none t (10 * to)

@@ -1,0 +1,98 @@
+// The old lines that follow after an edit, moved within their table.
+use crate::entries::read_entry;
+use crate::entries::write_entry;
+use meaning::counts::Offset;
+use meaning::edit::Edit;
+use meaning::line::Entry;
+use meaning::line::Rest;
+ghost use Prim.Native.Nat.{_≤_, _<_};
+ghost use mathlib.Core.Path.{_≡_};
+ghost use Rattle.meaning.specs.Edit.{moved, movedRest, movedEntry};
+ghost use Rattle.table.specs.Moving.{MovableEdit, MovableOffset, MovableEntry, Movable, lineMoved, linesMoved};
+
+// An offset behind the replaced bytes.
+fn moved_offset(x: Offset, edit: Edit) -> Offset
+    requires { ⌜ MovableEdit edit × MovableOffset edit (x .0) ⌝ }
+    ensures { λ r. ⌜ r .0 ≡ moved edit (x .0) ⌝ }
+{
+    let replaced = edit.to.0 - edit.from.0;
+    Offset(x.0 + edit.inserted.0 - replaced)
+}
+
+// An end of 0 says that there is no rest, and stays.
+fn moved_rest(rest: Rest, edit: Edit) -> Rest
+    requires { ⌜ MovableEdit edit × (0 < rest .end .0 → MovableOffset edit (rest .end .0)) ⌝ }
+    ensures { λ r. ⌜ r ≡ movedRest edit rest ⌝ }
+{
+    let end = rest.end;
+    if end.0 == 0 {
+        return rest;
+    }
+    let after = moved_offset(end, edit);
+    let count = rest.count;
+    Rest { end: after, count }
+}
+
+// Start, rest and reach are moved, all else stays.
+pub fn moved_entry(e: Entry, edit: Edit) -> Entry
+    requires { ⌜ MovableEdit edit × MovableEntry edit e ⌝ }
+    ensures { λ r. ⌜ r ≡ movedEntry edit e ⌝ }
+{
+    let old_start = e.start;
+    let old_rest = e.rest;
+    let old_reach = e.reach;
+    let start = moved_offset(old_start, edit);
+    let rest = moved_rest(old_rest, edit);
+    let reach = moved_offset(old_reach, edit);
+    let mut after = e;
+    after.start = start;
+    after.rest = rest;
+    after.reach = reach;
+    after
+}
+
+// Line `from`, moved, written to line `to`.
+fn move_line(table: &mut [u32], from: usize, to: usize, edit: Edit)
+    requires { ⌜ Movable (now table) from to 1 edit ⌝ }
+    ensures { λ _. ⌜ now (table .exit) ≡ lineMoved (now (table .entry)) from to edit ⌝ }
+{
+    let old = read_entry(table, from);
+    let after = moved_entry(old, edit);
+    write_entry(table, to, after);
+}
+
+// Lines moved toward the table's front: the first of them first, so that none is written over before it is read.
+fn move_forward(table: &mut [u32], from: usize, to: usize, count: usize, edit: Edit)
+    requires { ⌜ Movable (now table) from to count edit × (to ≤ from) ⌝ }
+    ensures { λ _. ⌜ now (table .exit) ≡ linesMoved (now (table .entry)) from to count edit ⌝ }
+{
+    let mut i: usize = 0;
+    while i < count {
+        move_line(table, from + i, to + i, edit);
+        i += 1;
+    }
+}
+
+// Lines moved toward the table's end: the last of them first.
+fn move_back(table: &mut [u32], from: usize, to: usize, count: usize, edit: Edit)
+    requires { ⌜ Movable (now table) from to count edit × (from ≤ to) ⌝ }
+    ensures { λ _. ⌜ now (table .exit) ≡ linesMoved (now (table .entry)) from to count edit ⌝ }
+{
+    let mut left: usize = count;
+    while 0 < left {
+        left -= 1;
+        move_line(table, from + left, to + left, edit);
+    }
+}
+
+// So many lines from line `from` on, moved, written from line `to` on. The two stretches may overlap.
+pub fn move_lines(table: &mut [u32], from: usize, to: usize, count: usize, edit: Edit)
+    requires { ⌜ Movable (now table) from to count edit ⌝ }
+    ensures { λ _. ⌜ now (table .exit) ≡ linesMoved (now (table .entry)) from to count edit ⌝ }
+{
+    if to <= from {
+        move_forward(table, from, to, count, edit);
+        return;
+    }
+    move_back(table, from, to, count, edit);
+}
