@@ -46,7 +46,7 @@ module _ (t : List ℕ) (from to count : ℕ) (ed : Edit) where
         let w = lineMoved u (from + i) (to + i) ed in
         let f : from + i + 1 ≡ from + (i + 1) = omega arith in
         let g : to + i + 1 ≡ to + (i + 1) = omega arith in
-        let m = rest-movable u (from + i) (to + i) n ed (omega arith) here in
+        let m = rest-movable u (from + i) (to + i) n ed (omega arith) room here in
         let s = first-moved u (from + i) (to + i) n ed (omega arith) room in
         record {
           within = omega arith;
@@ -95,11 +95,11 @@ module _ (t : List ℕ) (from to count : ℕ) (ed : Edit) where
     back-next v o e =
         let room : 10 * (to + (k - 1)) + 10 ≤ length u = omega (arith, whole .to-room) in
         record {
-          left = subst (λ (x : List ℕ). Movable x from to (k - 1) ed) (sym e) (before-movable u from to (k - 1) ed o whole);
+          left = subst (λ (x : List ℕ). Movable x from to (k - 1) ed) (sym e) (before-movable u from to (k - 1) ed o room whole);
           same =
               c .same
               ∙ ap (λ (j : ℕ). linesMoved u from to j ed) again
-              ∙ last-moved u from to (k - 1) ed o (omega arith)
+              ∙ last-moved u from to (k - 1) ed o room
               ∙ ap (λ (x : List ℕ). linesMoved x from to (k - 1) ed) (sym e);
           size = ap length e ∙ line-length u (from + (k - 1)) (to + (k - 1)) ed room ∙ c .size;
         }

@@ -1,6 +1,7 @@
 pub mod Numbers
 pub mod Stretches
 pub mod Moving
+pub mod MovableLines
 pub mod LinesFrom
 pub mod OneLine
 pub mod GoodTable

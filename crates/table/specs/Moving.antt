@@ -1,7 +1,7 @@
 -- Old lines that follow after an edit, moved within their table: from line `from` on to line `to` on.
 -- Assumes nothing.
-use Prim.Native.Nat.{ℕ, zero, suc, _+_, _-_, _*_, _≤_, _<_}
-use mathlib.Core.Path.{_≡_, refl, sym, ap, subst, _∙_}
+use Prim.Native.Nat.{ℕ, suc, _+_, _-_, _*_, _≤_, _<_}
+use mathlib.Core.Path.{_≡_, sym, ap, subst, _∙_}
 use mathlib.Core.List.{List, [], _∷_, _++_, map, map-append, append-nil}
 use native.Mathlib.Omega.{arith}
 use lib.ListN.{length, drop, length-map}
@@ -12,9 +12,12 @@ use Rattle.meaning.specs.declared.edit.Edit.{Edit}
 use Rattle.meaning.specs.declared.line.Entry.{Entry}
 use Rattle.laws.specs.TableLaws.{entry-numbers, entries-numbers, entries-length, all-append}
 use Rattle.table.specs.Numbers.{putNumbers, put-length}
-use Rattle.table.specs.Stretches.{put-past, put-behind, put-ahead, put-none, entries-before, entries-last}
+use Rattle.table.specs.Stretches.{put-past, join-behind, join-ahead, put-none, entries-before, entries-last}
 
--- A table with so many lines moved, and with one.
+-- A table with old lines written, moved, from line `to` on; with so many of its own; and with one.
+abbrev movedOver : List ℕ → (to : ℕ) → Edit → List Entry → List ℕ
+movedOver t to ed es = putNumbers t (10 * to) (ofAll ofEntry (map (movedEntry ed) es))
+
 abbrev pub linesMoved : List ℕ → (from to count : ℕ) → Edit → List ℕ
 linesMoved t from to count ed =
     putNumbers t (10 * to) (ofAll ofEntry (map (movedEntry ed) (entriesIn count (drop (10 * from) t))))
@@ -24,7 +27,7 @@ lineMoved t from to ed = putNumbers t (10 * to) (ofEntry (movedEntry ed (entryIn
 
 -- ---- what can be moved without a number that wraps
 
--- The edit's offsets are in order, and it inserts no more than a text can have.
+-- The edit's offsets are in order, and no offset that the inserted bytes are added to wraps.
 pub record MovableEdit (ed : Edit) : Type 0 where
   pub order : ed .from .0 ≤ ed .to .0
   pub few : ed .inserted .0 ≤ 131071
@@ -90,35 +93,32 @@ module _ (t : List ℕ) (from to n : ℕ) (ed : Edit) where
         each = (subst (AllMovable ed) front (m .each) .0, tt);
       }
 
-  module _ (order : to ≤ from) where
+  module _ (order : to ≤ from) (room : 10 * to + 10 ≤ length t) where
     -- Those behind it are read as they were.
-    behind : 10 * to + 10 ≤ length t → drop (10 * (from + 1)) (lineMoved t from to ed) ≡ drop (10 * (from + 1)) t
-    behind h =
+    behind : drop (10 * (from + 1)) (lineMoved t from to ed) ≡ drop (10 * (from + 1)) t
+    behind =
         let e = movedEntry ed (entryIn (drop (10 * from) t)) in
         put-past t (10 * to) (ofEntry e) (omega arith) (10 * (from + 1)) (omega (arith, entry-numbers e))
 
-    pub first-moved : 10 * to + 10 ≤ length t
-        → linesMoved t from to (suc n) ed ≡ linesMoved (lineMoved t from to ed) (from + 1) (to + 1) n ed
+    pub first-moved : linesMoved t from to (suc n) ed ≡ linesMoved (lineMoved t from to ed) (from + 1) (to + 1) n ed
     unfolding ofAll
-    first-moved h =
+    first-moved =
         let e = movedEntry ed (entryIn (drop (10 * from) t)) in
-        let es = map (movedEntry ed) (entriesIn n (drop (10 * (from + 1)) t)) in
+        let xs = ofAll ofEntry (map (movedEntry ed) (entriesIn n (drop (10 * (from + 1)) t))) in
         let place : 10 * to + length (ofEntry e) ≡ 10 * (to + 1) = omega (arith, entry-numbers e) in
-        ap (λ (l : List Entry). putNumbers t (10 * to) (ofAll ofEntry (map (movedEntry ed) l))) front
-        ∙ sym (put-behind t (10 * to) (ofEntry e) (omega arith) (ofAll ofEntry es))
-        ∙ ap (λ (k : ℕ). putNumbers (lineMoved t from to ed) k (ofAll ofEntry es)) place
-        ∙ ap
-        (λ (l : List ℕ). putNumbers (lineMoved t from to ed) (10 * (to + 1)) (ofAll ofEntry (map (movedEntry ed) (entriesIn n l))))
-        (sym (behind h))
+        ap (movedOver t to ed) front
+        ∙ sym (join-behind t (10 * to) (ofEntry e) (omega arith) xs)
+        ∙ ap (λ (k : ℕ). putNumbers (lineMoved t from to ed) k xs) place
+        ∙ ap (λ (l : List ℕ). movedOver (lineMoved t from to ed) (to + 1) ed (entriesIn n l)) (sym behind)
 
     pub rest-movable : Movable t from to (suc n) ed → Movable (lineMoved t from to ed) (from + 1) (to + 1) n ed
     rest-movable m =
-        let k = line-length t from to ed (omega (arith, m .to-room)) in
+        let k = line-length t from to ed room in
         record {
           from-room = omega (arith, k, m .from-room);
           to-room = omega (arith, k, m .to-room);
           edit = m .edit;
-          each = subst (λ (l : List ℕ). AllMovable ed (entriesIn n l)) (sym (behind (omega (arith, m .to-room)))) (subst (AllMovable ed) front (m .each) .1);
+          each = subst (λ (l : List ℕ). AllMovable ed (entriesIn n l)) (sym behind) (subst (AllMovable ed) front (m .each) .1);
         }
 
 -- ---- from the last line on
@@ -141,44 +141,47 @@ module _ (t : List ℕ) (from to n : ℕ) (ed : Edit) where
         each = all-end ed (entriesIn n (drop (10 * from) t)) _ (subst (AllMovable ed) end (m .each));
       }
 
-  module _ (order : from ≤ to) where
-    -- Those before it are read as they were.
-    ahead : 10 * (to + n) ≤ length t
-        → entriesIn n (drop (10 * from) (lineMoved t (from + n) (to + n) ed)) ≡ entriesIn n (drop (10 * from) t)
-    ahead h =
-        let e = movedEntry ed (entryIn (drop (10 * (from + n)) t)) in
-        entries-before n (10 * from) (10 * (to + n)) t (ofEntry e) (omega arith) h
+  -- The numbers of all, moved.
+  end-numbers : ofAll ofEntry (map (movedEntry ed) (entriesIn (suc n) (drop (10 * from) t)))
+      ≡ ofAll ofEntry (map (movedEntry ed) (entriesIn n (drop (10 * from) t))) ++ ofEntry (movedEntry ed (entryIn (drop (10 * (from + n)) t)))
+  unfolding ofAll
+  end-numbers =
+      let old = entriesIn n (drop (10 * from) t) in
+      let e = entryIn (drop (10 * (from + n)) t) in
+      ap (λ (es : List Entry). ofAll ofEntry (map (movedEntry ed) es)) end
+      ∙ ap (ofAll ofEntry) (map-append (movedEntry ed) old (e ∷ []))
+      ∙ all-append ofEntry (map (movedEntry ed) old) (movedEntry ed e ∷ [])
+      ∙ ap (_++_ (ofAll ofEntry (map (movedEntry ed) old))) (append-nil (ofEntry (movedEntry ed e)))
 
-    pub last-moved : 10 * (to + n) ≤ length t
-        → linesMoved t from to (suc n) ed ≡ linesMoved (lineMoved t (from + n) (to + n) ed) from to n ed
-    unfolding ofAll
-    last-moved h =
+  module _ (order : from ≤ to) (room : 10 * (to + n) + 10 ≤ length t) where
+    -- Those before it are read as they were.
+    ahead : entriesIn n (drop (10 * from) (lineMoved t (from + n) (to + n) ed)) ≡ entriesIn n (drop (10 * from) t)
+    ahead =
+        let e = movedEntry ed (entryIn (drop (10 * (from + n)) t)) in
+        entries-before n (10 * from) (10 * (to + n)) t (ofEntry e) (omega arith) (omega (arith, entry-numbers e))
+
+    pub last-moved : linesMoved t from to (suc n) ed ≡ linesMoved (lineMoved t (from + n) (to + n) ed) from to n ed
+    last-moved =
         let e = movedEntry ed (entryIn (drop (10 * (from + n)) t)) in
         let old = entriesIn n (drop (10 * from) t) in
-        let xs = ofAll ofEntry (map (movedEntry ed) old) in
-        let all : ofAll ofEntry (map (movedEntry ed) (entriesIn (suc n) (drop (10 * from) t))) ≡ xs ++ ofEntry e =
-        ap (λ (es : List Entry). ofAll ofEntry (map (movedEntry ed) es)) end
-        ∙ ap (ofAll ofEntry) (map-append (movedEntry ed) old (entryIn (drop (10 * (from + n)) t) ∷ []))
-        ∙ all-append ofEntry (map (movedEntry ed) old) (e ∷ [])
-        ∙ ap (λ (l : List ℕ). xs ++ l) (append-nil (ofEntry e)) in
-        let place : 10 * to + length xs ≡ 10 * (to + n) =
-        omega (arith, entries-numbers (map (movedEntry ed) old), length-map old (movedEntry ed), entries-length n (drop (10 * from) t)) in
-        ap (putNumbers t (10 * to)) all
-        ∙ sym (put-ahead t (10 * to) xs (ofEntry e) (omega arith))
+        let es = map (movedEntry ed) old in
+        let xs = ofAll ofEntry es in
+        let count = length-map old (movedEntry ed) ∙ entries-length n (drop (10 * from) t) in
+        let place : 10 * to + length xs ≡ 10 * (to + n) = omega (arith, entries-numbers es, count) in
+        ap (putNumbers t (10 * to)) end-numbers
+        ∙ sym (join-ahead t (10 * to) xs (ofEntry e) (omega arith))
         ∙ ap (λ (k : ℕ). putNumbers (putNumbers t k (ofEntry e)) (10 * to) xs) place
-        ∙ ap
-        (λ (es : List Entry). putNumbers (lineMoved t (from + n) (to + n) ed) (10 * to) (ofAll ofEntry (map (movedEntry ed) es)))
-        (sym (ahead h))
+        ∙ ap (movedOver (lineMoved t (from + n) (to + n) ed) to ed) (sym ahead)
 
     pub before-movable : Movable t from to (suc n) ed → Movable (lineMoved t (from + n) (to + n) ed) from to n ed
     before-movable m =
-        let k = line-length t (from + n) (to + n) ed (omega (arith, m .to-room)) in
+        let k = line-length t (from + n) (to + n) ed room in
         record {
           from-room = omega (arith, k, m .from-room);
           to-room = omega (arith, k, m .to-room);
           edit = m .edit;
           each =
-              subst (AllMovable ed) (sym (ahead (omega (arith, m .to-room))))
+              subst (AllMovable ed) (sym ahead)
               (all-front ed (entriesIn n (drop (10 * from) t)) _ (subst (AllMovable ed) end (m .each)));
         }
 

@@ -1,6 +1,5 @@
 -- `table::moving::move_lines` meets its contract.
 -- Assumes nothing.
-use native.Mathlib.Omega.{arith}
 use borrow.Author.Needs.{needs}
 use Rattle.table.proofs.moving.move_lines.Statement.{statement}
 use Rattle.table.proofs.moving.move_lines.Tie as tie

@@ -1,0 +1,109 @@
+-- The lines of a well formed table from one on that starts behind the replaced bytes can be moved.
+-- Assumes nothing.
+use Prim.Native.Nat.{ℕ, zero, suc, _+_, _-_, _*_, _≤_, _<_}
+use mathlib.Core.Path.{_≡_, sym, ap, subst, _∙_}
+use mathlib.Core.Bool.{true, _&&_}
+use mathlib.Core.List.{List, [], _∷_}
+use native.Mathlib.Nat.{sub-zero}
+use native.Mathlib.Omega.{arith}
+use borrow.Author.Tests.{leb-true, ltb-true, eqb-true}
+use lib.Dec.{leb, ltb, eqb}
+use lib.ListN.{length, drop}
+use lib.Seq.{drop-nil, drop-drop}
+use Rattle.basis.specs.Choice.{and-true, by-either}
+use Rattle.meaning.specs.Table.{entryIn, entriesIn}
+use Rattle.meaning.specs.WellFormed.{lastReach, textLength, Before, nothing, line, startGood, noRest, restGood, checkLines, checkTable}
+use Rattle.meaning.specs.declared.edit.Edit.{Edit}
+use Rattle.meaning.specs.declared.line.Entry.{Entry}
+use Rattle.meaning.specs.declared.refusals.Checked.the-variants.{Good}
+use Rattle.table.specs.LinesFrom.{linesFrom, lines-more}
+use Rattle.table.specs.GoodTable.{good-more, good-start, good-rest, good-reach, start-after, table-reach, table-text, table-lines}
+use Rattle.table.specs.Moving.{MovableEntry, AllMovable}
+
+-- The lines of a table from line j on.
+pub entries-from : (j n : ℕ) (t : List ℕ) → drop j (entriesIn n t) ≡ entriesIn (n - j) (drop (10 * j) t)
+unfolding entriesIn
+entries-from zero n t = ap (λ (k : ℕ). entriesIn k t) (sym (sub-zero n))
+entries-from (suc j) zero t =
+    let e : 0 - suc j ≡ 0 = omega arith in
+    rw e
+entries-from (suc j) (suc n) t =
+    let e : suc n - suc j ≡ n - j = omega arith in
+    let f : 10 + 10 * j ≡ 10 * suc j = omega arith in
+    rw (e, ← f) (entries-from j n (drop 10 t) ∙ ap (entriesIn (n - j)) (drop-drop (10 * j) 10 t))
+
+-- ---- one line
+
+module _ (n : ℕ) (e : Entry) where
+  start-within : (b : Before) → startGood n b e ≡ true → e .start .0 ≤ n
+  unfolding startGood
+  start-within nothing h = omega (arith, eqb-true (e .start .0) 0 h)
+  start-within (line start reach) h = start-after n start reach e h .2
+
+  no-end : noRest e ≡ true → e .rest .end .0 ≡ 0
+  unfolding noRest
+  no-end h = eqb-true (e .rest .end .0) 0 (and-true (eqb (e .rest .end .0) 0) (eqb (e .rest .count .0) 0) h .0)
+
+  rest-within : (b : Before) → restGood n b e ≡ true → 0 < e .rest .end .0 → (e .start .0 ≤ e .rest .end .0) × (e .rest .end .0 ≤ n)
+  unfolding restGood
+  rest-within nothing h some = absurd (omega (arith, no-end h))
+  rest-within (line start reach) h some =
+      let end = e .rest .end .0 in
+      let above = ltb (e .start .0) end in
+      let inside = leb end n in
+      let examined = leb end reach in
+      let counted = leb (e .rest .count .0) (end - e .start .0) in
+      by-either (noRest e) (above && inside && examined && counted) h (λ f. absurd (omega (arith, no-end f)))
+      (λ f.
+      let g = and-true above inside (and-true (above && inside) examined (and-true (above && inside && examined) counted f .0) .0) in
+      (omega (arith, ltb-true (e .start .0) end (g .0)), leb-true end n (g .1)))
+
+-- ---- line after line
+
+module _ (n : ℕ) (ed : Edit) (short : n ≤ 65535) where
+  one : (k : ℕ) (b : Before) (e : Entry) (es : List Entry) → checkLines n k b (e ∷ es) ≡ Good → ed .to .0 ≤ e .start .0
+      → e .start .0 ≤ e .reach .0
+      → MovableEntry ed e
+  one k b e es h s r =
+      let rest = rest-within n e b (good-rest n k b e es h) in
+      record {
+        start = (omega arith, omega (arith, start-within n e b (good-start n k b e es h)));
+        rest = λ some. (omega (arith, rest some), omega (arith, rest some));
+        reach = (omega arith, omega (arith, good-reach n k b e es h));
+      }
+
+  lines : (k : ℕ) (b : Before) (e : Entry) (es : List Entry) → checkLines n k b (e ∷ es) ≡ Good → lastReach (e ∷ es) ≡ n + 1
+      → ed .to .0 ≤ e .start .0
+      → AllMovable ed (e ∷ es)
+  unfolding lastReach
+  lines k b e [] h r s = (one k b e [] h s (omega (arith, start-within n e b (good-start n k b e [] h))), tt)
+  lines k b e (f ∷ es) h r s =
+      let c = line (e .start .0) (e .reach .0) in
+      let more = good-more n k b e (f ∷ es) h in
+      let a = start-after n (e .start .0) (e .reach .0) f (good-start n (suc k) c f es more) in
+      (one k b e (f ∷ es) h s (omega (arith, a)), lines (suc k) c f es more r (omega (arith, a)))
+
+  -- From any of the lines on.
+  pub lines-movable : (j k : ℕ) (b : Before) (es : List Entry) → checkLines n k b es ≡ Good → lastReach es ≡ n + 1
+      → (e : Entry) (more : List Entry) → drop j es ≡ e ∷ more → ed .to .0 ≤ e .start .0
+      → AllMovable ed (e ∷ more)
+  unfolding lastReach
+  lines-movable zero k b es h r e more q s =
+      lines k b e more (ap (checkLines n k b) (sym q) ∙ h) (ap lastReach (sym q) ∙ r) s
+  lines-movable (suc j) k b [] h r e more q s = absurd (omega (arith, ap length q))
+  lines-movable (suc j) k b (x ∷ []) h r e more q s = absurd (omega (arith, ap length (sym (drop-nil j) ∙ q)))
+  lines-movable (suc j) k b (x ∷ f ∷ es) h r e more q s =
+      lines-movable j (suc k) (line (x .start .0) (x .reach .0)) (f ∷ es) (good-more n k b x (f ∷ es) h) r e more q s
+
+-- ---- of a table
+
+module _ (t : List ℕ) (lines j : ℕ) (ed : Edit) where
+  pub table-movable : checkTable lines t ≡ Good → j < lines → ed .to .0 ≤ entryIn (drop (10 * j) t) .start .0
+      → AllMovable ed (entriesIn (lines - j) (drop (10 * j) t))
+  unfolding textLength linesFrom
+  table-movable h k s =
+      let old = entriesIn lines t in
+      let reach : lastReach old ≡ textLength old + 1 = omega (arith, table-reach lines t h) in
+      let here = lines-more t lines j k in
+      subst (AllMovable ed) (sym here)
+      (lines-movable (textLength old) ed (table-text lines t h) j 0 nothing old (table-lines lines t h) reach _ _ (entries-from j lines t ∙ here) s)
