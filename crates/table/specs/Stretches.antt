@@ -7,8 +7,7 @@ use native.Mathlib.Nat.{add-zero}
 use native.Mathlib.Omega.{arith}
 use lib.ListN.{length, take, drop, length-append, length-drop, take-append-drop}
 use lib.Seq.{length-take-le, take-append-le, take-take, take-at, drop-at, drop-drop, take-add}
-use Rattle.meaning.specs.Table.{ofEntry, ofAll, entryIn, entriesIn}
-use Rattle.meaning.specs.declared.line.Entry.{Entry}
+use Rattle.meaning.specs.Table.{entryIn, entriesIn}
 use Rattle.laws.specs.TableLaws.{entries-length, entries-read, all-numbers-read}
 use Rattle.table.specs.Numbers.{putNumbers, put-length}
 
