@@ -4,9 +4,10 @@ use checks::refusals::value;
 use meaning::answers::Affected;
 use meaning::answers::Height;
 use meaning::answers::Laid;
+use meaning::answers::LineY;
 use meaning::answers::Tokenized;
 ghost use mathlib.Core.Path.{_≡_};
-ghost use Rattle.meaning.specs.Answers.{tokensNumber, tokensValue, layoutNumber, layoutValue, affectedNumber, affectedValue, heightNumber, heightValue};
+ghost use Rattle.meaning.specs.Answers.{tokensNumber, tokensValue, layoutNumber, layoutValue, affectedNumber, affectedValue, heightNumber, heightValue, yNumber, yValue, yPlace};
 
 pub fn tokens_number(a: Tokenized) -> u32
     ensures { λ r. ⌜ r ≡ tokensNumber a ⌝ }
@@ -77,5 +78,39 @@ pub fn height_value(a: Height) -> u64
     match a {
         Height::Pixels(pixels) => pixels,
         Height::Refused(refusal) => value(refusal),
+    }
+}
+
+pub fn y_number(a: LineY) -> u32
+    ensures { λ r. ⌜ r ≡ yNumber a ⌝ }
+{
+    match a {
+        LineY::Shows(_) => 0,
+        LineY::Hidden(_) => 0,
+        LineY::NoLine => 0,
+        LineY::Refused(refusal) => number(refusal),
+    }
+}
+
+pub fn y_value(a: LineY) -> u64
+    ensures { λ r. ⌜ r ≡ yValue a ⌝ }
+{
+    match a {
+        LineY::Shows(_) => 1,
+        LineY::Hidden(_) => 0,
+        LineY::NoLine => 2,
+        LineY::Refused(refusal) => value(refusal),
+    }
+}
+
+// A y that is not given leaves the old one.
+pub fn y_place(a: LineY, old: i32) -> i32
+    ensures { λ r. ⌜ r ≡ yPlace a old ⌝ }
+{
+    match a {
+        LineY::Shows(y) => y,
+        LineY::Hidden(y) => y,
+        LineY::NoLine => old,
+        LineY::Refused(_) => old,
     }
 }
