@@ -103,14 +103,18 @@ pub fn y_value(a: LineY) -> u64
     }
 }
 
-// A y that is not given leaves the old one.
-pub fn y_place(a: LineY, old: i32) -> i32
-    ensures { λ r. ⌜ r ≡ yPlace a old ⌝ }
+// The y is written only where there is such a line.
+pub fn put_y(a: LineY, y: &mut i32)
+    ensures { λ _. ⌜ now (y .exit) ≡ yPlace a (now (y .entry)) ⌝ }
 {
     match a {
-        LineY::Shows(y) => y,
-        LineY::Hidden(y) => y,
-        LineY::NoLine => old,
-        LineY::Refused(_) => old,
+        LineY::Shows(place) => {
+            *y = place;
+        }
+        LineY::Hidden(place) => {
+            *y = place;
+        }
+        LineY::NoLine => {}
+        LineY::Refused(_) => {}
     }
 }

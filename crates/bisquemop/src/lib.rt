@@ -7,8 +7,11 @@ use answers::height_number;
 use answers::height_value;
 use answers::layout_number;
 use answers::layout_value;
+use answers::put_y;
 use answers::tokens_number;
 use answers::tokens_value;
+use answers::y_number;
+use answers::y_value;
 use checks::refusals::checked_number;
 use checks::refusals::checked_value;
 use checks::settings::check_settings;
@@ -20,13 +23,14 @@ use meaning::edit::Edit;
 use meaning::settings::Settings;
 use parser::tokenize::tokenize;
 use table::affected::first_affected;
+use table::height::line_y;
 use table::height::text_height;
 ghost use mathlib.Core.Path.{_≡_};
 ghost use Rattle.meaning.specs.Settings.{settingsOf};
 ghost use Rattle.meaning.specs.Refusals.{checkedNumber, checkedValue};
 ghost use Rattle.meaning.specs.Checks.{checkSettings, checkText};
-ghost use Rattle.meaning.specs.Answers.{tokensNumber, tokensValue, layoutNumber, layoutValue, affectedNumber, affectedValue, heightNumber, heightValue};
-ghost use Rattle.meaning.specs.Calls.{tokensAnswer, tokensBuffer, layoutAnswer, layoutTable, affectedAnswer, heightAnswer};
+ghost use Rattle.meaning.specs.Answers.{tokensNumber, tokensValue, layoutNumber, layoutValue, affectedNumber, affectedValue, heightNumber, heightValue, yNumber, yValue, yPlace};
+ghost use Rattle.meaning.specs.Calls.{tokensAnswer, tokensBuffer, layoutAnswer, layoutTable, affectedAnswer, heightAnswer, yAnswer};
 ghost use Rattle.bisquemop.specs.Edits.{editOf};
 
 // The settings from the twelve numbers that C passes.
@@ -222,4 +226,48 @@ pub extern "C" fn bisquemop_height(
     let answer = text_height(s, table, lines as usize);
     *value = height_value(answer);
     height_number(answer)
+}
+
+#[no_mangle]
+pub extern "C" fn bisquemop_line_y(
+    glyph: u32,
+    width: u32,
+    tab: u32,
+    spacing: u32,
+    paragraph: u32,
+    base: u32,
+    height: u32,
+    top: i32,
+    alignment: u32,
+    vertical: u32,
+    leading: u32,
+    trailing: u32,
+    table: &[u32],
+    lines: u64,
+    line: u64,
+    value: &mut u64,
+    y: &mut i32,
+) -> u32
+    ensures { λ r. ⌜ r ≡ yNumber (yAnswer (settingsOf glyph width tab spacing paragraph base height top alignment vertical leading trailing) (now (table .entry)) lines line) ⌝ }
+    ensures { λ r. ⌜ now (value .exit) ≡ yValue (yAnswer (settingsOf glyph width tab spacing paragraph base height top alignment vertical leading trailing) (now (table .entry)) lines line) ⌝ }
+    ensures { λ r. ⌜ now (y .exit) ≡ yPlace (yAnswer (settingsOf glyph width tab spacing paragraph base height top alignment vertical leading trailing) (now (table .entry)) lines line) (now (y .entry)) ⌝ }
+{
+    let s = settings_from(
+        glyph,
+        width,
+        tab,
+        spacing,
+        paragraph,
+        base,
+        height,
+        top,
+        alignment,
+        vertical,
+        leading,
+        trailing,
+    );
+    let answer = line_y(s, table, lines as usize, line as usize);
+    *value = y_value(answer);
+    put_y(answer, y);
+    y_number(answer)
 }
