@@ -1,8 +1,8 @@
 /*
  * Bisquemop lays text in a box where every character has the same width, and says for each line where it starts, where
  * it ends and where it is drawn. This version checks settings and texts, splits a text into tokens, lays a text into a
- * table of lines, says from such a table which line an edit affects first, and how high the lines stand. What is drawn
- * inside a line, laying again after an edit, and the y of each line are still to come.
+ * table of lines, says from such a table which line an edit affects first, how high the lines stand, and where each of
+ * them stands. What is drawn inside a line and laying again after an edit are still to come.
  *
  * Link with libbisquemop.a (x86-64 Linux). The header is C99, and C++ can include it too.
  *
@@ -92,6 +92,13 @@ enum bisquemop_end {
     BISQUEMOP_END_CARRIAGE_RETURN = 1,
     BISQUEMOP_END_END_OF_TEXT = 2,
     BISQUEMOP_END_LINE_BREAK = 3 /* the line is full */
+};
+
+/* Whether a line shows. */
+enum bisquemop_showing {
+    BISQUEMOP_HIDDEN = 0, /* the line is above the box, below it, or juts out of it */
+    BISQUEMOP_SHOWS = 1,
+    BISQUEMOP_NO_LINE = 2 /* there is no such line */
 };
 
 /* The columns of a token: token k's number of a column stands at BISQUEMOP_TOKEN_NUMBERS * k + the column. */
@@ -237,6 +244,36 @@ static inline uint32_t bisquemop_settings_height(const struct bisquemop_settings
 {
     return bisquemop_height(s->glyph, s->width, s->tab, s->spacing, s->paragraph, s->base, s->height, s->top,
                             s->alignment, s->vertical, s->leading, s->trailing, table, table_len, lines, value);
+}
+
+/*
+ * Where line `line`, counted from 0, of such a text stands, and whether it shows. Its y is `top`, plus the vertical
+ * offset, plus what the lines before it add: each adds what bisquemop_height counts for it, but here a full line before
+ * an empty last line adds `spacing` too, and after a carriage return the y is the same. The offset is 0 at the top; in
+ * the middle it is half of what the box is higher than the text, toward zero; at the bottom it is all of that. It is
+ * negative where the text is higher than the box. A line shows if its y is at least `top` and at most `top` plus
+ * `height` less `base`. `y` points to an int32_t of the caller's, apart from all else. It must not be NULL. The table
+ * is only read. Returns
+ *   BISQUEMOP_OK                    done; *value is one of enum bisquemop_showing: 1 if the line shows, 0 if not, 2 if
+ *                                   there is no such line. *y is the line's y; if there is no such line, it is not
+ *                                   written
+ *   BISQUEMOP_SETTING_OUT_OF_RANGE  as by bisquemop_check_settings; *value is 0
+ *   BISQUEMOP_UNKNOWN_ALIGNMENT     as by bisquemop_check_settings; *value is the number that was given
+ *   BISQUEMOP_BAD_LINE              as by bisquemop_first_affected; *value is the first bad line
+ */
+uint32_t bisquemop_line_y(uint32_t glyph, uint32_t width, uint32_t tab, uint32_t spacing, uint32_t paragraph,
+                          uint32_t base, uint32_t height, int32_t top, uint32_t alignment, uint32_t vertical,
+                          uint32_t leading, uint32_t trailing, const uint32_t *table, size_t table_len, uint64_t lines,
+                          uint64_t line, uint64_t *value, int32_t *y);
+
+/* The same for settings in a struct, which must not be NULL. */
+static inline uint32_t bisquemop_settings_line_y(const struct bisquemop_settings *s, const uint32_t *table,
+                                                 size_t table_len, uint64_t lines, uint64_t line, uint64_t *value,
+                                                 int32_t *y)
+{
+    return bisquemop_line_y(s->glyph, s->width, s->tab, s->spacing, s->paragraph, s->base, s->height, s->top,
+                            s->alignment, s->vertical, s->leading, s->trailing, table, table_len, lines, line, value,
+                            y);
 }
 
 #ifdef __cplusplus

@@ -19,6 +19,8 @@ int main(void)
     test_layout();
     printf("tables\n");
     test_tables();
+    printf("heights\n");
+    test_heights();
     printf("random edits\n");
     test_edits();
     return finish();

@@ -196,6 +196,41 @@ void expect_height(const char *what, struct bisquemop_settings s, const uint32_t
     compare_lent(what, table_len, table, table_len);
 }
 
+/* A y between two others, which must stay as they were. */
+static void compare_y(const char *what, const int32_t *three, uint64_t line, int32_t y)
+{
+    if (three[0] == 17 && three[1] == y && three[2] == 18) {
+        passed++;
+        return;
+    }
+    failed++;
+    printf("FAILED %s: at line %" PRIu64 ", expected y %" PRId32 "%s, got %" PRId32 "%s\n", what, line, y,
+           y == KEPT ? " as before" : "", three[1],
+           three[0] != 17 || three[2] != 18 ? ", and what stands beside it was written" : "");
+}
+
+void expect_y(const char *what, struct bisquemop_settings s, const uint32_t *table, size_t table_len, uint64_t lines,
+              uint64_t line, uint32_t number, uint64_t value, int32_t y)
+{
+    struct answer plain = no_answer(), spread = no_answer();
+    int32_t plain_y[3] = {17, KEPT, 18}, spread_y[3] = {17, KEPT, 18};
+    plain.number = bisquemop_line_y(s.glyph, s.width, s.tab, s.spacing, s.paragraph, s.base, s.height, s.top,
+                                    s.alignment, s.vertical, s.leading, s.trailing, lend_table(table, table_len),
+                                    table_len, lines, line, &plain.value, &plain_y[1]);
+    if (!compare(what, &plain, number, value)) {
+        printf(", for line %" PRIu64 " of %" PRIu64 "\n", line, lines);
+    }
+    compare_y(what, plain_y, line, y);
+    compare_lent(what, table_len, table, table_len);
+    spread.number =
+        bisquemop_settings_line_y(&s, lend_table(table, table_len), table_len, lines, line, &spread.value, &spread_y[1]);
+    if (!compare(what, &spread, number, value)) {
+        printf(", from a struct, for line %" PRIu64 " of %" PRIu64 "\n", line, lines);
+    }
+    compare_y(what, spread_y, line, y);
+    compare_lent(what, table_len, table, table_len);
+}
+
 int finish(void)
 {
     printf("%lu passed, %lu failed\n", passed, failed);

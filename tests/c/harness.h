@@ -27,6 +27,11 @@ void expect_affected(const char *what, const uint32_t *table, size_t table_len, 
 void expect_height(const char *what, struct bisquemop_settings s, const uint32_t *table, size_t table_len,
                    uint64_t lines, uint32_t number, uint64_t value);
 
+/* The same with a y to write: it must be `y`, which is KEPT where it must stay as it was. */
+#define KEPT INT32_MIN
+void expect_y(const char *what, struct bisquemop_settings s, const uint32_t *table, size_t table_len, uint64_t lines,
+              uint64_t line, uint32_t number, uint64_t value, int32_t y);
+
 /* A number below n, from a fixed seed. */
 uint32_t below(uint32_t n);
 
@@ -41,6 +46,7 @@ void test_random(void);
 void test_tokens(void);
 void test_layout(void);
 void test_tables(void);
+void test_heights(void);
 void test_edits(void);
 
 #endif

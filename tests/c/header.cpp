@@ -17,6 +17,14 @@ std::uint32_t height_of(const bisquemop_settings &settings, const std::uint8_t *
     return refused == BISQUEMOP_OK ? bisquemop_settings_height(&settings, table, table_len, value, &value) : refused;
 }
 
+std::int32_t top_of(const bisquemop_settings &settings, const std::uint32_t *table, std::size_t table_len,
+                    std::uint64_t lines, std::uint64_t &value)
+{
+    std::int32_t y = 0;
+    const std::uint32_t refused = bisquemop_settings_line_y(&settings, table, table_len, lines, 0, &value, &y);
+    return refused == BISQUEMOP_OK && value == BISQUEMOP_SHOWS ? y : settings.top;
+}
+
 std::uint32_t first_start(const std::uint32_t *table, std::size_t table_len, std::uint64_t lines, std::uint64_t &value)
 {
     const std::uint32_t refused = bisquemop_first_affected(table, table_len, lines, 0, 0, 0, &value);

@@ -1,4 +1,4 @@
-/* bisquemop_first_affected and bisquemop_height: good tables, bad ones, edits that are bad or too long, heights. */
+/* The calls that read a table: good tables, bad ones, edits that are bad or too long. */
 #include "harness.h"
 
 #include <stdio.h>
@@ -75,6 +75,15 @@ static const struct table_example table_examples[] = {
     {1, 2, {LINE(0, 0, 0, 2, 8), LINE(9, 9, 9, 9, 9)}, GOOD},
 };
 
+/* The height and each y are refused by the same tests, that of a line that is not there too. */
+static void no_height(const char *what, struct bisquemop_settings s, const uint32_t *numbers, size_t len,
+                      uint64_t lines, uint32_t number, uint64_t value)
+{
+    expect_height(what, s, numbers, len, lines, number, value);
+    expect_y(what, s, numbers, len, lines, 0, number, value, KEPT);
+    expect_y(what, s, numbers, len, lines, lines, number, value, KEPT);
+}
+
 /* A bad table comes before a bad edit and an edited text that is too long, and after the settings. */
 static void bad_table(const char *what, const uint32_t *numbers, size_t len, uint64_t lines, uint64_t bad)
 {
@@ -82,13 +91,13 @@ static void bad_table(const char *what, const uint32_t *numbers, size_t len, uin
     expect_affected(what, numbers, len, lines, 0, 0, 0, BISQUEMOP_BAD_LINE, bad);
     expect_affected(what, numbers, len, lines, 1, 0, 0, BISQUEMOP_BAD_LINE, bad);
     expect_affected(what, numbers, len, lines, 0, 0, UINT32_MAX, BISQUEMOP_BAD_LINE, bad);
-    expect_height(what, s, numbers, len, lines, BISQUEMOP_BAD_LINE, bad);
+    no_height(what, s, numbers, len, lines, BISQUEMOP_BAD_LINE, bad);
     s.vertical = 3;
-    expect_height(what, s, numbers, len, lines, BISQUEMOP_UNKNOWN_ALIGNMENT, 3);
+    no_height(what, s, numbers, len, lines, BISQUEMOP_UNKNOWN_ALIGNMENT, 3);
     s.alignment = 4;
-    expect_height(what, s, numbers, len, lines, BISQUEMOP_UNKNOWN_ALIGNMENT, 4);
+    no_height(what, s, numbers, len, lines, BISQUEMOP_UNKNOWN_ALIGNMENT, 4);
     s.base = 0;
-    expect_height(what, s, numbers, len, lines, BISQUEMOP_SETTING_OUT_OF_RANGE, 0);
+    no_height(what, s, numbers, len, lines, BISQUEMOP_SETTING_OUT_OF_RANGE, 0);
 }
 
 static void test_table_examples(void)
@@ -223,6 +232,10 @@ static void test_long(void)
     uint64_t lines = lay(most, text, sizeof text);
     expect("65,536 lines", lines == 65536);
     expect_height("the largest height", most, table, len, lines, BISQUEMOP_OK, UINT64_C(64) + 65535 * 8192);
+    expect_y("the lowest y", most, table, len, lines, 0, BISQUEMOP_OK, BISQUEMOP_HIDDEN, 8128 - 65535 * 8192);
+    expect_y("the last line at the bottom", most, table, len, lines, 65535, BISQUEMOP_OK, BISQUEMOP_SHOWS, 8128);
+    most.vertical = BISQUEMOP_VERTICAL_TOP;
+    expect_y("the highest y", most, table, len, lines, 65535, BISQUEMOP_OK, BISQUEMOP_HIDDEN, 4096 + 65535 * 8192);
     expect_affected("the first byte", table, len, lines, 0, 1, 1, BISQUEMOP_OK, 0);
     expect_affected("a byte", table, len, lines, 30000, 30001, 1, BISQUEMOP_OK, 30000);
     expect_affected("the last byte", table, len, lines, 65534, 65535, 0, BISQUEMOP_OK, 65534);
@@ -231,42 +244,7 @@ static void test_long(void)
     expect_affected("one line less", table, len, lines - 1, 0, 0, 0, BISQUEMOP_BAD_LINE, 65534);
     table[NUMBERS * 40000 + BISQUEMOP_LINE_START] = 39999;
     expect_affected("a start that does not rise", table, len, lines, 0, 0, 0, BISQUEMOP_BAD_LINE, 40000);
-    expect_height("a start that does not rise", most, table, len, lines, BISQUEMOP_BAD_LINE, 40000);
-}
-
-static void test_heights(void)
-{
-    static const struct {
-        uint32_t height, vertical;
-        const char *text;
-        uint64_t expected;
-    } list[] = {
-        {40, 0, "aa\nbb", 21},
-        {40, 1, "aa\nbb", 21},
-        {40, 2, "aa\nbb", 21},
-        {0, 1, "aa\nbb", 21},
-        /* a carriage return keeps the same y */
-        {40, 0, "aa\rbb", 8},
-        /* a full line counts, but not before an empty last line */
-        {40, 0, "aaaaab", 18},
-        {40, 0, "     ab", 8},
-        /* a new line counts there too */
-        {40, 0, "aa\n", 21},
-        {40, 0, "\n\n", 34},
-        {40, 0, "", 8},
-        {40, 0, "     not the baker", 28},
-    };
-    for (size_t i = 0; i < sizeof list / sizeof list[0]; i++) {
-        char what[64];
-        struct bisquemop_settings s = standing(30, list[i].height, list[i].vertical);
-        uint64_t lines = lay(s, (const uint8_t *)list[i].text, strlen(list[i].text));
-        snprintf(what, sizeof what, "height example %lu", (unsigned long)i);
-        expect_height(what, s, table, NUMBERS * (size_t)lines, lines, BISQUEMOP_OK, list[i].expected);
-        expect_height(what, s, table, NUMBERS * (size_t)lines + 7, lines, BISQUEMOP_OK, list[i].expected);
-        expect_height(what, s, table, NUMBERS * (size_t)lines - 1, lines, BISQUEMOP_BAD_LINE, 0);
-        s.spacing = s.paragraph = 0;
-        expect_height("no spacing", s, table, NUMBERS * (size_t)lines, lines, BISQUEMOP_OK, 8);
-    }
+    no_height("a start that does not rise", most, table, len, lines, BISQUEMOP_BAD_LINE, 40000);
 }
 
 void test_tables(void)
@@ -275,5 +253,4 @@ void test_tables(void)
     test_counts();
     test_edit_examples();
     test_long();
-    test_heights();
 }
