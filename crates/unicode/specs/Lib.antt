@@ -14,3 +14,4 @@ pub mod Walk
 pub mod Prefix
 pub mod Boundaries
 pub mod Members
+pub mod Ascii

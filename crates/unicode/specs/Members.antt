@@ -1,13 +1,14 @@
 -- The test of membership says what it should.
 -- Assumes nothing.
-use mathlib.Core.Path.{_≡_, sym}
+use mathlib.Core.Path.{_≡_, refl, sym, _∙_}
 use mathlib.Core.Logic.{_↔_}
-use mathlib.Core.Bool.{true, false≢true}
+use mathlib.Core.Bool.{Bool, true, false, _&&_, _||_, false≢true}
 use mathlib.Core.List.{List, [], _∷_, List·Memᴰ, List·Memᴰ·head, List·Memᴰ·tail}
-use Prim.Native.Nat.{ℕ}
-use lib.Dec.{eqb}
-use borrow.Author.Tests.{eq-eqb, eqb-true}
-use Rattle.basis.specs.Choice.{by-either, either-first, either-second}
+use Prim.Native.Nat.{ℕ, _+_, _<_}
+use native.Mathlib.Omega.{arith}
+use lib.Dec.{eqb, leb}
+use borrow.Author.Tests.{eq-eqb, ne-eqb, eqb-true, leb-true}
+use Rattle.basis.specs.Choice.{by-either, either-first, either-second, and-true}
 use Rattle.unicode.specs.WhiteSpace.{whiteSpaces, member, isWhite}
 
 member-true : (c : ℕ) (l : List ℕ) → member c l ≡ true → List·Memᴰ c l
@@ -24,3 +25,29 @@ member-is c l (List·Memᴰ·tail {x = x} {xs = xs} m) = either-second (eqb x c)
 pub white-member : (c : ℕ) → (isWhite c ≡ true) ↔ List·Memᴰ c whiteSpaces
 unfolding isWhite
 white-member c = (member-true c whiteSpaces, member-is c whiteSpaces)
+
+-- ---- gaps
+
+-- No number of a list lies between two: a test that computes.
+unfoldable pub gap : (lo hi : ℕ) → List ℕ → Bool
+gap lo hi [] = true
+gap lo hi (x ∷ xs) = (leb x lo || leb hi x) && gap lo hi xs
+
+-- What lies in a gap is none of them.
+pub in-gap : (lo hi c : ℕ) (l : List ℕ) → gap lo hi l ≡ true → lo < c → c < hi → member c l ≡ false
+unfolding gap member
+in-gap lo hi c [] e a b = refl
+in-gap lo hi c (x ∷ xs) e a b =
+    let f = and-true (leb x lo || leb hi x) (gap lo hi xs) e in
+    let n : x ≡ c → ⊥ =
+    λ p. by-either (leb x lo) (leb hi x) (f .0) (λ q. omega (arith, leb-true x lo q)) (λ q. omega (arith, leb-true hi x q)) in
+    rw (ne-eqb x c n) (in-gap lo hi c xs (f .1) a b)
+
+-- The two great gaps of White_Space.
+pub above-all : (c : ℕ) → 0x3000 < c → isWhite c ≡ false
+unfolding isWhite whiteSpaces gap
+above-all c h = in-gap 0x3000 (c + 1) c whiteSpaces refl h (omega arith)
+
+pub between-spaces : (c : ℕ) → 0x00A0 < c → c < 0x1680 → isWhite c ≡ false
+unfolding isWhite whiteSpaces gap
+between-spaces c a b = in-gap 0x00A0 0x1680 c whiteSpaces refl a b

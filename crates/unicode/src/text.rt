@@ -1,20 +1,55 @@
 // A text of bytes: how much of it is UTF-8, where its characters begin, and how many there are.
+ghost use Prim.Native.Nat.{_≤_};
 ghost use mathlib.Core.Path.{_≡_};
+ghost use lib.ListN.{length};
 ghost use Rattle.unicode.specs.Decoding.{validPrefix};
 ghost use Rattle.unicode.specs.Places.{boundaryAt, countChars};
+ghost use Rattle.unicode.specs.Ascii.{Passed};
 use crate::sequence::Decoded;
 use crate::sequence::decode;
 use crate::sequence::is_cont;
+
+// Bytes below 80, each a character by itself, are passed four at a time while four are left.
+fn pass_fours(text: &[u8], from: usize) -> usize
+    requires { ⌜ from ≤ length (now text) ⌝ }
+    ensures { λ r. ⌜ Passed (now (text .entry)) from r ⌝ }
+{
+    let mut at = from;
+    while 4 <= text.len() - at {
+        let front = (text[at] < 0x80) & (text[at + 1] < 0x80);
+        let back = (text[at + 2] < 0x80) & (text[at + 3] < 0x80);
+        if !(front & back) {
+            return at;
+        }
+        at += 4;
+    }
+    at
+}
+
+// Bytes below 80 are passed, to the first that is none of them.
+fn pass_ascii(text: &[u8], from: usize) -> usize
+    requires { ⌜ from ≤ length (now text) ⌝ }
+    ensures { λ r. ⌜ Passed (now (text .entry)) from r ⌝ }
+{
+    let mut at = pass_fours(text, from);
+    while at < text.len() {
+        if 0x80 <= text[at] {
+            return at;
+        }
+        at += 1;
+    }
+    at
+}
 
 // How many bytes the longest prefix has that is UTF-8.
 pub fn valid_prefix(text: &[u8]) -> usize
     ensures { λ r. ⌜ r ≡ validPrefix (now (text .entry)) ⌝ }
 {
-    let mut at: usize = 0;
+    let mut at = pass_ascii(text, 0);
     loop {
         match decode(text, at) {
             Decoded::Char { cp: _, len } => {
-                at += len as usize;
+                at = pass_ascii(text, at + len as usize);
             }
             Decoded::Bad => {
                 return at;

@@ -30,8 +30,8 @@ const WHITE: [u32; 25] = [
     0x3000,
 ];
 
-// Is a code point white space.
-pub fn is_white_space(c: u32) -> bool
+// Is a code point one of the 25: the table is walked.
+fn is_listed(c: u32) -> bool
     ensures { λ r. ⌜ r ≡ isWhite c ⌝ }
 {
     let mut i: usize = 0;
@@ -42,4 +42,20 @@ pub fn is_white_space(c: u32) -> bool
         i += 1;
     }
     false
+}
+
+// Is a code point white space. The two great gaps of the table need no walk.
+pub fn is_white_space(c: u32) -> bool
+    ensures { λ r. ⌜ r ≡ isWhite c ⌝ }
+{
+    if 0x3000 < c {
+        return false;
+    }
+    if c <= 0x00A0 {
+        return is_listed(c);
+    }
+    if c < 0x1680 {
+        return false;
+    }
+    is_listed(c)
 }

@@ -19,8 +19,11 @@ Inv-loop text at₀ at = (validPrefix text ≡ at + validPrefix (drop at text)) 
 abbrev μ-loop : tie.MeasureT-loop
 μ-loop text at₀ at = length text - at
 
+pass-ascii-requires : tie.Need-pass-ascii-requires Inv-loop μ-loop
+pass-ascii-requires c κs = search needs
+
 loop-holds : tie.Need-loop-holds Inv-loop μ-loop
-loop-holds c = omega arith
+loop-holds c = let p = c .pass-ascii .ensures in (omega (arith, p .prefix), p .inside)
 
 decode-requires : tie.Need-decode-requires Inv-loop μ-loop
 decode-requires c κs = search needs
@@ -33,7 +36,7 @@ abbrev Read : Type 0
 Read = tie.After-known-told Inv-loop μ-loop
 
 abbrev S : Read → List ℕ
-S c = c .before .before .before .before .before .before .args .text .now
+S c = c .before .before .before .before .before .before .before .args .text .now
 
 abbrev I : Read → ℕ
 I c = c .before .before .before .before .loop .at
@@ -47,17 +50,23 @@ read c = sym (c .before .before .before .decode .ensures) ∙ c .before .len .gi
 room : (c : Read) → (1 ≤ N c) × (I c + N c ≤ length (S c))
 room c = decode-at-within (S c) (I c) _ (N c) (read c)
 
-cast-at : tie.Need-cast-at Inv-loop μ-loop
-cast-at c = omega (arith, room c)
+cast-pass-ascii : tie.Need-cast-pass-ascii Inv-loop μ-loop
+cast-pass-ascii c = omega (arith, room c)
 
-add-at : tie.Need-add-at Inv-loop μ-loop
-add-at c = omega (arith, room c)
+add-pass-ascii : tie.Need-add-pass-ascii Inv-loop μ-loop
+add-pass-ascii c = omega (arith, room c)
+
+pass-ascii-requires-2 : tie.Need-pass-ascii-requires-2 Inv-loop μ-loop
+pass-ascii-requires-2 c κs = omega (arith, room c)
 
 loop-less : tie.Need-loop-less Inv-loop μ-loop
-loop-less c = omega (arith, room c)
+loop-less c = let p = c .pass-ascii2 .ensures in omega (arith, room (c .before), p .forward, p .inside)
 
 loop-again : tie.Need-loop-again Inv-loop μ-loop
-loop-again c = omega (arith, room c, prefix-at-more (S c) (I c) _ (N c) (read c))
+loop-again c =
+    let p = c .pass-ascii2 .ensures in
+    let r = c .before in
+    (omega (arith, r .before .before .before .before .loop .inv, prefix-at-more (S r) (I r) _ (N r) (read r), p .forward, p .prefix), p .inside)
 
 enum-told : tie.Need-enum-told Inv-loop μ-loop
 enum-told c = search needs
@@ -65,7 +74,7 @@ enum-told c = search needs
 returns : tie.Need-returns Inv-loop μ-loop
 returns c =
     let d = c .before .before in
-    omega (arith, prefix-at-none (d .before .before .before .args .text .now) (d .before .loop .at) (ap isChar (sym (d .decode .ensures) ∙ c .enum-told .given .1)))
+    omega (arith, prefix-at-none (d .before .before .before .before .args .text .now) (d .before .loop .at) (ap isChar (sym (d .decode .ensures) ∙ c .enum-told .given .1)))
 
 enum-told-2 : tie.Need-enum-told-2 Inv-loop μ-loop
 enum-told-2 c = search needs
@@ -73,7 +82,7 @@ enum-told-2 c = search needs
 returns-2 : tie.Need-returns-2 Inv-loop μ-loop
 returns-2 c =
     let d = c .before .before in
-    omega (arith, prefix-at-none (d .before .before .before .args .text .now) (d .before .loop .at) (ap isChar (sym (d .decode .ensures) ∙ c .enum-told2 .given .1)))
+    omega (arith, prefix-at-none (d .before .before .before .before .args .text .now) (d .before .loop .at) (ap isChar (sym (d .decode .ensures) ∙ c .enum-told2 .given .1)))
 
 pub valid-prefix-spec : {M : Type 1} → statement M
 valid-prefix-spec =
@@ -81,11 +90,13 @@ valid-prefix-spec =
     (tie.spec
     Inv-loop
     μ-loop
+    pass-ascii-requires
     loop-holds
     decode-requires
     enum-known-len
-    cast-at
-    add-at
+    cast-pass-ascii
+    add-pass-ascii
+    pass-ascii-requires-2
     loop-less
     loop-again
     enum-told

@@ -1,66 +1,30 @@
--- `unicode::white_space::is_white_space` meets its contract. The invariant: whether the number is in the table is whether it is in
--- what the walk has left.
+-- `unicode::white_space::is_white_space` meets its contract.
 -- Assumes nothing.
-use mathlib.Core.Path.{_≡_, refl, sym, _∙_}
-use Prim.Native.Nat.{_-_, _≤_}
+use mathlib.Core.Path.{_≡_, sym}
 use native.Mathlib.Omega.{arith}
-use lib.ListN.{drop}
 use borrow.Author.Needs.{needs}
-use Rattle.unicode.specs.WhiteSpace.{whiteSpaces, member, isWhite}
-use Rattle.unicode.proofs.Steps.{member-here, member-later, member-end}
+use Rattle.unicode.specs.Members.{above-all, between-spaces}
 use Rattle.unicode.proofs.white_space.is_white_space.Statement.{statement}
 use Rattle.unicode.proofs.white_space.is_white_space.Tie as tie
 
-abbrev Inv-loop : tie.InvT-loop
-Inv-loop c i₀ i = (member c whiteSpaces ≡ member c (drop i whiteSpaces)) × (i ≤ 25)
+returns : tie.Need-returns
+returns c = sym (above-all _ (omega arith))
 
-abbrev μ-loop : tie.MeasureT-loop
-μ-loop c i₀ i = 25 - i
+is-listed-requires : tie.Need-is-listed-requires
+is-listed-requires c κs = search needs
 
-loop-holds : tie.Need-loop-holds Inv-loop μ-loop
-loop-holds c = (refl, omega arith)
+returns-2 : tie.Need-returns-2
+returns-2 c = search needs
 
-mul-if1 : tie.Need-mul-if1 Inv-loop μ-loop
-mul-if1 c = search needs
+returns-3 : tie.Need-returns-3
+returns-3 c = sym (between-spaces _ (omega arith) (omega arith))
 
-array-read-if1 : tie.Need-array-read-if1 Inv-loop μ-loop
-array-read-if1 c = search needs
+is-listed-requires-2 : tie.Need-is-listed-requires-2
+is-listed-requires-2 c κs = search needs
 
-returns : tie.Need-returns Inv-loop μ-loop
-unfolding whiteSpaces isWhite
-returns c =
-    let l = c .before .before .loop in
-    sym (l .inv .0 ∙ member-here whiteSpaces (l .i) _ (omega arith) (c .if1 .taken))
-
-add-i : tie.Need-add-i Inv-loop μ-loop
-add-i c = search needs
-
-loop-less : tie.Need-loop-less Inv-loop μ-loop
-loop-less c = search needs
-
-loop-again : tie.Need-loop-again Inv-loop μ-loop
-unfolding whiteSpaces
-loop-again c =
-    let l = c .before .before .loop in
-    (l .inv .0 ∙ member-later whiteSpaces (l .i) _ (omega arith) (c .if1 .left), omega arith)
-
-returns-2 : tie.Need-returns-2 Inv-loop μ-loop
-unfolding whiteSpaces isWhite
-returns-2 c =
-    let l = c .before .loop in
-    sym (l .inv .0 ∙ member-end whiteSpaces (l .i) _ (omega arith))
+returns-4 : tie.Need-returns-4
+returns-4 c = search needs
 
 pub is-white-space-spec : {M : Type 1} → statement M
 is-white-space-spec =
-    tie.close
-    (tie.spec
-    Inv-loop
-    μ-loop
-    loop-holds
-    mul-if1
-    array-read-if1
-    returns
-    add-i
-    loop-less
-    loop-again
-    returns-2)
+    tie.close (tie.spec returns is-listed-requires returns-2 returns-3 is-listed-requires-2 returns-4)

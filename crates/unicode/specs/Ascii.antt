@@ -1,0 +1,60 @@
+-- Bytes below 80, each of which is a character by itself (Table 3-6).
+-- Assumes nothing.
+use mathlib.Core.Path.{_≡_, subst}
+use mathlib.Core.Bool.{Bool, true, _&&_}
+use mathlib.Core.List.{List, [], _∷_}
+use Prim.Native.Nat.{ℕ, suc, _+_, _-_, _≤_, _<_}
+use native.Mathlib.Omega.{arith}
+use borrow.Author.Tests.{lt-ltb, ltb-true}
+use lib.Dec.{ltb}
+use lib.ListN.{length, getD, drop}
+use lib.Seq.{drop-cons}
+use Rattle.basis.specs.Choice.{pick, and-true}
+use Rattle.unicode.specs.Decoding.{seqLen, value, decodeHead, decodeAt, validPrefix}
+use Rattle.unicode.specs.Rows.{one-is}
+use Rattle.unicode.specs.RoundTrip.{char-is}
+use Rattle.unicode.specs.Prefix.{prefix-at-more}
+use Rattle.unicode.specs.declared.sequence.Decoded.the-variants.{Char}
+
+pub decode-ascii : (t : List ℕ) (i : ℕ) → i < length t → getD t i 0 < 0x80 → decodeAt t i ≡ Char (getD t i 0) 1
+unfolding decodeAt decodeHead seqLen pick value
+decode-ascii t i h l =
+    let a = getD t i 0 in
+    rw (drop-cons t i 0 h, lt-ltb a 0x80 l) (char-is (a ∷ []) (one-is a l))
+
+-- From one position of a text to another UTF-8 goes on.
+pub record Passed (t : List ℕ) (from to : ℕ) : Type 0 where
+  pub forward : from ≤ to
+  pub inside : to ≤ length t
+  pub prefix : validPrefix (drop from t) ≡ to - from + validPrefix (drop to t)
+
+module _ (t : List ℕ) (from : ℕ) where
+  pub pass-none : from ≤ length t → Passed t from from
+  pass-none h = record { forward = omega arith; inside = h; prefix = omega arith }
+
+  -- One byte more.
+  pub pass-one : (i : ℕ) → i < length t → getD t i 0 < 0x80 → Passed t from i → Passed t from (i + 1)
+  pass-one i h l p =
+      record {
+        forward = omega (arith, p .forward);
+        inside = omega arith;
+        prefix = omega (arith, p .forward, p .prefix, prefix-at-more t i (getD t i 0) 1 (decode-ascii t i h l));
+      }
+
+  -- Four bytes more.
+  pub pass-four : (i : ℕ) → i + 4 ≤ length t
+      → ltb (getD t i 0) 0x80 && ltb (getD t (i + 1) 0) 0x80 && (ltb (getD t (i + 2) 0) 0x80 && ltb (getD t (i + 3) 0) 0x80) ≡ true
+      → Passed t from i → Passed t from (i + 4)
+  pass-four i h e p =
+      let low : ℕ → Bool = λ k. ltb (getD t (i + k) 0) 0x80 in
+      let all = and-true (ltb (getD t i 0) 0x80 && low 1) (low 2 && low 3) e in
+      let front = and-true (ltb (getD t i 0) 0x80) (low 1) (all .0) in
+      let back = and-true (low 2) (low 3) (all .1) in
+      let one = pass-one i (omega arith) (ltb-true (getD t i 0) 0x80 (front .0)) p in
+      let two = pass-one (i + 1) (omega arith) (ltb-true (getD t (i + 1) 0) 0x80 (front .1)) one in
+      let two' : i + 1 + 1 ≡ i + 2 = omega arith in
+      let three = pass-one (i + 2) (omega arith) (ltb-true (getD t (i + 2) 0) 0x80 (back .0)) (subst (Passed t from) two' two) in
+      let three' : i + 2 + 1 ≡ i + 3 = omega arith in
+      let four = pass-one (i + 3) (omega arith) (ltb-true (getD t (i + 3) 0) 0x80 (back .1)) (subst (Passed t from) three' three) in
+      let four' : i + 3 + 1 ≡ i + 4 = omega arith in
+      subst (Passed t from) four' four
