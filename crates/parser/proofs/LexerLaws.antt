@@ -5,12 +5,12 @@ use mathlib.Core.Bool.{true, false, false≢true}
 use mathlib.Core.List.{List, [], _∷_}
 use Prim.Native.Nat.{ℕ, suc, _+_}
 use native.Mathlib.Omega.{arith}
-use lib.ListN.{length}
+use lib.ListN.{length, getD}
 use borrow.Author.Tests.{ne-eqb}
 use Rattle.basis.specs.Choice.{pick}
 use Rattle.unicode.specs.Encoding.{bytes, size}
 use Rattle.unicode.specs.Decoding.{decodeAt}
-use Rattle.unicode.specs.Walk.{isChar}
+use Rattle.unicode.specs.Walk.{isChar, decode-at-bytes}
 use Rattle.unicode.specs.declared.sequence.Decoded.the-variants.{Char}
 use Rattle.meaning.specs.Characters.{Class, lf, cr, ht, shy, zwsp, blank, letter, classOf, wordClass, inWord, inRun}
 use Rattle.meaning.specs.Tokens.{Tok, newLine, carriageReturn, tab, softHyphen, space, word, run, after, ender, counted, first, tokens, charsOf, sizeOf, enderOf, needOf, kindOf, countOf}
@@ -22,7 +22,9 @@ use Rattle.parser.specs.Lexing.{charsFrom, gluesOf, lexemeAt, lexedAt}
 use Rattle.parser.specs.Scanning.{glueOf, spaceOf, scannedAt, scanFrom, aloneAt, wordOf, blankOf}
 use Rattle.parser.specs.declared.lexeme.Lexeme.{Lexeme}
 use Rattle.parser.specs.declared.lexeme.Lexed.the-variants.{End, Token}
+use Rattle.parser.specs.Ascii.{plainAt, spaceAt, plain-char, space-char}
 use Rattle.parser.proofs.ScanLaws.{chars-more, chars-none}
+use Rattle.parser.proofs.AsciiLaws.{plain-word, plain-glue, space-no-word}
 use Rattle.parser.proofs.RunLaws.{weights, weights-glues, weights-counted, scan-is}
 
 -- ---- classes
@@ -151,3 +153,27 @@ lexed-char t at c n e l q = rw (chars-more t at c n e, tokens-step c (charsFrom 
 pub lexed-none : (t : List ℕ) (at : ℕ) → isChar (decodeAt t at) ≡ false → End ≡ lexedAt at (tokens (charsFrom t at))
 unfolding lexedAt
 lexed-none t at e = rw (chars-none t at e, tokens-none)
+
+-- The same where a byte of ASCII stands.
+module _ (t : List ℕ) (at : ℕ) where
+  pub plain-lexed : plainAt t at ≡ true → Token (wordOf (scanFrom inWord glueOf (at + 1) 1 0 (charsFrom t (at + 1)))) ≡ lexedAt at (tokens (charsFrom t at))
+  plain-lexed e =
+      let h = plain-char t at e in
+      let c = getD t at 0 in
+      let cs = charsFrom t (at + 1) in
+      lexed-char t at c 1 (h .1) _
+      (ap (λ (g : ℕ). wordOf (scanFrom inWord glueOf (at + 1) 1 g cs)) (sym (plain-glue c (h .0)))
+      ∙ word-is at 1 c cs (decode-at-bytes t at c 1 (h .1)) (plain-word c (h .0)))
+
+  pub space-lexed : spaceAt t at ≡ true → Token (blankOf (scanFrom inRun spaceOf (at + 1) 1 1 (charsFrom t (at + 1)))) ≡ lexedAt at (tokens (charsFrom t at))
+  space-lexed e =
+      let d = space-char t at e in
+      let left : Left 0x20 = record {
+        word = space-no-word;
+        lf = λ q. omega arith;
+        cr = λ q. omega arith;
+        ht = λ q. omega arith;
+        shy = λ q. omega arith;
+        zwsp = λ q. omega arith;
+      } in
+      lexed-char t at 0x20 1 d _ (blank-is at 1 0x20 (charsFrom t (at + 1)) (decode-at-bytes t at 0x20 1 d) left)

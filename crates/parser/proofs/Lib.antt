@@ -1,5 +1,6 @@
 pub mod CharacterLaws
 pub mod ScanLaws
+pub mod AsciiLaws
 pub mod RunLaws
 pub mod LexerLaws
 pub mod PartLaws

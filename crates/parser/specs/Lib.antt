@@ -1,3 +1,4 @@
 pub mod Lexing
 pub mod Scanning
+pub mod Ascii
 pub mod Writing

@@ -7,6 +7,8 @@ ghost use Rattle.meaning.specs.Characters.{classOf};
 ghost use Rattle.meaning.specs.Tokens.{first, tokens};
 ghost use Rattle.parser.specs.Lexing.{charsFrom, lexemeAt, lexedAt};
 ghost use Rattle.parser.specs.Scanning.{aloneAt, wordOf, blankOf};
+use crate::ascii::plain_at;
+use crate::ascii::space_at;
 use crate::characters::glue_of;
 use crate::characters::in_word;
 use crate::lexeme::Lexed;
@@ -96,8 +98,8 @@ fn lexeme_at(text: &[u8], at: usize, c: u32, len: u32) -> Lexeme
     blank(scan_run(text, next))
 }
 
-// The token at an offset. A byte that starts no character ends the text.
-pub fn token_at(text: &[u8], at: usize) -> Lexed
+// The token at an offset, by the character there. A byte that starts no character ends the text.
+fn decoded_at(text: &[u8], at: usize) -> Lexed
     requires { ⌜ length (now text) ≤ 65535 ⌝ }
     ensures { λ r. ⌜ r ≡ lexedAt at (tokens (charsFrom (now (text .entry)) at)) ⌝ }
 {
@@ -106,4 +108,18 @@ pub fn token_at(text: &[u8], at: usize) -> Lexed
         Decoded::Bad => Lexed::End,
         Decoded::End => Lexed::End,
     }
+}
+
+// The token at an offset. What ASCII is mostly made of is told by one byte.
+pub fn token_at(text: &[u8], at: usize) -> Lexed
+    requires { ⌜ length (now text) ≤ 65535 ⌝ }
+    ensures { λ r. ⌜ r ≡ lexedAt at (tokens (charsFrom (now (text .entry)) at)) ⌝ }
+{
+    if plain_at(text, at) {
+        return Lexed::Token(word(scan_word(text, at + 1, 0)));
+    }
+    if space_at(text, at) {
+        return Lexed::Token(blank(scan_run(text, at + 1)));
+    }
+    decoded_at(text, at)
 }

@@ -1,4 +1,5 @@
 // Tokens of a text, by offsets into its bytes (the crate's parser/mod.rs).
+pub mod ascii;
 pub mod characters;
 pub mod count;
 pub mod lexeme;

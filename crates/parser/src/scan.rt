@@ -5,6 +5,9 @@ ghost use lib.ListN.{length};
 ghost use Rattle.meaning.specs.Characters.{inWord, inRun};
 ghost use Rattle.parser.specs.Lexing.{charsFrom};
 ghost use Rattle.parser.specs.Scanning.{glueOf, spaceOf, scannedAt, scanFrom};
+use crate::ascii::pass_plain;
+use crate::ascii::plain_at;
+use crate::ascii::space_at;
 use crate::characters::glue_of;
 use crate::characters::in_run;
 use crate::characters::in_word;
@@ -39,18 +42,22 @@ pub fn scan_word(text: &[u8], from: usize, first: u32) -> Scanned
     requires { ⌜ (length (now text) ≤ 65535) × (from ≤ length (now text)) × (first ≤ 1) ⌝ }
     ensures { λ r. ⌜ r ≡ scanFrom inWord glueOf from 1 first (charsFrom (now (text .entry)) from) ⌝ }
 {
-    let mut at = from;
-    let mut chars: u32 = 1;
+    let mut at = pass_plain(text, from);
+    let mut chars = 1 + (at - from) as u32;
     let mut weight = first;
     loop {
+        if space_at(text, at) {
+            return ended(at, chars, weight, 1);
+        }
         match decode(text, at) {
             Decoded::Char { cp, len } => {
                 if !in_word(cp) {
                     return ended(at, chars, weight, len);
                 }
                 weight += glue_of(cp);
-                chars += 1;
-                at += len as usize;
+                let next = at + len as usize;
+                at = pass_plain(text, next);
+                chars += 1 + (at - next) as u32;
             }
             Decoded::Bad => {
                 return ended(at, chars, weight, 1);
@@ -71,6 +78,9 @@ pub fn scan_run(text: &[u8], from: usize) -> Scanned
     let mut chars: u32 = 1;
     let mut weight: u32 = 1;
     loop {
+        if plain_at(text, at) {
+            return ended(at, chars, weight, 1);
+        }
         match decode(text, at) {
             Decoded::Char { cp, len } => {
                 if !in_run(cp) {

@@ -1,51 +1,81 @@
 -- `parser::lexer::token_at` meets its contract.
 -- Assumes nothing.
 use mathlib.Core.Path.{sym, ap, _∙_}
+use Prim.Native.Nat.{_<_}
+use native.Mathlib.Omega.{arith}
+use lib.ListN.{length}
 use borrow.Author.Needs.{needs}
-use Rattle.unicode.specs.Walk.{isChar, decode-at-bytes}
-use Rattle.parser.proofs.ScanLaws.{char-room}
-use Rattle.parser.proofs.LexerLaws.{lexed-char, lexed-none}
+use Rattle.parser.specs.Scanning.{wordOf, blankOf}
+use Rattle.parser.specs.declared.lexeme.Lexeme.{Lexeme}
+use Rattle.parser.specs.declared.lexeme.Lexed.the-variants.{Token}
+use Rattle.parser.specs.declared.scan.Scanned.{Scanned}
+use Rattle.parser.specs.Ascii.{plain-inside, space-inside}
+use Rattle.parser.proofs.LexerLaws.{plain-lexed, space-lexed}
 use Rattle.parser.proofs.lexer.token_at.Statement.{statement}
 use Rattle.parser.proofs.lexer.token_at.Tie as tie
 
-decode-requires : tie.Need-decode-requires
-decode-requires c κs = search needs
+plain-at-requires : tie.Need-plain-at-requires
+plain-at-requires c κs = search needs
 
-enum-known-cp : tie.Need-enum-known-cp
-enum-known-cp c = search needs
+-- The byte that was told stands in the text.
+here : (c : tie.Then1) → c .before .before .before .args .at < length (c .before .before .before .args .text .now)
+here c = plain-inside _ _ (sym (c .before .plain-at .ensures) ∙ c .if1 .taken)
 
-lexeme-at-requires : tie.Need-lexeme-at-requires
-lexeme-at-requires c κs =
-    let s = c .before .before .before .before .before in
-    let e = sym (c .before .before .before .decode .ensures) ∙ c .before .cp .given .1 in
-    (s .pre, char-room _ _ _ _ e .2, decode-at-bytes _ _ _ _ e)
+there : (c : tie.Then2) → c .before .before .before .before .before .args .at < length (c .before .before .before .before .before .args .text .now)
+there c = space-inside _ _ (sym (c .before .space-at .ensures) ∙ c .if2 .taken)
 
-enum-told : tie.Need-enum-told
-enum-told c = search needs
+add-scan-word : tie.Need-add-scan-word
+add-scan-word c = omega (arith, here c, c .before .before .before .pre)
 
-enum-told-2 : tie.Need-enum-told-2
-enum-told-2 c = search needs
+scan-word-requires : tie.Need-scan-word-requires
+scan-word-requires c κs = omega (arith, here c, c .before .before .before .pre)
+
+word-requires : tie.Need-word-requires
+word-requires c κs = search needs
 
 returns : tie.Need-returns
 returns c =
-    let r = c .before .before in
-    lexed-char _ _ _ _ (sym (r .before .before .decode .ensures) ∙ r .cp .given .1) _ (c .lexeme-at .ensures)
+    let w = c .before in
+    let i = w .before in
+    ap Token (c .word .ensures ∙ ap wordOf (w .scan-word .ensures)) ∙ plain-lexed _ _ (sym (i .before .plain-at .ensures) ∙ i .if1 .taken)
+
+space-at-requires : tie.Need-space-at-requires
+space-at-requires c κs = search needs
+
+add-scan-run : tie.Need-add-scan-run
+add-scan-run c = omega (arith, there c, c .before .before .before .before .before .pre)
+
+scan-run-requires : tie.Need-scan-run-requires
+scan-run-requires c κs = omega (arith, there c, c .before .before .before .before .before .pre)
+
+blank-requires : tie.Need-blank-requires
+blank-requires c κs = search needs
 
 returns-2 : tie.Need-returns-2
-returns-2 c = lexed-none _ _ (ap isChar (sym (c .before .before .decode .ensures) ∙ c .enum-told .given .1))
+returns-2 c =
+    let w = c .before in
+    let i = w .before in
+    ap Token (c .blank .ensures ∙ ap blankOf (w .scan-run .ensures)) ∙ space-lexed _ _ (sym (i .before .space-at .ensures) ∙ i .if2 .taken)
+
+decoded-at-requires : tie.Need-decoded-at-requires
+decoded-at-requires c κs = search needs
 
 returns-3 : tie.Need-returns-3
-returns-3 c = lexed-none _ _ (ap isChar (sym (c .before .before .decode .ensures) ∙ c .enum-told2 .given .1))
+returns-3 c = search needs
 
 pub token-at-spec : {M : Type 1} → statement M
 token-at-spec =
     tie.close
     (tie.spec
-    decode-requires
-    enum-known-cp
-    lexeme-at-requires
-    enum-told
-    enum-told-2
+    plain-at-requires
+    add-scan-word
+    scan-word-requires
+    word-requires
     returns
+    space-at-requires
+    add-scan-run
+    scan-run-requires
+    blank-requires
     returns-2
+    decoded-at-requires
     returns-3)

@@ -14,6 +14,8 @@ use Rattle.meaning.specs.Characters.{inRun}
 use Rattle.parser.specs.Lexing.{charsFrom}
 use Rattle.parser.specs.Scanning.{spaceOf, scanFrom}
 use Rattle.parser.proofs.ScanLaws.{scan-more, scan-stop, scan-end, space-one, char-room}
+use Rattle.parser.specs.Ascii.{plain-char}
+use Rattle.parser.proofs.AsciiLaws.{plain-run}
 use Rattle.parser.proofs.scan.scan_run.Statement.{statement}
 use Rattle.parser.proofs.scan.scan_run.Tie as tie
 
@@ -27,6 +29,21 @@ abbrev μ-loop : tie.MeasureT-loop
 
 loop-holds : tie.Need-loop-holds Inv-loop μ-loop
 loop-holds c = (refl, search needs, search needs, search needs)
+
+plain-at-requires : tie.Need-plain-at-requires Inv-loop μ-loop
+plain-at-requires c κs = search needs
+
+ended-requires : tie.Need-ended-requires Inv-loop μ-loop
+ended-requires c κs = search needs
+
+-- A byte of a word ends the run.
+returns : tie.Need-returns Inv-loop μ-loop
+returns c =
+    let p = c .before .before in
+    let l = p .before .loop in
+    let t = p .before .before .before .args .text .now in
+    let h = plain-char t (l .at) (sym (p .plain-at .ensures) ∙ c .before .if1 .taken) in
+    c .ended .ensures ∙ sym (scan-stop inRun spaceOf t _ _ _ _ _ (h .1) (plain-run _ (h .0))) ∙ l .inv .0
 
 decode-requires : tie.Need-decode-requires Inv-loop μ-loop
 decode-requires c κs = search needs
@@ -42,10 +59,10 @@ abbrev Read : Type 0
 Read = tie.After-known-told Inv-loop μ-loop
 
 abbrev T : Read → List ℕ
-T c = c .before .before .before .before .before .before .args .text .now
+T c = c .before .before .before .before .before .before .before .before .args .text .now
 
 abbrev I : Read → ℕ
-I c = c .before .before .before .before .loop .at
+I c = c .before .before .before .before .before .before .loop .at
 
 abbrev C : Read → ℕ
 C c = c .before .cp .given .0 .0
@@ -59,16 +76,16 @@ read c = sym (c .before .before .before .decode .ensures) ∙ c .before .cp .giv
 room : (c : Read) → (1 ≤ N c) × (N c ≤ 4) × (I c + N c ≤ length (T c))
 room c = char-room (T c) (I c) (C c) (N c) (read c)
 
-ended-requires : tie.Need-ended-requires Inv-loop μ-loop
-ended-requires c κs = omega (arith, room (c .before .before))
+ended-requires-2 : tie.Need-ended-requires-2 Inv-loop μ-loop
+ended-requires-2 c κs = omega (arith, room (c .before .before))
 
-returns : tie.Need-returns Inv-loop μ-loop
-returns c =
+returns-2 : tie.Need-returns-2 Inv-loop μ-loop
+returns-2 c =
     let i = c .before .before in
     let r = i .before in
-    let l = r .before .before .before .before .loop in
-    c .ended .ensures
-    ∙ sym (scan-stop inRun spaceOf (T r) _ _ _ _ _ (read r) (sym (i .in-run .ensures) ∙ not-true _ (c .before .if1 .taken)))
+    let l = r .before .before .before .before .before .before .loop in
+    c .ended2 .ensures
+    ∙ sym (scan-stop inRun spaceOf (T r) _ _ _ _ _ (read r) (sym (i .in-run .ensures) ∙ not-true _ (c .before .if2 .taken)))
     ∙ l .inv .0
 
 space-of-requires : tie.Need-space-of-requires Inv-loop μ-loop
@@ -93,10 +110,10 @@ loop-again : tie.Need-loop-again Inv-loop μ-loop
 loop-again c =
     let i = c .before .before in
     let r = i .before in
-    let l = r .before .before .before .before .loop in
+    let l = r .before .before .before .before .before .before .loop in
     let h = room r in (
       ap (λ (w : ℕ). scanFrom inRun spaceOf (l .at + N r) (l .chars + 1) (l .weight + w) (charsFrom (T r) (l .at + N r))) (c .space-of .ensures)
-          ∙ sym (scan-more inRun spaceOf (T r) _ _ _ _ _ (read r) (sym (i .in-run .ensures) ∙ not-false _ (c .before .if1 .left)))
+          ∙ sym (scan-more inRun spaceOf (T r) _ _ _ _ _ (read r) (sym (i .in-run .ensures) ∙ not-false _ (c .before .if2 .left)))
           ∙ l .inv .0,
       omega arith,
       omega arith,
@@ -106,28 +123,28 @@ loop-again c =
 enum-told : tie.Need-enum-told Inv-loop μ-loop
 enum-told c = search needs
 
-ended-requires-2 : tie.Need-ended-requires-2 Inv-loop μ-loop
-ended-requires-2 c κs = search needs
-
-returns-2 : tie.Need-returns-2 Inv-loop μ-loop
-returns-2 c =
-    let d = c .before .before .before in
-    let l = d .before .loop in
-    c .ended2 .ensures
-    ∙ sym (scan-end inRun spaceOf _ _ _ _ (ap isChar (sym (d .decode .ensures) ∙ c .before .enum-told .given .1)))
-    ∙ l .inv .0
-
-enum-told-2 : tie.Need-enum-told-2 Inv-loop μ-loop
-enum-told-2 c = search needs
-
 ended-requires-3 : tie.Need-ended-requires-3 Inv-loop μ-loop
 ended-requires-3 c κs = search needs
 
 returns-3 : tie.Need-returns-3 Inv-loop μ-loop
 returns-3 c =
     let d = c .before .before .before in
-    let l = d .before .loop in
+    let l = d .before .before .before .loop in
     c .ended3 .ensures
+    ∙ sym (scan-end inRun spaceOf _ _ _ _ (ap isChar (sym (d .decode .ensures) ∙ c .before .enum-told .given .1)))
+    ∙ l .inv .0
+
+enum-told-2 : tie.Need-enum-told-2 Inv-loop μ-loop
+enum-told-2 c = search needs
+
+ended-requires-4 : tie.Need-ended-requires-4 Inv-loop μ-loop
+ended-requires-4 c κs = search needs
+
+returns-4 : tie.Need-returns-4 Inv-loop μ-loop
+returns-4 c =
+    let d = c .before .before .before in
+    let l = d .before .before .before .loop in
+    c .ended4 .ensures
     ∙ sym (scan-end inRun spaceOf _ _ _ _ (ap isChar (sym (d .decode .ensures) ∙ c .before .enum-told2 .given .1)))
     ∙ l .inv .0
 
@@ -138,11 +155,14 @@ scan-run-spec =
     Inv-loop
     μ-loop
     loop-holds
+    plain-at-requires
+    ended-requires
+    returns
     decode-requires
     enum-known-cp
     in-run-requires
-    ended-requires
-    returns
+    ended-requires-2
+    returns-2
     space-of-requires
     add-weight
     add-chars
@@ -151,8 +171,8 @@ scan-run-spec =
     loop-less
     loop-again
     enum-told
-    ended-requires-2
-    returns-2
-    enum-told-2
     ended-requires-3
-    returns-3)
+    returns-3
+    enum-told-2
+    ended-requires-4
+    returns-4)

@@ -13,7 +13,9 @@ use Rattle.unicode.specs.declared.sequence.Decoded.the-variants.{Char}
 use Rattle.meaning.specs.Characters.{inWord}
 use Rattle.parser.specs.Lexing.{charsFrom}
 use Rattle.parser.specs.Scanning.{glueOf, scanFrom}
-use Rattle.parser.proofs.ScanLaws.{scan-more, scan-stop, scan-end, glue-one, char-room}
+use Rattle.parser.proofs.ScanLaws.{scan-stop, scan-end, glue-one, char-room}
+use Rattle.parser.specs.Ascii.{space-char}
+use Rattle.parser.proofs.AsciiLaws.{space-no-word, scan-turn}
 use Rattle.parser.proofs.scan.scan_word.Statement.{statement}
 use Rattle.parser.proofs.scan.scan_word.Tie as tie
 
@@ -25,8 +27,38 @@ Inv-loop text from first at₀ chars₀ weight₀ at chars weight =
 abbrev μ-loop : tie.MeasureT-loop
 μ-loop text from first at₀ chars₀ weight₀ at chars weight = length text - at
 
+pass-plain-requires : tie.Need-pass-plain-requires Inv-loop μ-loop
+pass-plain-requires c κs = search needs
+
+sub-chars : tie.Need-sub-chars Inv-loop μ-loop
+sub-chars c = c .pass-plain .ensures .forward
+
+cast-chars : tie.Need-cast-chars Inv-loop μ-loop
+cast-chars c = omega (arith, c .pass-plain .ensures .inside)
+
+add-chars : tie.Need-add-chars Inv-loop μ-loop
+add-chars c = omega (arith, c .pass-plain .ensures .inside)
+
 loop-holds : tie.Need-loop-holds Inv-loop μ-loop
-loop-holds c = (refl, search needs, search needs, search needs)
+loop-holds c =
+    let p = c .pass-plain .ensures in
+    (sym (p .scans 1 _), p .inside, omega (arith, p .forward), omega (arith, p .forward))
+
+space-at-requires : tie.Need-space-at-requires Inv-loop μ-loop
+space-at-requires c κs = search needs
+
+ended-requires : tie.Need-ended-requires Inv-loop μ-loop
+ended-requires c κs = search needs
+
+-- A space ends the word.
+returns : tie.Need-returns Inv-loop μ-loop
+returns c =
+    let p = c .before .before in
+    let l = p .before .loop in
+    let t = p .before .before .before .before .args .text .now in
+    c .ended .ensures
+    ∙ sym (scan-stop inWord glueOf t _ _ _ _ _ (space-char t (l .at) (sym (p .space-at .ensures) ∙ c .before .if1 .taken)) space-no-word)
+    ∙ l .inv .0
 
 decode-requires : tie.Need-decode-requires Inv-loop μ-loop
 decode-requires c κs = search needs
@@ -42,10 +74,10 @@ abbrev Read : Type 0
 Read = tie.After-known-told Inv-loop μ-loop
 
 abbrev T : Read → List ℕ
-T c = c .before .before .before .before .before .before .args .text .now
+T c = c .before .before .before .before .before .before .before .before .before .args .text .now
 
 abbrev I : Read → ℕ
-I c = c .before .before .before .before .loop .at
+I c = c .before .before .before .before .before .before .loop .at
 
 abbrev C : Read → ℕ
 C c = c .before .cp .given .0 .0
@@ -59,16 +91,16 @@ read c = sym (c .before .before .before .decode .ensures) ∙ c .before .cp .giv
 room : (c : Read) → (1 ≤ N c) × (N c ≤ 4) × (I c + N c ≤ length (T c))
 room c = char-room (T c) (I c) (C c) (N c) (read c)
 
-ended-requires : tie.Need-ended-requires Inv-loop μ-loop
-ended-requires c κs = omega (arith, room (c .before .before))
+ended-requires-2 : tie.Need-ended-requires-2 Inv-loop μ-loop
+ended-requires-2 c κs = omega (arith, room (c .before .before))
 
-returns : tie.Need-returns Inv-loop μ-loop
-returns c =
+returns-2 : tie.Need-returns-2 Inv-loop μ-loop
+returns-2 c =
     let i = c .before .before in
     let r = i .before in
-    let l = r .before .before .before .before .loop in
-    c .ended .ensures
-    ∙ sym (scan-stop inWord glueOf (T r) _ _ _ _ _ (read r) (sym (i .in-word .ensures) ∙ not-true _ (c .before .if1 .taken)))
+    let l = r .before .before .before .before .before .before .loop in
+    c .ended2 .ensures
+    ∙ sym (scan-stop inWord glueOf (T r) _ _ _ _ _ (read r) (sym (i .in-word .ensures) ∙ not-true _ (c .before .if2 .taken)))
     ∙ l .inv .0
 
 glue-of-requires : tie.Need-glue-of-requires Inv-loop μ-loop
@@ -77,48 +109,52 @@ glue-of-requires c κs = search needs
 add-weight : tie.Need-add-weight Inv-loop μ-loop
 add-weight c = omega (arith, c .glue-of .ensures, glue-one (C (c .before .before .before)))
 
-add-chars : tie.Need-add-chars Inv-loop μ-loop
-add-chars c = search needs
+cast-next : tie.Need-cast-next Inv-loop μ-loop
+cast-next c = search needs
 
-cast-at : tie.Need-cast-at Inv-loop μ-loop
-cast-at c = search needs
+add-next : tie.Need-add-next Inv-loop μ-loop
+add-next c = omega (arith, room (c .before .before .before))
 
-add-at : tie.Need-add-at Inv-loop μ-loop
-add-at c = omega (arith, room (c .before .before .before))
+pass-plain-requires-2 : tie.Need-pass-plain-requires-2 Inv-loop μ-loop
+pass-plain-requires-2 c κs = omega (arith, room (c .before .before .before))
+
+sub-chars-2 : tie.Need-sub-chars-2 Inv-loop μ-loop
+sub-chars-2 c = c .pass-plain2 .ensures .forward
+
+cast-chars-2 : tie.Need-cast-chars-2 Inv-loop μ-loop
+cast-chars-2 c = omega (arith, c .pass-plain2 .ensures .inside)
+
+add-chars-2 : tie.Need-add-chars-2 Inv-loop μ-loop
+add-chars-2 c = omega (arith, c .pass-plain2 .ensures .inside)
+
+-- The same turn, once the bytes behind the character are passed.
+abbrev R : tie.After-pass-plain2 Inv-loop μ-loop → Read
+R c = c .before .before .before .before
+
+add-chars-3 : tie.Need-add-chars-3 Inv-loop μ-loop
+add-chars-3 c = omega (arith, c .pass-plain2 .ensures .inside, room (R c))
 
 loop-less : tie.Need-loop-less Inv-loop μ-loop
-loop-less c = omega (arith, room (c .before .before .before))
+loop-less c = let p = c .pass-plain2 .ensures in omega (arith, p .forward, p .inside, room (R c))
 
 loop-again : tie.Need-loop-again Inv-loop μ-loop
 loop-again c =
-    let i = c .before .before in
-    let r = i .before in
-    let l = r .before .before .before .before .loop in
+    let p = c .pass-plain2 .ensures in
+    let g = c .before in
+    let i = g .before .before in
+    let r = R c in
+    let l = r .before .before .before .before .before .before .loop in
     let h = room r in (
-      ap (λ (w : ℕ). scanFrom inWord glueOf (l .at + N r) (l .chars + 1) (l .weight + w) (charsFrom (T r) (l .at + N r))) (c .glue-of .ensures)
-          ∙ sym (scan-more inWord glueOf (T r) _ _ _ _ _ (read r) (sym (i .in-word .ensures) ∙ not-false _ (c .before .if1 .left)))
+      sym (scan-turn (T r) (l .at) (l .chars) (l .weight) (C r) (N r) (g .glue-of .result) (c .pass-plain2 .result) (read r)
+          (sym (i .in-word .ensures) ∙ not-false _ (g .before .if2 .left)) (g .glue-of .ensures) p)
           ∙ l .inv .0,
-      omega arith,
-      omega arith,
-      omega (arith, c .glue-of .ensures, glue-one (C r)),
+      p .inside,
+      omega (arith, p .forward),
+      omega (arith, p .forward, g .glue-of .ensures, glue-one (C r)),
     )
 
 enum-told : tie.Need-enum-told Inv-loop μ-loop
 enum-told c = search needs
-
-ended-requires-2 : tie.Need-ended-requires-2 Inv-loop μ-loop
-ended-requires-2 c κs = search needs
-
-returns-2 : tie.Need-returns-2 Inv-loop μ-loop
-returns-2 c =
-    let d = c .before .before .before in
-    let l = d .before .loop in
-    c .ended2 .ensures
-    ∙ sym (scan-end inWord glueOf _ _ _ _ (ap isChar (sym (d .decode .ensures) ∙ c .before .enum-told .given .1)))
-    ∙ l .inv .0
-
-enum-told-2 : tie.Need-enum-told-2 Inv-loop μ-loop
-enum-told-2 c = search needs
 
 ended-requires-3 : tie.Need-ended-requires-3 Inv-loop μ-loop
 ended-requires-3 c κs = search needs
@@ -126,8 +162,22 @@ ended-requires-3 c κs = search needs
 returns-3 : tie.Need-returns-3 Inv-loop μ-loop
 returns-3 c =
     let d = c .before .before .before in
-    let l = d .before .loop in
+    let l = d .before .before .before .loop in
     c .ended3 .ensures
+    ∙ sym (scan-end inWord glueOf _ _ _ _ (ap isChar (sym (d .decode .ensures) ∙ c .before .enum-told .given .1)))
+    ∙ l .inv .0
+
+enum-told-2 : tie.Need-enum-told-2 Inv-loop μ-loop
+enum-told-2 c = search needs
+
+ended-requires-4 : tie.Need-ended-requires-4 Inv-loop μ-loop
+ended-requires-4 c κs = search needs
+
+returns-4 : tie.Need-returns-4 Inv-loop μ-loop
+returns-4 c =
+    let d = c .before .before .before in
+    let l = d .before .before .before .loop in
+    c .ended4 .ensures
     ∙ sym (scan-end inWord glueOf _ _ _ _ (ap isChar (sym (d .decode .ensures) ∙ c .before .enum-told2 .given .1)))
     ∙ l .inv .0
 
@@ -137,22 +187,33 @@ scan-word-spec =
     (tie.spec
     Inv-loop
     μ-loop
+    pass-plain-requires
+    sub-chars
+    cast-chars
+    add-chars
     loop-holds
+    space-at-requires
+    ended-requires
+    returns
     decode-requires
     enum-known-cp
     in-word-requires
-    ended-requires
-    returns
+    ended-requires-2
+    returns-2
     glue-of-requires
     add-weight
-    add-chars
-    cast-at
-    add-at
+    cast-next
+    add-next
+    pass-plain-requires-2
+    sub-chars-2
+    cast-chars-2
+    add-chars-2
+    add-chars-3
     loop-less
     loop-again
     enum-told
-    ended-requires-2
-    returns-2
-    enum-told-2
     ended-requires-3
-    returns-3)
+    returns-3
+    enum-told-2
+    ended-requires-4
+    returns-4)

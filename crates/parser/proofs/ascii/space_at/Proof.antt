@@ -1,0 +1,23 @@
+-- `parser::ascii::space_at` meets its contract.
+-- Assumes nothing.
+use native.Mathlib.Omega.{arith}
+use borrow.Author.Needs.{needs}
+use Rattle.basis.specs.Choice.{pick}
+use Rattle.basis.specs.Order.{tests}
+use Rattle.parser.specs.Ascii.{spaceAt}
+use Rattle.parser.proofs.ascii.space_at.Statement.{statement}
+use Rattle.parser.proofs.ascii.space_at.Tie as tie
+
+shared-slice-read-result : tie.Need-shared-slice-read-result
+shared-slice-read-result c = search needs
+
+returns : tie.Need-returns
+unfolding spaceAt pick
+returns c = search tests
+
+returns-2 : tie.Need-returns-2
+unfolding spaceAt pick
+returns-2 c = search tests
+
+pub space-at-spec : {M : Type 1} → statement M
+space-at-spec = tie.close (tie.spec shared-slice-read-result returns returns-2)
