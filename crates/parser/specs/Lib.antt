@@ -1,4 +1,5 @@
 pub mod Lexing
+pub mod Reading
 pub mod Scanning
 pub mod Ascii
 pub mod Writing

@@ -5,6 +5,7 @@ pub mod count;
 pub mod lexeme;
 pub mod lexer;
 pub mod part;
+pub mod reader;
 pub mod scan;
 pub mod tokenize;
 pub mod write;
