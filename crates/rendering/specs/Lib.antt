@@ -1,5 +1,6 @@
 pub mod Ahead
 pub mod Fine
+pub mod Lent
 pub mod FineLaws
 pub mod Lexed
 pub mod PlaceLaws

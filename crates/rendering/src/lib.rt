@@ -4,6 +4,7 @@ pub mod cursor;
 pub mod ending;
 pub mod entry;
 pub mod hyphens;
+pub mod lent_cursor;
 pub mod line;
 pub mod line_iter;
 pub mod look;
