@@ -14,7 +14,7 @@ pub struct Reader<'a> {
     pub at: usize,
 }
 
-// Where a reader goes on that found this at an offset: after the token, and at the text's end nowhere.
+// Where a reader goes on that found this at an offset: at the token's end, and where it is if there is none.
 fn end_of(found: Lexed, at: usize) -> usize
     ensures { λ r. ⌜ r ≡ endOf at found ⌝ }
 {
@@ -24,7 +24,7 @@ fn end_of(found: Lexed, at: usize) -> usize
     }
 }
 
-// The token at which the reader stands. The reader moves on to that token's end.
+// The token at which the reader stands, whose bytes start at the reader's offset. The reader moves on to their end.
 pub fn next<'s, 'a>(reader: &'s mut Reader<'a>) -> Lexed
     requires { ⌜ length (now (now reader .text)) ≤ 65535 ⌝ }
     ensures { λ r. ⌜ (r ≡ nextOf (now (reader .entry))) × (now (reader .exit) ≡ readOn (now (reader .entry))) ⌝ }
