@@ -1,6 +1,6 @@
 -- The loop over a line's tokens: what is drawn when the rest is drawn stays the same.
 -- Assumes nothing.
-use Prim.Native.Nat.{ℕ, _+_, _*_, _≤_}
+use Prim.Native.Nat.{ℕ, _+_, _≤_}
 use mathlib.Core.Path.{_≡_, refl, sym, ap, _∙_}
 use mathlib.Core.List.{List, []}
 use native.Mathlib.Omega.{arith}
@@ -32,7 +32,7 @@ use Rattle.drawing.specs.declared.pen.Pen.{Pen}
 pub record Drawing (t : List ℕ) (s : Settings) (goal : Sheet) (ev : List ℕ) (p : Place) (at : ℕ) (held : Resumed) (sum : Measure) (o : Pen) : Type 0 where
   pub draws : drawnOn (sheet ev o) (drawnFrom s p t at (held .chars .0) (held .count .0)) ≡ goal
   pub ready : PassReady s p t at held sum
-  pub few : o .next ≤ 500000000 + 3 * at
+  pub few : o .next ≤ 500000000 + at
   pub narrow : o .x .0 ≤ 100000000 + sum .pen .0
 
 abbrev pub penAt : (k x : ℕ) → Pen

@@ -6,7 +6,7 @@ use mathlib.Core.Bool.{true, false}
 use mathlib.Core.List.{List, [], _∷_, _++_, append-nil, append-assoc}
 use native.Mathlib.Nat.{add-zero}
 use native.Mathlib.Omega.{arith}
-use borrow.Author.Tests.{eq-eqb, ne-eqb}
+use borrow.Author.Tests.{eq-eqb, ne-eqb, eqb-true}
 use lib.Dec.{eqb}
 use lib.ListN.{length, length-append}
 use Rattle.basis.specs.Choice.{pick, by-test}
@@ -104,22 +104,42 @@ pub rest-ends : (g : ℕ) (sp : Spaces) (from at wide : ℕ) → restDrawn g sp 
 unfolding restDrawn
 rest-ends g sp from at wide = refl
 
--- ---- how much there is of it
+-- ---- how much there is of it: no more than the word has bytes
+
+-- Gluing characters are no single bytes.
+glue-bytes : (c : ℕ) → glue c ≡ true → 2 ≤ bytes c
+unfolding glue bytes pick
+glue-bytes c e = rw (eqb-true c 0x00A0 e) (omega arith)
 
 closed-few : (from to wide end : ℕ) (sp : Spaces) (ds : List Drawn) → length (closed from to wide end sp ++ ds) ≤ 2 + length ds
 unfolding closed pick
 closed-few from to wide end sp ds = by-test (eqb to from) (λ e. rw e (omega arith)) (λ e. rw e (omega arith))
 
--- A character makes at most two things, and the end one.
-pub rest-few : (g : ℕ) (sp : Spaces) (from at wide : ℕ) (cs : List ℕ) → length (restDrawn g sp from at wide cs) ≤ 2 * length cs + 1
-unfolding restDrawn pick
+-- An empty stretch is not printed.
+closed-one : (at wide end : ℕ) (sp : Spaces) (ds : List Drawn) → length (closed at at wide end sp ++ ds) ≡ 1 + length ds
+unfolding closed pick
+closed-one at wide end sp ds = rw (eq-eqb at at refl) (omega arith)
+
+-- A stretch that is open may have one thing more.
+rest-few : (g : ℕ) (sp : Spaces) (from at wide : ℕ) (cs : List ℕ) → length (restDrawn g sp from at wide cs) ≤ size cs + 1
+unfolding restDrawn size pick
 rest-few g sp from at wide [] = omega arith
 rest-few g sp from at wide (c ∷ cs) =
     let end = at + bytes c in
     let after = restDrawn g (spacesAfter sp 1) end end 0 cs in
     by-test (glue c)
-    (λ e. rw e (omega (arith, closed-few from at wide end sp after, rest-few g (spacesAfter sp 1) end end 0 cs)))
+    (λ e. rw e (omega (arith, closed-few from at wide end sp after, rest-few g (spacesAfter sp 1) end end 0 cs, glue-bytes c e)))
     (λ e. rw e (omega (arith, rest-few g sp from end (wide + g) cs)))
 
-pub word-few : (g : ℕ) (sp : Spaces) (at : ℕ) (cs : List ℕ) → length (drawnWord g sp at cs) ≤ 2 * length cs + 1
-word-few g sp at cs = rw (word-is g sp at cs) at (rest-few g sp at at 0 cs)
+whole-few : (g : ℕ) (sp : Spaces) (at : ℕ) (cs : List ℕ) → 1 ≤ length cs → length (restDrawn g sp at at 0 cs) ≤ size cs
+unfolding restDrawn size pick
+whole-few g sp at [] h = absurd (omega arith)
+whole-few g sp at (c ∷ cs) h =
+    let end = at + bytes c in
+    let after = restDrawn g (spacesAfter sp 1) end end 0 cs in
+    by-test (glue c)
+    (λ e. rw e (omega (arith, closed-one at 0 end sp after, rest-few g (spacesAfter sp 1) end end 0 cs, glue-bytes c e)))
+    (λ e. rw e (omega (arith, rest-few g sp at end (0 + g) cs, bytes-range c)))
+
+pub word-few : (g : ℕ) (sp : Spaces) (at : ℕ) (cs : List ℕ) → 1 ≤ length cs → length (drawnWord g sp at cs) ≤ size cs
+word-few g sp at cs h = rw (word-is g sp at cs) at (whole-few g sp at cs h)

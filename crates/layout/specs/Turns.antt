@@ -31,10 +31,13 @@ pub record Counted (s : Settings) (t : List ℕ) (n at : ℕ) (r : Resumed) : Ty
   pub left : n + length (entriesFrom s t at r) ≡ length (entriesOf s t)
   pub few : n ≤ at
 
+pub start-ready : (s : Settings) (t : List ℕ) (r : Resumed) → TextReady s t → r ≡ nothingResumed → LineReady s t 0 r
+start-ready s t r h e = record { settings = h .settings; short = h .short; inside = omega arith; rest = none-fits t 0 r e }
+
 pub count-start : (s : Settings) (t : List ℕ) (r : Resumed) → TextReady s t → r ≡ nothingResumed → Counted s t 0 0 r
 count-start s t r h e =
     record {
-      ready = record { settings = h .settings; short = h .short; inside = omega arith; rest = none-fits t 0 r e };
+      ready = start-ready s t r h e;
       left = rw e (omega (arith, ap length (all-entries s t)));
       few = omega arith;
     }
@@ -54,7 +57,7 @@ module _ (s : Settings) (t : List ℕ) (n at : ℕ) (r : Resumed) (l : LineAt) (
   pub stays : LineReady s t at r → l .next .0 ≤ length t
   stays c = rw e (next-within s t at r (c .inside))
 
-  ready-next : LineReady s t at r → LineReady s t (l .next .0) (l .rest)
+  pub ready-next : LineReady s t at r → LineReady s t (l .next .0) (l .rest)
   ready-next c =
       rw e
       (record { settings = c .settings; short = c .short; inside = next-within s t at r (c .inside); rest = next-rest s t at r (c .rest) })

@@ -175,7 +175,7 @@ module _ (s : Settings) (t : List ℕ) (at : ℕ) (r : Resumed) (f : RestFits t 
       pick-cases (λ (e : Rest). (e .end .0 ≤ length t) × (e .count .0 ≤ length t)) (eqb (r .chars .0) 0) (λ _. (omega arith, omega arith))
       (λ _. (omega (arith, size-take (r .chars .0) cs, chars-within t at), omega (arith, f .counts, f .within, length-size cs, chars-within t at)))
 
-  placed-fine : FineSpaces (layLine s (heldIn r) (charsFrom t at) .placed .spaces) × (layLine s (heldIn r) (charsFrom t at) .placed .left .0 ≤ s .width .0)
+  pub placed-fine : FineSpaces (layLine s (heldIn r) (charsFrom t at) .placed .spaces) × (layLine s (heldIn r) (charsFrom t at) .placed .left .0 ≤ s .width .0)
   unfolding layLine lineOf placing
   placed-fine =
       let cs = charsFrom t at in

@@ -1,0 +1,161 @@
+-- The events of a text's lines from an offset on, and how those of one line come off the front of them.
+-- Assumes nothing.
+use Prim.Native.Nat.{ℕ, suc, _+_, _≤_}
+use native.Mathlib.Omega.{arith}
+use native.Mathlib.Nat.{add-zero, zero-add}
+use mathlib.Core.Path.{_≡_, refl, sym, ap, _∙_}
+use mathlib.Core.List.{List, [], _∷_, _++_, append-nil}
+use lib.ListN.{length, take, drop, length-append, take-append-drop}
+use Rattle.unicode.specs.Encoding.{size}
+use Rattle.unicode.specs.Sizes.{size-append}
+use Rattle.meaning.specs.LineIter.{Held, nothingHeld, process}
+use Rattle.meaning.specs.Words.{Drawn}
+use Rattle.meaning.specs.Line.{heldTokens, lineTokens, startPlace, measuring, placing, lineOf, layLine, entryAt, eventsAt}
+use Rattle.meaning.specs.Layout.{Row, rowAt, rows, allEvents}
+use Rattle.meaning.specs.Calls.{textRows, textEvents}
+use Rattle.meaning.specs.declared.settings.Settings.{Settings}
+use Rattle.meaning.specs.declared.cursor.Place.{Place}
+use Rattle.meaning.specs.declared.line.LineEnd.the-variants.{EndOfText}
+use Rattle.meaning.specs.declared.line.Entry.{Entry}
+use Rattle.meaning.specs.declared.line.Event.{Event}
+use Rattle.laws.specs.Shift.{pass-events}
+use Rattle.laws.specs.PassBounds.{size-take}
+use Rattle.laws.specs.RowInduction.{FitsIn, unless-cases, each-row}
+use Rattle.parser.specs.Lexing.{charsFrom}
+use Rattle.rendering.specs.Unrolled.{nothingResumed}
+use Rattle.rendering.specs.Lexed.{chars-within}
+use Rattle.rendering.specs.Pending.{RestFits}
+use Rattle.rendering.specs.LineFrom.{heldIn, lineAtOf, lineFrom}
+use Rattle.rendering.specs.LineLaws.{next-start}
+use Rattle.rendering.specs.Stepping.{resumedAt}
+use Rattle.rendering.specs.declared.step.Resumed.{Resumed}
+use Rattle.drawing.specs.Drawn.{drawnFrom, eventsFrom}
+use Rattle.drawing.specs.DrawnBounds.{line-few}
+use Rattle.layout.specs.RowsFrom.{rowsFrom, rows-step}
+
+-- The events of a text, and those of its lines from an offset on.
+unfoldable pub eventsOf : Settings → List ℕ → List Event
+eventsOf s t = allEvents (rows s (charsFrom t 0))
+
+unfoldable pub eventsAfter : Settings → List ℕ → (at : ℕ) → Resumed → List Event
+eventsAfter s t at r = allEvents (rowsFrom s t at (heldIn r))
+
+-- The events that the definitions of the call speak of.
+pub events-are : (s : Settings) (t : List ℕ) → eventsOf s t ≡ textEvents s t
+unfolding eventsOf textEvents textRows charsFrom
+events-are s t = refl
+
+pub all-events : (s : Settings) (t : List ℕ) → eventsAfter s t 0 nothingResumed ≡ eventsOf s t
+unfolding eventsOf eventsAfter rowsFrom rows
+all-events s t = refl
+
+-- ---- one line, from its entry
+
+-- Where a line with this entry is drawn from, and its events.
+unfoldable pub placeIn : Settings → Entry → Place
+placeIn s e = startPlace s (e .left .0) (record { width = e .space; extra = e .extra })
+
+unfoldable pub lineEvents : Settings → List ℕ → (at : ℕ) → Resumed → Entry → List Event
+lineEvents s t at r e = eventsFrom s (placeIn s e) t at (r .chars .0) (r .count .0) (e .left .0)
+
+-- A pass that runs at its offset has the events of the pass from the front.
+from-start : (s : Settings) (p : Place) (t : List ℕ) (at chars count x : ℕ)
+    → eventsFrom s p t at chars count x ≡ eventsAt at x (process s p 0 (heldTokens chars count (charsFrom t at)) .drawn)
+unfolding eventsFrom drawnFrom
+from-start s p t at chars count x =
+    let ts = heldTokens chars count (charsFrom t at) in
+    ap (λ (i : ℕ). eventsAt 0 x (process s p i ts .drawn)) (sym (add-zero at)) ∙ pass-events s p at 0 ts 0 x
+    ∙ ap (λ (i : ℕ). eventsAt i x (process s p 0 ts .drawn)) (zero-add at)
+
+events-length : (at x : ℕ) (ds : List Drawn) → length (eventsAt at x ds) ≡ length ds
+unfolding eventsAt
+events-length at x [] = refl
+events-length at x (d ∷ ds) = omega (arith, events-length at (x + d .width) ds)
+
+module _ (s : Settings) (t : List ℕ) (at : ℕ) (r : Resumed) where
+  -- They are those of its row.
+  row-events : lineEvents s t at r (lineFrom s t at r .entry)
+      ≡ rowAt at (heldIn r) (charsFrom t at) (layLine s (heldIn r) (charsFrom t at)) .events
+  unfolding lineEvents placeIn lineFrom lineAtOf entryAt rowAt layLine lineOf lineTokens
+  row-events =
+      let p = placing s (measuring s (heldTokens (r .chars .0) (r .count .0) (charsFrom t at))) in
+      from-start s (startPlace s (p .left .0) (p .spaces)) t at (r .chars .0) (r .count .0) (p .left .0)
+
+  module _ (f : RestFits t at r) where
+    -- There are no more of them than bytes in the line.
+    pub line-events-few : at + length (lineEvents s t at r (lineFrom s t at r .entry)) ≤ lineFrom s t at r .next .0
+    unfolding rowAt
+    line-events-few =
+        let l = layLine s (heldIn r) (charsFrom t at) in
+        omega (
+          arith,
+          ap length row-events,
+          events-length at (l .placed .left .0) (l .drawn),
+          line-few s (heldIn r) (charsFrom t at) (f .within) (f .counts),
+          next-start s t at r,
+        )
+
+    -- The last line's events.
+    pub one-drawn : lineFrom s t at r .ended ≡ EndOfText → eventsAfter s t at r ≡ lineEvents s t at r (lineFrom s t at r .entry)
+    unfolding eventsAfter allEvents lineFrom lineAtOf
+    one-drawn e =
+        let h = heldIn r in
+        let l = layLine s h (charsFrom t at) in
+        let more = rowsFrom s t (at + size (take (l .chars) (charsFrom t at))) (l .held) in
+        rw (rows-step s t at h (f .within) (f .counts), unless-cases (λ rs. rs ≡ []) (l .ended) more (λ _. refl) (λ d. absurd (d e)))
+        (append-nil _ ∙ sym row-events)
+
+    -- A line's events, and those of the lines from where it ended on.
+    pub more-drawn : (lineFrom s t at r .ended ≡ EndOfText → ⊥)
+        → eventsAfter s t at r
+        ≡ lineEvents s t at r (lineFrom s t at r .entry) ++ eventsAfter s t (lineFrom s t at r .next .0) (lineFrom s t at r .rest)
+    unfolding eventsAfter allEvents lineFrom lineAtOf resumedAt
+    more-drawn d =
+        let h = heldIn r in
+        let l = layLine s h (charsFrom t at) in
+        let more = rowsFrom s t (at + size (take (l .chars) (charsFrom t at))) (l .held) in
+        rw (rows-step s t at h (f .within) (f .counts), unless-cases (λ rs. rs ≡ more) (l .ended) more (λ e. absurd (d e)) (λ _. refl))
+        (ap (λ (es : List Event). es ++ allEvents more) (sym row-events))
+
+-- ---- all lines
+
+-- A row has no more events than its line has bytes.
+row-few : (s : Settings) (start : ℕ) (h : Held) (cs : List ℕ) → FitsIn cs h
+    → length (rowAt start h cs (layLine s h cs) .events) ≤ size (take (layLine s h cs .chars) cs)
+unfolding rowAt
+row-few s start h cs f =
+    let l = layLine s h cs in
+    omega (arith, events-length start (l .placed .left .0) (l .drawn), line-few s h cs (f .0) (f .1))
+
+all-length : (r : Row) (rs : List Row) → length (allEvents (r ∷ rs)) ≡ length (r .events) + length (allEvents rs)
+unfolding allEvents
+all-length r rs = length-append (r .events) (allEvents rs)
+
+none-length : length (allEvents []) ≡ 0
+unfolding allEvents
+none-length = refl
+
+rows-few : (s : Settings) (cs : List ℕ) → length (allEvents (rows s cs)) ≤ size cs
+unfolding rows
+rows-few s cs =
+    each-row s (λ start h cs rs. length (allEvents rs) ≤ size cs)
+    (λ start h cs f e.
+    let l = layLine s h cs in
+    omega (arith, all-length (rowAt start h cs l) [], none-length, row-few s start h cs f, size-take (l .chars) cs))
+    (λ start h cs f d r rs less.
+    let l = layLine s h cs in
+    let k = l .chars in
+    omega (
+      arith,
+      all-length (rowAt start h cs l) (r ∷ rs),
+      row-few s start h cs f,
+      less,
+      size-append (take k cs) (drop k cs),
+      ap size (take-append-drop k cs),
+    ))
+    (suc (length cs)) 0 nothingHeld cs (omega arith) (omega arith, omega arith)
+
+-- A text has no more events than bytes.
+pub few-events : (s : Settings) (t : List ℕ) → length (eventsOf s t) ≤ length t
+unfolding eventsOf
+few-events s t = omega (arith, rows-few s (charsFrom t 0), chars-within t 0)
