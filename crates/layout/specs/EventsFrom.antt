@@ -30,6 +30,7 @@ use Rattle.rendering.specs.LineLaws.{next-start}
 use Rattle.rendering.specs.Stepping.{resumedAt}
 use Rattle.rendering.specs.declared.step.Resumed.{Resumed}
 use Rattle.drawing.specs.Drawn.{drawnFrom, eventsFrom}
+use Rattle.drawing.specs.PassDrawn.{DrawRoom}
 use Rattle.drawing.specs.DrawnBounds.{line-few}
 use Rattle.layout.specs.RowsFrom.{rowsFrom, rows-step}
 
@@ -71,6 +72,23 @@ events-length : (at x : ℕ) (ds : List Drawn) → length (eventsAt at x ds) ≡
 unfolding eventsAt
 events-length at x [] = refl
 events-length at x (d ∷ ds) = omega (arith, events-length at (x + d .width) ds)
+
+-- As the running call draws them, from a place that it made of the entry.
+module _ (s : Settings) (t : List ℕ) (at : ℕ) (r : Resumed) (e : Entry) (start : Place)
+    (is : start ≡ startPlace s (e .left .0) (record { width = e .space; extra = e .extra }))
+  where
+    pub place-room : (k : ℕ) → DrawRoom s (placeIn s e) t at r (e .left .0) k → DrawRoom s start t at r (e .left .0) k
+    unfolding placeIn
+    place-room k h = rw is h
+
+    pub place-events : eventsFrom s start t at (r .chars .0) (r .count .0) (e .left .0) ≡ lineEvents s t at r e
+    unfolding lineEvents placeIn
+    place-events = rw is
+
+    pub place-length : length (drawnFrom s start t at (r .chars .0) (r .count .0)) ≡ length (lineEvents s t at r e)
+    unfolding eventsFrom
+    place-length =
+        sym (events-length 0 (e .left .0) (drawnFrom s start t at (r .chars .0) (r .count .0))) ∙ ap length place-events
 
 module _ (s : Settings) (t : List ℕ) (at : ℕ) (r : Resumed) where
   -- They are those of its row.

@@ -1,3 +1,4 @@
 // The public calls that lay a text.
+mod events;
 pub mod fresh;
 mod lines;

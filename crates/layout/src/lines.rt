@@ -14,7 +14,7 @@ ghost use Rattle.rendering.specs.Unrolled.{nothingResumed};
 ghost use Rattle.layout.specs.RowsFrom.{TextReady, entriesOf, isLast};
 
 // Nothing is resumed at the text's start.
-fn nothing() -> Resumed
+pub fn nothing() -> Resumed
     ensures { λ r. ⌜ r ≡ nothingResumed ⌝ }
 {
     Resumed {
@@ -24,7 +24,7 @@ fn nothing() -> Resumed
     }
 }
 
-fn is_last(ended: LineEnd) -> bool
+pub fn is_last(ended: LineEnd) -> bool
     ensures { λ r. ⌜ r ≡ isLast ended ⌝ }
 {
     match ended {

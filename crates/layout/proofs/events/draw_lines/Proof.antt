@@ -1,0 +1,85 @@
+-- `draw_lines` meets its contract. The invariant: what is put when the events that are left are put stays the same.
+-- Assumes nothing.
+use mathlib.Core.Path.{_≡_, refl, sym, _∙_}
+use Prim.Native.Nat.{_-_}
+use native.Mathlib.Omega.{arith}
+use lib.ListN.{length}
+use borrow.Author.Needs.{needs}
+use Rattle.layout.specs.Turns.{further, stays}
+use Rattle.layout.specs.DrawTurns.{Drew, draw-start, draw-room, draw-last, draw-next}
+use Rattle.layout.proofs.events.draw_lines.Statement.{statement}
+use Rattle.layout.proofs.events.draw_lines.Tie as tie
+
+abbrev Inv-loop : tie.InvT-loop
+Inv-loop text s events₀ k₀ at₀ rest₀ events k at rest = Drew s text events₀ events k at rest × (length events ≡ length events₀)
+
+abbrev μ-loop : tie.MeasureT-loop
+μ-loop text s events₀ k₀ at₀ rest₀ events k at rest = length text - at
+
+nothing-requires : tie.Need-nothing-requires Inv-loop μ-loop
+nothing-requires c κs = search needs
+
+loop-holds : tie.Need-loop-holds Inv-loop μ-loop
+loop-holds c = (draw-start _ _ _ _ (c .before .before .before .pre) (c .nothing .ensures), refl)
+
+lay-line-requires : tie.Need-lay-line-requires Inv-loop μ-loop
+lay-line-requires c κs = c .loop .inv .0 .ready
+
+draw-line-requires : tie.Need-draw-line-requires Inv-loop μ-loop
+draw-line-requires c κs =
+    let l = c .before .before in
+    let i = l .before .loop .inv .0 in
+    draw-room _ _ _ _ _ _ (l .lay-line .ensures) (i .ready) (i .few)
+
+is-last-requires : tie.Need-is-last-requires Inv-loop μ-loop
+is-last-requires c κs = search needs
+
+same-length : tie.Need-same-length Inv-loop μ-loop
+same-length c =
+    let d = c .before .before .before .before in
+    d .draw-line .kept .1 .1 .1 .1 .1 .0 ∙ d .before .before .before .before .loop .inv .1
+
+returns : tie.Need-returns Inv-loop μ-loop
+returns c =
+    let d = c .before .before .before .before in
+    let l = d .before .before .before in
+    draw-last _ _ _ _ _ _ _ _ _ _ (l .lay-line .ensures) (d .draw-line .ensures .0) (d .draw-line .ensures .1) (l .before .loop .inv .0)
+    (sym (c .before .is-last .ensures) ∙ c .if1 .taken)
+
+cast-at : tie.Need-cast-at Inv-loop μ-loop
+cast-at c = search needs
+
+loop-less : tie.Need-loop-less Inv-loop μ-loop
+loop-less c =
+    let e = c .before .before in
+    let l = e .before .before .before .before .before .before .before in
+    let i = l .before .loop .inv .0 .ready in
+    omega (arith, further _ _ 0 _ _ _ (l .lay-line .ensures) i (sym (e .before .is-last .ensures) ∙ e .if1 .left), stays _ _ 0 _ _ _ (l .lay-line .ensures) i)
+
+loop-again : tie.Need-loop-again Inv-loop μ-loop
+loop-again c =
+    let e = c .before .before in
+    let d = e .before .before .before .before in
+    let l = d .before .before .before in
+    let i = l .before .loop .inv in (
+      draw-next _ _ _ _ _ _ _ _ _ _ (l .lay-line .ensures) (d .draw-line .ensures .0) (d .draw-line .ensures .1) (i .0)
+          (sym (e .before .is-last .ensures) ∙ e .if1 .left),
+      d .draw-line .kept .1 .1 .1 .1 .1 .0 ∙ i .1,
+    )
+
+pub draw-lines-spec : {M : Type 1} → statement M
+draw-lines-spec =
+    tie.close
+    (tie.spec
+    Inv-loop
+    μ-loop
+    nothing-requires
+    loop-holds
+    lay-line-requires
+    draw-line-requires
+    is-last-requires
+    same-length
+    returns
+    cast-at
+    loop-less
+    loop-again)

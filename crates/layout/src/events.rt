@@ -1,0 +1,66 @@
+// The events of a text's lines, one line after the other.
+use crate::lines::is_last;
+use crate::lines::nothing;
+use drawing::pass::draw_pass;
+use meaning::cursor::Spaces;
+use meaning::line::Entry;
+use meaning::settings::Settings;
+use rendering::line::lay_line;
+use rendering::place::start_place;
+use rendering::step::Resumed;
+ghost use Prim.Native.Nat.{_+_};
+ghost use mathlib.Core.Path.{_≡_};
+ghost use lib.ListN.{length};
+ghost use Rattle.table.specs.Numbers.{putEvents};
+ghost use Rattle.drawing.specs.PassDrawn.{DrawRoom};
+ghost use Rattle.layout.specs.RowsFrom.{TextReady};
+ghost use Rattle.layout.specs.EventsFrom.{eventsOf, placeIn, lineEvents};
+
+// The events of the line at an offset, after a rest that it resumes, from its entry: events number k and on. How many there are
+// with those before.
+fn draw_line(
+    text: &[u8],
+    s: Settings,
+    at: usize,
+    rest: Resumed,
+    e: Entry,
+    events: &mut [u32],
+    k: usize,
+) -> usize
+    requires { ⌜ DrawRoom s (placeIn s e) (now text) at rest (e .left .0) k ⌝ }
+    ensures { λ r. ⌜ now (events .exit) ≡ putEvents (now (events .entry)) k (lineEvents s (now (text .entry)) at rest e) ⌝ }
+    ensures { λ r. ⌜ r ≡ k + length (lineEvents s (now (text .entry)) at rest e) ⌝ }
+{
+    let left = e.left;
+    let space = e.space;
+    let extra = e.extra;
+    let spaces = Spaces {
+        width: space,
+        extra,
+    };
+    let start = start_place(s, left, spaces);
+    draw_pass(text, s, start, at, rest, left.0, events, k)
+}
+
+// The events of all lines of a text, put into a buffer as far as it has room. How many there are.
+pub fn draw_lines(text: &[u8], s: Settings, events: &mut [u32]) -> usize
+    requires { ⌜ TextReady s (now text) ⌝ }
+    ensures { λ r. ⌜ r ≡ length (eventsOf s (now (text .entry))) ⌝ }
+    ensures { λ r. ⌜ now (events .exit) ≡ putEvents (now (events .entry)) 0 (eventsOf s (now (text .entry))) ⌝ }
+{
+    let mut k: usize = 0;
+    let mut at: usize = 0;
+    let mut rest = nothing();
+    loop {
+        let line = lay_line(text, s, at, rest);
+        let entry = line.entry;
+        k = draw_line(text, s, at, rest, entry, events, k);
+        let ended = line.ended;
+        if is_last(ended) {
+            return k;
+        }
+        at = line.next.0 as usize;
+        let held = line.rest;
+        rest = held;
+    }
+}
