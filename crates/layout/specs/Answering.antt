@@ -1,70 +1,90 @@
--- The fresh layout's answer and table in each of its cases, as its tests go.
+-- What a fresh layout answers and leaves in each of its cases, without events and with them.
 -- Assumes nothing.
-use Prim.Native.Nat.{ℕ, _≤_, _<_}
-use mathlib.Core.Path.{_≡_, refl, sym, ap, _∙_}
-use mathlib.Core.List.{List, [], _∷_, map}
-use borrow.Author.Tests.{lt-ltb, le-ltb}
+use Prim.Native.Nat.{ℕ}
+use native.Mathlib.Omega.{arith}
+use mathlib.Core.Path.{_≡_, ap, _∙_}
+use mathlib.Core.List.{List}
 use lib.ListN.{length}
-use Rattle.basis.specs.Choice.{pick}
-use Rattle.unicode.specs.Decoding.{decodeAll}
-use Rattle.meaning.specs.Checks.{refuseIf, firstOf, checkSettings, checkLength, checkUtf8, checkText, checkRoom}
-use Rattle.meaning.specs.Layout.{rows, entryOfRow}
-use Rattle.meaning.specs.Table.{ofEntry, ofAll, capacityOf, written}
-use Rattle.meaning.specs.Calls.{checkTakes, textRows, textEntries, checkLayout, layoutAnswer, layoutTable}
+use Rattle.meaning.specs.Checks.{firstOf, checkRoom}
+use Rattle.meaning.specs.Table.{eventNumbers, ofEntry, ofEvent, ofAll, capacityOf, written}
+use Rattle.meaning.specs.Calls.{textEntries, textEvents, checkLayout, layoutAnswer, layoutTable, checkDrawing, drawingAnswer, drawingTable, drawingEvents}
 use Rattle.meaning.specs.declared.settings.Settings.{Settings}
+use Rattle.meaning.specs.declared.line.Entry.{Entry}
+use Rattle.meaning.specs.declared.line.Event.{Event}
 use Rattle.meaning.specs.declared.refusals.Refusal.{Refusal}
-use Rattle.meaning.specs.declared.refusals.Refusal.the-variants.{TooSmall}
-use Rattle.meaning.specs.declared.refusals.Checked.{Checked}
 use Rattle.meaning.specs.declared.refusals.Checked.the-variants.{Good, Refused}
 use Rattle.meaning.specs.declared.answers.Laid.{Laid}
 use Rattle.meaning.specs.declared.answers.Laid.the-variants as laid
-use Rattle.laws.specs.Calls3.{layout-takes}
-use Rattle.laws.specs.TestOrder.{first-alone, first-refused, first-good}
-use Rattle.parser.specs.Lexing.{charsFrom}
+use Rattle.meaning.specs.declared.answers.LaidWithEvents.{LaidWithEvents}
+use Rattle.meaning.specs.declared.answers.LaidWithEvents.the-variants as drawing
+use Rattle.laws.specs.TestOrder.{first-alone}
+use Rattle.table.specs.Numbers.{putEvents, put-events}
+use Rattle.layout.specs.RowsFrom.{entriesOf}
+use Rattle.layout.specs.EventsFrom.{eventsOf, events-are}
+use Rattle.layout.specs.GoodInput.{entries-are}
+use Rattle.layout.specs.Checking.{long-enough}
 
--- What the call answers, and the table afterwards.
-pub record Answers (s : Settings) (t table : List ℕ) (answer : Laid) (after : List ℕ) : Type 0 where
-  pub answers : answer ≡ layoutAnswer s t table
-  pub leaves : after ≡ layoutTable s t table
+-- The lines that were written, as the definitions of the calls speak of them.
+lines-written : (s : Settings) (t table after : List ℕ) → after ≡ written table (ofAll ofEntry (entriesOf s t))
+    → after ≡ written table (ofAll ofEntry (textEntries s t))
+lines-written s t table after e = e ∙ ap (λ (es : List Entry). written table (ofAll ofEntry es)) (entries-are s t)
+
+-- ---- without events
 
 module _ (s : Settings) (t table : List ℕ) where
-  refused : (r : Refusal) → checkLayout s t table ≡ Refused r → Answers s t table (laid.Refused r) table
+  -- What the call answers, and the table afterwards.
+  abbrev pub Laying : Laid → List ℕ → Type 0
+  Laying answer after = (answer ≡ layoutAnswer s t table) × (after ≡ layoutTable s t table)
+
+  pub layout-refused : (r : Refusal) → checkLayout s t table ≡ Refused r → Laying (laid.Refused r) table
   unfolding layoutAnswer layoutTable
-  refused r e = record { answers = rw e; leaves = rw e }
+  layout-refused r e = (rw e, rw e)
 
-  -- Refusals 1 and 2.
-  pub settings-refused : (r : Refusal) → checkSettings s ≡ Refused r → Answers s t table (laid.Refused r) table
-  unfolding checkLayout firstOf
-  settings-refused r e = refused r (rw e)
+  pub layout-done : checkLayout s t table ≡ Good → (n : ℕ) → n ≡ length (entriesOf s t)
+      → (after : List ℕ) → after ≡ written table (ofAll ofEntry (entriesOf s t)) → Laying (laid.Lines n) after
+  unfolding layoutAnswer layoutTable
+  layout-done good n e after w = (rw (good, e ∙ ap length (entries-are s t)), rw good (lines-written s t table after w))
 
-  module _ (good : checkSettings s ≡ Good) where
-    -- Refusals 3 and 4.
-    pub text-refused : (r : Refusal) → checkText t ≡ Refused r → Answers s t table (laid.Refused r) table
-    unfolding checkLayout firstOf checkText
-    text-refused r e =
-        let more = checkTakes 0 (textRows s t) ∷ checkRoom (capacityOf 10 table) (length (textEntries s t)) ∷ [] in
-        refused r (rw good (first-refused (checkLength (length t)) (checkUtf8 t) more r e))
+-- ---- with events
 
-    -- No line takes nothing (7 never arises), so the room decides.
-    module _ (text : checkText t ≡ Good) where
-      room-decides : checkLayout s t table ≡ checkRoom (capacityOf 10 table) (length (textEntries s t))
-      unfolding checkLayout firstOf checkText textRows
-      room-decides =
-          let room = checkRoom (capacityOf 10 table) (length (textEntries s t)) in
-          rw good
-          (first-good (checkLength (length t)) (checkUtf8 t) (checkTakes 0 (rows s (decodeAll t)) ∷ room ∷ []) text
-          ∙ rw (layout-takes s (decodeAll t) 0) (first-alone room))
+module _ (s : Settings) (t table events : List ℕ) where
+  -- What the call answers, and the table and the event buffer afterwards.
+  abbrev pub Drawing : LaidWithEvents → List ℕ → List ℕ → Type 0
+  Drawing answer after drawn =
+      (answer ≡ drawingAnswer s t table events) × ((after ≡ drawingTable s t table events) × (drawn ≡ drawingEvents s t table events))
 
-      -- Refusal 8.
-      pub too-small : (n : ℕ) → n ≡ length (textEntries s t) → capacityOf 10 table < n → Answers s t table (laid.Refused (TooSmall n)) table
-      unfolding checkRoom refuseIf pick
-      too-small n e h = refused (TooSmall n) (room-decides ∙ rw (← e, lt-ltb _ _ h))
+  refused : (r : Refusal) → checkDrawing s t table events ≡ Refused r → Drawing (drawing.Refused r) table events
+  unfolding drawingAnswer drawingTable drawingEvents
+  refused r e = (rw e, (rw e, rw e))
 
-      -- Every line is written.
-      pub laid-whole : (n : ℕ) → n ≡ length (textEntries s t) → n ≤ capacityOf 10 table
-          → Answers s t table (laid.Lines n) (written table (ofAll ofEntry (textEntries s t)))
-      unfolding layoutAnswer layoutTable checkRoom refuseIf pick
-      laid-whole n e h =
-          let room : checkRoom (capacityOf 10 table) (length (textEntries s t)) ≡ Good = rw (← e, le-ltb _ _ h) in
-          let all : checkLayout s t table ≡ Good = room-decides ∙ room in
-          record { answers = rw (all, ← e); leaves = rw all }
+  -- The layout is refused.
+  pub lines-refused : (r : Refusal) → checkLayout s t table ≡ Refused r → Drawing (drawing.Refused r) table events
+  unfolding checkDrawing firstOf
+  lines-refused r e = refused r (rw e)
+
+  module _ (good : checkLayout s t table ≡ Good) where
+    room-decides : checkDrawing s t table events ≡ checkRoom (capacityOf eventNumbers events) (length (eventsOf s t))
+    unfolding checkDrawing firstOf
+    room-decides = rw (good, events-are s t) (first-alone _)
+
+    -- The event buffer is too small.
+    pub events-refused : (r : Refusal) → checkRoom (capacityOf eventNumbers events) (length (eventsOf s t)) ≡ Refused r
+        → Drawing (drawing.Refused r) table events
+    events-refused r e = refused r (room-decides ∙ e)
+
+    -- Lines and events are written.
+    module _ (room : checkRoom (capacityOf eventNumbers events) (length (eventsOf s t)) ≡ Good) where
+      put-written : putEvents events 0 (eventsOf s t) ≡ written events (ofAll ofEvent (textEvents s t))
+      put-written =
+          put-events events (eventsOf s t) (long-enough 6 (length (eventsOf s t)) events (omega arith) room)
+          ∙ ap (λ (es : List Event). written events (ofAll ofEvent es)) (events-are s t)
+
+      pub drawing-done : (n m : ℕ) → n ≡ length (entriesOf s t) → m ≡ length (eventsOf s t)
+          → (after : List ℕ) → after ≡ written table (ofAll ofEntry (entriesOf s t))
+          → (drawn : List ℕ) → drawn ≡ putEvents events 0 (eventsOf s t) → Drawing (drawing.Lines n m) after drawn
+      unfolding drawingAnswer drawingTable drawingEvents
+      drawing-done n m e f after w drawn d =
+          let all : checkDrawing s t table events ≡ Good = room-decides ∙ room in (
+            rw (all, e ∙ ap length (entries-are s t), f ∙ ap length (events-are s t)),
+            (rw all (lines-written s t table after w), rw all (d ∙ put-written)),
+          )

@@ -1,7 +1,8 @@
 pub mod RowsFrom
 pub mod Writing
-pub mod Answering
 pub mod Turns
 pub mod GoodInput
 pub mod EventsFrom
 pub mod DrawTurns
+pub mod Checking
+pub mod Answering

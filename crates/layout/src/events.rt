@@ -64,3 +64,12 @@ pub fn draw_lines(text: &[u8], s: Settings, events: &mut [u32]) -> usize
         rest = held;
     }
 }
+
+// How many events a text has: drawn into a buffer that has no room for one.
+pub fn count_events(text: &[u8], s: Settings) -> usize
+    requires { ⌜ TextReady s (now text) ⌝ }
+    ensures { λ r. ⌜ r ≡ length (eventsOf s (now (text .entry))) ⌝ }
+{
+    let mut none = [0u32; 1];
+    draw_lines(text, s, &mut none)
+}
