@@ -4,10 +4,11 @@ use checks::refusals::value;
 use meaning::answers::Affected;
 use meaning::answers::Height;
 use meaning::answers::Laid;
+use meaning::answers::LaidWithEvents;
 use meaning::answers::LineY;
 use meaning::answers::Tokenized;
 ghost use mathlib.Core.Path.{_≡_};
-ghost use Rattle.meaning.specs.Answers.{tokensNumber, tokensValue, layoutNumber, layoutValue, affectedNumber, affectedValue, heightNumber, heightValue, yNumber, yValue, yPlace};
+ghost use Rattle.meaning.specs.Answers.{tokensNumber, tokensValue, layoutNumber, layoutValue, drawingNumber, drawingValue, drawingCount, affectedNumber, affectedValue, heightNumber, heightValue, yNumber, yValue, yPlace};
 
 pub fn tokens_number(a: Tokenized) -> u32
     ensures { λ r. ⌜ r ≡ tokensNumber a ⌝ }
@@ -42,6 +43,34 @@ pub fn layout_value(a: Laid) -> u64
     match a {
         Laid::Lines(n) => n,
         Laid::Refused(refusal) => value(refusal),
+    }
+}
+
+pub fn drawing_number(a: LaidWithEvents) -> u32
+    ensures { λ r. ⌜ r ≡ drawingNumber a ⌝ }
+{
+    match a {
+        LaidWithEvents::Lines(_, _) => 0,
+        LaidWithEvents::Refused(refusal) => number(refusal),
+    }
+}
+
+pub fn drawing_value(a: LaidWithEvents) -> u64
+    ensures { λ r. ⌜ r ≡ drawingValue a ⌝ }
+{
+    match a {
+        LaidWithEvents::Lines(n, _) => n,
+        LaidWithEvents::Refused(refusal) => value(refusal),
+    }
+}
+
+// The count of events, and where the call was refused the number that the caller had there.
+pub fn drawing_count(a: LaidWithEvents, old: u64) -> u64
+    ensures { λ r. ⌜ r ≡ drawingCount a old ⌝ }
+{
+    match a {
+        LaidWithEvents::Lines(_, m) => m,
+        LaidWithEvents::Refused(_) => old,
     }
 }
 

@@ -3,6 +3,9 @@ mod answers;
 
 use answers::affected_number;
 use answers::affected_value;
+use answers::drawing_count;
+use answers::drawing_number;
+use answers::drawing_value;
 use answers::height_number;
 use answers::height_value;
 use answers::layout_number;
@@ -16,6 +19,7 @@ use checks::refusals::checked_number;
 use checks::refusals::checked_value;
 use checks::settings::check_settings;
 use checks::text::check_text;
+use layout::drawn::layout_with_events;
 use layout::fresh::layout;
 use meaning::counts::Offset;
 use meaning::counts::Pixels;
@@ -29,8 +33,8 @@ ghost use mathlib.Core.Path.{_≡_};
 ghost use Rattle.meaning.specs.Settings.{settingsOf};
 ghost use Rattle.meaning.specs.Refusals.{checkedNumber, checkedValue};
 ghost use Rattle.meaning.specs.Checks.{checkSettings, checkText};
-ghost use Rattle.meaning.specs.Answers.{tokensNumber, tokensValue, layoutNumber, layoutValue, affectedNumber, affectedValue, heightNumber, heightValue, yNumber, yValue, yPlace};
-ghost use Rattle.meaning.specs.Calls.{tokensAnswer, tokensBuffer, layoutAnswer, layoutTable, affectedAnswer, heightAnswer, yAnswer};
+ghost use Rattle.meaning.specs.Answers.{tokensNumber, tokensValue, layoutNumber, layoutValue, drawingNumber, drawingValue, drawingCount, affectedNumber, affectedValue, heightNumber, heightValue, yNumber, yValue, yPlace};
+ghost use Rattle.meaning.specs.Calls.{tokensAnswer, tokensBuffer, layoutAnswer, layoutTable, drawingAnswer, drawingTable, drawingEvents, affectedAnswer, heightAnswer, yAnswer};
 ghost use Rattle.bisquemop.specs.Edits.{editOf};
 
 // The settings from the twelve numbers that C passes.
@@ -164,6 +168,52 @@ pub extern "C" fn bisquemop_layout(
     let answer = layout(s, text, table);
     *value = layout_value(answer);
     layout_number(answer)
+}
+
+#[no_mangle]
+pub extern "C" fn bisquemop_layout_events(
+    glyph: u32,
+    width: u32,
+    tab: u32,
+    spacing: u32,
+    paragraph: u32,
+    base: u32,
+    height: u32,
+    top: i32,
+    alignment: u32,
+    vertical: u32,
+    leading: u32,
+    trailing: u32,
+    text: &[u8],
+    table: &mut [u32],
+    events: &mut [u32],
+    value: &mut u64,
+    count: &mut u64,
+) -> u32
+    ensures { λ r. ⌜ r ≡ drawingNumber (drawingAnswer (settingsOf glyph width tab spacing paragraph base height top alignment vertical leading trailing) (now (text .entry)) (now (table .entry)) (now (events .entry))) ⌝ }
+    ensures { λ r. ⌜ now (table .exit) ≡ drawingTable (settingsOf glyph width tab spacing paragraph base height top alignment vertical leading trailing) (now (text .entry)) (now (table .entry)) (now (events .entry)) ⌝ }
+    ensures { λ r. ⌜ now (events .exit) ≡ drawingEvents (settingsOf glyph width tab spacing paragraph base height top alignment vertical leading trailing) (now (text .entry)) (now (table .entry)) (now (events .entry)) ⌝ }
+    ensures { λ r. ⌜ now (value .exit) ≡ drawingValue (drawingAnswer (settingsOf glyph width tab spacing paragraph base height top alignment vertical leading trailing) (now (text .entry)) (now (table .entry)) (now (events .entry))) ⌝ }
+    ensures { λ r. ⌜ now (count .exit) ≡ drawingCount (drawingAnswer (settingsOf glyph width tab spacing paragraph base height top alignment vertical leading trailing) (now (text .entry)) (now (table .entry)) (now (events .entry))) (now (count .entry)) ⌝ }
+{
+    let s = settings_from(
+        glyph,
+        width,
+        tab,
+        spacing,
+        paragraph,
+        base,
+        height,
+        top,
+        alignment,
+        vertical,
+        leading,
+        trailing,
+    );
+    let answer = layout_with_events(s, text, table, events);
+    *value = drawing_value(answer);
+    *count = drawing_count(answer, *count);
+    drawing_number(answer)
 }
 
 #[no_mangle]
