@@ -1,8 +1,8 @@
 /*
  * Bisquemop lays text in a box where every character has the same width, and says for each line where it starts, where
  * it ends and where it is drawn. This version checks settings and texts, splits a text into tokens, lays a text into a
- * table of lines, says from such a table which line an edit affects first, how high the lines stand, and where each of
- * them stands. What is drawn inside a line and laying again after an edit are still to come.
+ * table of lines, lists what is drawn in each line, says from a table which line an edit affects first, how high the
+ * lines stand, and where each of them stands. Laying again after an edit is still to come.
  *
  * Link with libbisquemop.a (x86-64 Linux). The header is C99, and C++ can include it too.
  *
@@ -13,7 +13,7 @@
  *  - It allocates nothing, keeps no pointer and has no state, so threads may call it side by side.
  *  - `value` points to a uint64_t of the caller's. It must not be NULL.
  *  - A buffer is a pointer and the number of its elements, not of its bytes, and may be NULL if that number is 0.
- *  - The text, the buffer and *value must not overlap one another.
+ *  - The text, the buffers and the numbers that a call writes must not overlap one another.
  *
  * Offsets are in bytes from the text's start, widths and heights in pixels, counts in characters.
  */
@@ -121,6 +121,26 @@ enum bisquemop_kind {
     BISQUEMOP_KIND_BREAK = 5            /* U+00AD, where a word may be broken */
 };
 
+/* The columns of an event: event k's number of a column stands at BISQUEMOP_EVENT_NUMBERS * k + the column. */
+enum bisquemop_event_column {
+    BISQUEMOP_EVENT_KIND = 0,  /* one of enum bisquemop_drawn */
+    BISQUEMOP_EVENT_START = 1, /* the offset of the first byte that it stands for */
+    BISQUEMOP_EVENT_END = 2,   /* the offset after the last of them */
+    BISQUEMOP_EVENT_COUNT = 3, /* of a space the spaces that it counts as, else 0 */
+    BISQUEMOP_EVENT_WIDTH = 4, /* how far it moves the pen */
+    BISQUEMOP_EVENT_X = 5      /* where the pen stands before it, from the box's left side */
+};
+#define BISQUEMOP_EVENT_NUMBERS 6 /* how many numbers an event has in a buffer */
+
+/* What an event is. Only printed ones show, but others move the pen too. */
+enum bisquemop_drawn {
+    BISQUEMOP_DRAWN_SPACE = 0,   /* spaces, U+00A0, a tab, or the U+000A or U+000D that ends the line, which is 0 wide,
+                                    as spaces at the start or the end of a line are where the setting is off */
+    BISQUEMOP_DRAWN_PRINTED = 1, /* the characters of its bytes, which are of a word; "-" if its bytes are U+00AD's;
+                                    nothing if it has no bytes, as at the end of a word that ends in U+00A0 */
+    BISQUEMOP_DRAWN_MOVE = 2     /* a tab that does not fit, or one at a line's end where `trailing` is off */
+};
+
 /* How a text is laid: eight numbers of pixels, two alignments and two switches. */
 struct bisquemop_settings {
     uint32_t glyph;     /* the width of every character: 1 to 64 */
@@ -198,6 +218,37 @@ static inline uint32_t bisquemop_settings_layout(const struct bisquemop_settings
 {
     return bisquemop_layout(s->glyph, s->width, s->tab, s->spacing, s->paragraph, s->base, s->height, s->top,
                             s->alignment, s->vertical, s->leading, s->trailing, text, len, table, table_len, value);
+}
+
+/*
+ * The same as bisquemop_layout, and writes six numbers (enum bisquemop_event_column) for each event to `events`, which
+ * has `events_len` numbers: what is drawn, line after line and from left to right. One event for each byte of the text,
+ * 6 * len numbers, is surely enough. Numbers past the last event written keep what they held. *event_count, a uint64_t
+ * of the caller's that must not be NULL, is how many events were written, and keeps what it held if the call refuses.
+ * Returns
+ *   BISQUEMOP_OK                    done; *value is how many lines were written
+ *   BISQUEMOP_SETTING_OUT_OF_RANGE  as by bisquemop_check_settings; *value is 0
+ *   BISQUEMOP_UNKNOWN_ALIGNMENT     as by bisquemop_check_settings; *value is the number that was given
+ *   BISQUEMOP_TEXT_TOO_LONG         as by bisquemop_check_text; *value is `len`
+ *   BISQUEMOP_NOT_UTF8              as by bisquemop_check_text; *value is the length of its longest valid prefix
+ *   BISQUEMOP_TOO_SMALL             `table` has no room for all lines; *value is how many there are. Or it has, and
+ *                                   `events` has no room for all events; *value is how many of these there are
+ */
+uint32_t bisquemop_layout_events(uint32_t glyph, uint32_t width, uint32_t tab, uint32_t spacing, uint32_t paragraph,
+                                 uint32_t base, uint32_t height, int32_t top, uint32_t alignment, uint32_t vertical,
+                                 uint32_t leading, uint32_t trailing, const uint8_t *text, size_t len, uint32_t *table,
+                                 size_t table_len, uint32_t *events, size_t events_len, uint64_t *value,
+                                 uint64_t *event_count);
+
+/* The same for settings in a struct, which must not be NULL. */
+static inline uint32_t bisquemop_settings_layout_events(const struct bisquemop_settings *s, const uint8_t *text,
+                                                        size_t len, uint32_t *table, size_t table_len,
+                                                        uint32_t *events, size_t events_len, uint64_t *value,
+                                                        uint64_t *event_count)
+{
+    return bisquemop_layout_events(s->glyph, s->width, s->tab, s->spacing, s->paragraph, s->base, s->height, s->top,
+                                   s->alignment, s->vertical, s->leading, s->trailing, text, len, table, table_len,
+                                   events, events_len, value, event_count);
 }
 
 /*

@@ -17,6 +17,8 @@ int main(void)
     test_tokens();
     printf("layouts\n");
     test_layout();
+    printf("events\n");
+    test_events();
     printf("tables\n");
     test_tables();
     printf("heights\n");

@@ -85,11 +85,11 @@ void expect_text(const char *what, const uint8_t *text, size_t len, uint32_t num
     }
 }
 
-/* The buffer that is lent, between two guards. */
+/* The buffers that are lent, between two guards each: the second is for events. */
 #define GUARD 16
 #define ROOM (BISQUEMOP_LINE_NUMBERS * (BISQUEMOP_TEXT_MAX + 4))
 
-static uint32_t lent[GUARD + ROOM + GUARD];
+static uint32_t lent[GUARD + ROOM + GUARD], lent_for_events[GUARD + ROOM + GUARD];
 
 /* What stands at a place of it before a call. */
 static uint32_t held(size_t i)
@@ -97,32 +97,42 @@ static uint32_t held(size_t i)
     return UINT32_C(0xC0000000) ^ (uint32_t)i * UINT32_C(2654435761);
 }
 
-static uint32_t *lend(size_t room)
+static uint32_t *lend_in(uint32_t *buffer, size_t room)
 {
     if (room > ROOM) {
         expect("the tests' own buffer is large enough", 0);
         return NULL;
     }
     for (size_t i = 0; i < GUARD + room + GUARD; i++) {
-        lent[i] = held(i);
+        buffer[i] = held(i);
     }
-    return room == 0 ? NULL : lent + GUARD;
+    return room == 0 ? NULL : buffer + GUARD;
 }
 
 /* Does the buffer hold the `count` numbers at `written` at its front, and all else what it held. */
-static void compare_lent(const char *what, size_t room, const uint32_t *written, size_t count)
+static void compare_in(const uint32_t *buffer, const char *what, size_t room, const uint32_t *written, size_t count)
 {
     for (size_t i = 0; i < GUARD + room + GUARD; i++) {
         int front = GUARD <= i && i < GUARD + count;
         uint32_t expected = front ? written[i - GUARD] : held(i);
-        if (lent[i] != expected) {
+        if (buffer[i] != expected) {
             failed++;
             printf("FAILED %s: in a buffer of %lu, at %ld: expected %" PRIu32 "%s, got %" PRIu32 "\n", what,
-                   (unsigned long)room, (long)i - GUARD, expected, front ? "" : " as before", lent[i]);
+                   (unsigned long)room, (long)i - GUARD, expected, front ? "" : " as before", buffer[i]);
             return;
         }
     }
     passed++;
+}
+
+static uint32_t *lend(size_t room)
+{
+    return lend_in(lent, room);
+}
+
+static void compare_lent(const char *what, size_t room, const uint32_t *written, size_t count)
+{
+    compare_in(lent, what, room, written, count);
 }
 
 void expect_tokens(const char *what, const uint8_t *text, size_t len, size_t room, uint32_t number, uint64_t value,
@@ -155,6 +165,34 @@ void expect_layout(const char *what, struct bisquemop_settings s, const uint8_t 
         show_text(text, len);
     }
     compare_lent(what, room, written, count);
+}
+
+void expect_drawing(const char *what, struct bisquemop_settings s, const uint8_t *text, size_t len, size_t table_room,
+                    size_t events_room, uint32_t number, uint64_t value, const uint32_t *lines, uint64_t event_count,
+                    const uint32_t *events)
+{
+    int done = number == BISQUEMOP_OK;
+    for (int spread = 0; spread < 2; spread++) {
+        struct answer a = no_answer(), counted = no_answer();
+        uint32_t *table = lend(table_room), *buffer = lend_in(lent_for_events, events_room);
+        a.number = spread ? bisquemop_settings_layout_events(&s, text, len, table, table_room, buffer, events_room,
+                                                             &a.value, &counted.value)
+                          : bisquemop_layout_events(s.glyph, s.width, s.tab, s.spacing, s.paragraph, s.base, s.height,
+                                                    s.top, s.alignment, s.vertical, s.leading, s.trailing, text, len,
+                                                    table, table_room, buffer, events_room, &a.value, &counted.value);
+        counted.number = a.number;
+        if (!compare(what, &a, number, value)) {
+            printf(spread ? ", from a struct" : ", from twelve numbers");
+            show_text(text, len);
+        }
+        if (!compare(what, &counted, number, done ? event_count : UNWRITTEN)) {
+            printf(", the count of events");
+            show_text(text, len);
+        }
+        compare_lent(what, table_room, lines, done ? BISQUEMOP_LINE_NUMBERS * (size_t)value : 0);
+        compare_in(lent_for_events, what, events_room, events,
+                   done ? BISQUEMOP_EVENT_NUMBERS * (size_t)event_count : 0);
+    }
 }
 
 /* A copy of the table a call is to read, between the guards. */

@@ -21,6 +21,14 @@ void expect_tokens(const char *what, const uint8_t *text, size_t len, size_t roo
 void expect_layout(const char *what, struct bisquemop_settings s, const uint8_t *text, size_t len, size_t room,
                    uint32_t number, uint64_t value, const uint32_t *written);
 
+/*
+ * The same with a table of `table_room` numbers and an event buffer of `events_room` lent. Where the call is done, the
+ * two hold `value` lines and `event_count` events, and the count of events is written; else it stays as it was.
+ */
+void expect_drawing(const char *what, struct bisquemop_settings s, const uint8_t *text, size_t len, size_t table_room,
+                    size_t events_room, uint32_t number, uint64_t value, const uint32_t *lines, uint64_t event_count,
+                    const uint32_t *events);
+
 /* The same with a table to read, which must stay as it was. */
 void expect_affected(const char *what, const uint32_t *table, size_t table_len, uint64_t lines, uint32_t a, uint32_t b,
                      uint32_t inserted, uint32_t number, uint64_t value);
@@ -45,6 +53,7 @@ void test_sequences(void);
 void test_random(void);
 void test_tokens(void);
 void test_layout(void);
+void test_events(void);
 void test_tables(void);
 void test_heights(void);
 void test_edits(void);

@@ -35,3 +35,11 @@ std::uint32_t tokens_in(const std::uint8_t *text, std::size_t len, std::uint32_t
 {
     return bisquemop_tokens(text, len, tokens, BISQUEMOP_TOKEN_NUMBERS * len, &value);
 }
+
+std::uint32_t events_in(const bisquemop_settings &settings, const std::uint8_t *text, std::size_t len,
+                        std::uint32_t *table, std::size_t table_len, std::uint32_t *events, std::uint64_t &value,
+                        std::uint64_t &event_count)
+{
+    return bisquemop_settings_layout_events(&settings, text, len, table, table_len, events,
+                                            BISQUEMOP_EVENT_NUMBERS * len, &value, &event_count);
+}
