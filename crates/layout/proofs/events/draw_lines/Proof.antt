@@ -29,7 +29,7 @@ draw-line-requires : tie.Need-draw-line-requires Inv-loop μ-loop
 draw-line-requires c κs =
     let l = c .before .before in
     let i = l .before .loop .inv .0 in
-    draw-room _ _ _ _ _ _ (l .lay-line .ensures) (i .ready) (i .few)
+    draw-room _ _ _ _ _ _ (l .lay-line .ensures) (i .ready) (omega (arith, i .few))
 
 is-last-requires : tie.Need-is-last-requires Inv-loop μ-loop
 is-last-requires c κs = search needs
