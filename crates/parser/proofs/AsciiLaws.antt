@@ -1,4 +1,4 @@
--- ASCII in words and before them.
+-- ASCII, and letters of three bytes, in words and before them.
 -- Assumes nothing.
 use mathlib.Core.Path.{_≡_, refl, sym, ap, _∙_}
 use mathlib.Core.Bool.{true, false}
@@ -10,12 +10,14 @@ use lib.ListN.{length, getD}
 use Rattle.basis.specs.Choice.{pick}
 use Rattle.unicode.specs.Decoding.{decodeAt}
 use Rattle.unicode.specs.Ascii.{decode-ascii}
+use Rattle.unicode.specs.Wide.{Wide}
+use Rattle.unicode.specs.Members.{above-all}
 use Rattle.unicode.specs.declared.sequence.Decoded.the-variants.{Char}
 use Rattle.meaning.specs.Characters.{glue, inWord, inRun}
 use Rattle.parser.specs.Lexing.{charsFrom}
 use Rattle.parser.specs.Scanning.{glueOf, scanFrom}
-use Rattle.parser.specs.Ascii.{plain, Lettered, plain-range}
-use Rattle.parser.proofs.CharacterLaws.{ascii-word, ascii-run}
+use Rattle.parser.specs.Ascii.{plain, Lettered, Spelled, plain-range}
+use Rattle.parser.proofs.CharacterLaws.{ascii-word, ascii-run, high-word}
 use Rattle.parser.proofs.ScanLaws.{scan-more}
 
 -- Of words, not of space runs, and gluing nothing.
@@ -61,10 +63,57 @@ module _ (t : List ℕ) (from : ℕ) where
             ∙ (λ k. scanFrom inWord glueOf (i + 1) (m k) (v k) (charsFrom t (i + 1)));
       }
 
--- A character of a word, and the bytes of ASCII behind it.
-pub scan-turn : (t : List ℕ) (at n w c k g to : ℕ) → decodeAt t at ≡ Char c k → inWord c ≡ true → g ≡ glueOf c → Lettered t (at + k) to
-    → scanFrom inWord glueOf at n w (charsFrom t at) ≡ scanFrom inWord glueOf to (n + (1 + (to - (at + k)))) (w + g) (charsFrom t to)
-scan-turn t at n w c k g to e i q l =
-    let m : n + 1 + (to - (at + k)) ≡ n + (1 + (to - (at + k))) = omega arith in
+-- ---- letters of three bytes
+
+module _ (c : ℕ) (h : 0x3000 < c) where
+  no-glue : glue c ≡ false
+  unfolding glue
+  no-glue = ne-eqb c 0x00A0 (λ e. omega arith)
+
+  wide-glue : glueOf c ≡ 0
+  unfolding glueOf pick
+  wide-glue = rw no-glue
+
+  wide-word : inWord c ≡ true
+  wide-word = high-word c (omega arith) (λ e. omega arith) no-glue (λ e. omega arith) ∙ rw (above-all c h)
+
+module _ (t : List ℕ) (from : ℕ) where
+  pub spelled-none : from ≤ length t → Spelled t from from 0
+  spelled-none h = record {
+    forward = omega arith;
+    inside = h;
+    scans = λ n w. let z : n ≡ n + 0 = omega arith in ap (λ (m : ℕ). scanFrom inWord glueOf from m w (charsFrom t from)) z;
+  }
+
+  -- One more.
+  pub spelled-wide : (i k : ℕ) → Wide t i → Spelled t from i k → Spelled t from (i + 3) (k + 1)
+  spelled-wide i k x l =
+      let c = x .char in
+      record {
+        forward = omega (arith, l .forward);
+        inside = x .inside;
+        scans = λ n w.
+            let m : n + k + 1 ≡ n + (k + 1) = omega arith in
+            let v : w + glueOf c ≡ w = omega (arith, wide-glue c (x .above)) in
+            l .scans n w ∙ scan-more inWord glueOf t i (n + k) w c 3 (x .is) (wide-word c (x .above))
+            ∙ (λ j. scanFrom inWord glueOf (i + 3) (m j) (v j) (charsFrom t (i + 3)));
+      }
+
+  pub spelled-both : (i j k : ℕ) → Lettered t from i → Spelled t i j k → Spelled t from j (i - from + k)
+  spelled-both i j k l s =
+      record {
+        forward = omega (arith, l .forward, s .forward);
+        inside = s .inside;
+        scans = λ n w.
+            let m : n + (i - from) + k ≡ n + (i - from + k) = omega arith in
+            l .scans n w ∙ s .scans (n + (i - from)) w ∙ ap (λ (x : ℕ). scanFrom inWord glueOf j x w (charsFrom t j)) m;
+      }
+
+-- A character of a word, and the letters behind it.
+pub scan-turn : (t : List ℕ) (at n w c k g to more : ℕ) → decodeAt t at ≡ Char c k → inWord c ≡ true → g ≡ glueOf c
+    → Spelled t (at + k) to more
+    → scanFrom inWord glueOf at n w (charsFrom t at) ≡ scanFrom inWord glueOf to (n + (1 + more)) (w + g) (charsFrom t to)
+scan-turn t at n w c k g to more e i q l =
+    let m : n + 1 + more ≡ n + (1 + more) = omega arith in
     scan-more inWord glueOf t at n w c k e i ∙ l .scans (n + 1) (w + glueOf c)
     ∙ (λ j. scanFrom inWord glueOf to (m j) (w + sym q j) (charsFrom t to))

@@ -1,8 +1,9 @@
-// Text of ASCII, where a byte is a character: the common case, met before any decoding.
+// What texts are mostly made of, told before any decoding: ASCII, where a byte is a character, and letters of three bytes.
 ghost use mathlib.Core.Path.{_≡_};
 ghost use Prim.Native.Nat.{_≤_};
 ghost use lib.ListN.{length};
-ghost use Rattle.parser.specs.Ascii.{plain, plainAt, spaceAt, Lettered};
+ghost use Rattle.parser.specs.Ascii.{plain, plainAt, spaceAt, Lettered, Spelled};
+use unicode::wide::wide_at;
 
 // 21 to 7F are of words, and none of them glues.
 pub fn is_plain(b: u8) -> bool
@@ -44,4 +45,36 @@ pub fn pass_plain(text: &[u8], from: usize) -> usize
         at += 1;
     }
     at
+}
+
+// Where letters end, and how many there are.
+pub struct Letters {
+    pub end: usize,
+    pub chars: u32,
+}
+
+// Letters of three bytes are passed.
+fn pass_wide(text: &[u8], from: usize) -> Letters
+    requires { ⌜ (length (now text) ≤ 65535) × (from ≤ length (now text)) ⌝ }
+    ensures { λ r. ⌜ Spelled (now (text .entry)) from (r .end) (r .chars) ⌝ }
+{
+    let mut end = from;
+    let mut chars: u32 = 0;
+    while wide_at(text, end) {
+        end += 3;
+        chars += 1;
+    }
+    Letters { end, chars }
+}
+
+// Letters of one byte are passed, and then those of three.
+pub fn pass_letters(text: &[u8], from: usize) -> Letters
+    requires { ⌜ (length (now text) ≤ 65535) × (from ≤ length (now text)) ⌝ }
+    ensures { λ r. ⌜ Spelled (now (text .entry)) from (r .end) (r .chars) ⌝ }
+{
+    let plain = pass_plain(text, from);
+    let wide = pass_wide(text, plain);
+    let end = wide.end;
+    let chars = (plain - from) as u32 + wide.chars;
+    Letters { end, chars }
 }

@@ -5,7 +5,7 @@ ghost use lib.ListN.{length};
 ghost use Rattle.meaning.specs.Characters.{inWord, inRun};
 ghost use Rattle.parser.specs.Lexing.{charsFrom};
 ghost use Rattle.parser.specs.Scanning.{glueOf, spaceOf, scannedAt, scanFrom};
-use crate::ascii::pass_plain;
+use crate::ascii::pass_letters;
 use crate::ascii::plain_at;
 use crate::ascii::space_at;
 use crate::characters::glue_of;
@@ -42,8 +42,9 @@ pub fn scan_word(text: &[u8], from: usize, first: u32) -> Scanned
     requires { ⌜ (length (now text) ≤ 65535) × (from ≤ length (now text)) × (first ≤ 1) ⌝ }
     ensures { λ r. ⌜ r ≡ scanFrom inWord glueOf from 1 first (charsFrom (now (text .entry)) from) ⌝ }
 {
-    let mut at = pass_plain(text, from);
-    let mut chars = 1 + (at - from) as u32;
+    let front = pass_letters(text, from);
+    let mut at = front.end;
+    let mut chars = 1 + front.chars;
     let mut weight = first;
     loop {
         if space_at(text, at) {
@@ -55,9 +56,9 @@ pub fn scan_word(text: &[u8], from: usize, first: u32) -> Scanned
                     return ended(at, chars, weight, len);
                 }
                 weight += glue_of(cp);
-                let next = at + len as usize;
-                at = pass_plain(text, next);
-                chars += 1 + (at - next) as u32;
+                let more = pass_letters(text, at + len as usize);
+                at = more.end;
+                chars += 1 + more.chars;
             }
             Decoded::Bad => {
                 return ended(at, chars, weight, 1);

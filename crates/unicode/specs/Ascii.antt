@@ -1,4 +1,4 @@
--- Bytes below 80, each of which is a character by itself (Table 3-6).
+-- Text that is passed without decoding: bytes below 80, each a character by itself (Table 3-6), and other characters that are told.
 -- Assumes nothing.
 use mathlib.Core.Path.{_≡_, subst}
 use mathlib.Core.Bool.{Bool, true, _&&_}
@@ -58,3 +58,20 @@ module _ (t : List ℕ) (from : ℕ) where
       let four = pass-one (i + 3) (omega arith) (ltb-true (getD t (i + 3) 0) 0x80 (back .1)) (subst (Passed t from) three' three) in
       let four' : i + 3 + 1 ≡ i + 4 = omega arith in
       subst (Passed t from) four' four
+
+  -- One character of three bytes more.
+  pub pass-three : (i c : ℕ) → decodeAt t i ≡ Char c 3 → i + 3 ≤ length t → Passed t from i → Passed t from (i + 3)
+  pass-three i c e h p =
+      record {
+        forward = omega (arith, p .forward);
+        inside = h;
+        prefix = omega (arith, p .forward, p .prefix, prefix-at-more t i c 3 e);
+      }
+
+  pub pass-on : (i j : ℕ) → Passed t from i → Passed t i j → Passed t from j
+  pass-on i j p q =
+      record {
+        forward = omega (arith, p .forward, q .forward);
+        inside = q .inside;
+        prefix = omega (arith, p .forward, q .forward, p .prefix, q .prefix);
+      }

@@ -2,3 +2,4 @@
 pub mod sequence;
 pub mod text;
 pub mod white_space;
+pub mod wide;

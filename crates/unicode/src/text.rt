@@ -8,6 +8,7 @@ ghost use Rattle.unicode.specs.Ascii.{Passed};
 use crate::sequence::Decoded;
 use crate::sequence::decode;
 use crate::sequence::is_cont;
+use crate::wide::wide_at;
 
 // Bytes below 80, each a character by itself, are passed four at a time while four are left.
 fn pass_fours(text: &[u8], from: usize) -> usize
@@ -41,15 +42,35 @@ fn pass_ascii(text: &[u8], from: usize) -> usize
     at
 }
 
+// Characters of three bytes that are told by their bytes alone are passed.
+fn pass_wide(text: &[u8], from: usize) -> usize
+    requires { ⌜ from ≤ length (now text) ⌝ }
+    ensures { λ r. ⌜ Passed (now (text .entry)) from r ⌝ }
+{
+    let mut at = from;
+    while wide_at(text, at) {
+        at += 3;
+    }
+    at
+}
+
+// Both kinds are passed.
+fn pass_common(text: &[u8], from: usize) -> usize
+    requires { ⌜ from ≤ length (now text) ⌝ }
+    ensures { λ r. ⌜ Passed (now (text .entry)) from r ⌝ }
+{
+    pass_wide(text, pass_ascii(text, from))
+}
+
 // How many bytes the longest prefix has that is UTF-8.
 pub fn valid_prefix(text: &[u8]) -> usize
     ensures { λ r. ⌜ r ≡ validPrefix (now (text .entry)) ⌝ }
 {
-    let mut at = pass_ascii(text, 0);
+    let mut at = pass_common(text, 0);
     loop {
         match decode(text, at) {
             Decoded::Char { cp: _, len } => {
-                at = pass_ascii(text, at + len as usize);
+                at = pass_common(text, at + len as usize);
             }
             Decoded::Bad => {
                 return at;

@@ -27,21 +27,15 @@ Inv-loop text from first at₀ chars₀ weight₀ at chars weight =
 abbrev μ-loop : tie.MeasureT-loop
 μ-loop text from first at₀ chars₀ weight₀ at chars weight = length text - at
 
-pass-plain-requires : tie.Need-pass-plain-requires Inv-loop μ-loop
-pass-plain-requires c κs = search needs
-
-sub-chars : tie.Need-sub-chars Inv-loop μ-loop
-sub-chars c = c .pass-plain .ensures .forward
-
-cast-chars : tie.Need-cast-chars Inv-loop μ-loop
-cast-chars c = omega (arith, c .pass-plain .ensures .inside)
+pass-letters-requires : tie.Need-pass-letters-requires Inv-loop μ-loop
+pass-letters-requires c κs = search needs
 
 add-chars : tie.Need-add-chars Inv-loop μ-loop
-add-chars c = omega (arith, c .pass-plain .ensures .inside)
+add-chars c = let p = c .before .pass-letters .ensures in omega (arith, p .forward, p .inside)
 
 loop-holds : tie.Need-loop-holds Inv-loop μ-loop
 loop-holds c =
-    let p = c .pass-plain .ensures in
+    let p = c .before .pass-letters .ensures in
     (sym (p .scans 1 _), p .inside, omega (arith, p .forward), omega (arith, p .forward))
 
 space-at-requires : tie.Need-space-at-requires Inv-loop μ-loop
@@ -55,7 +49,7 @@ returns : tie.Need-returns Inv-loop μ-loop
 returns c =
     let p = c .before .before in
     let l = p .before .loop in
-    let t = p .before .before .before .before .args .text .now in
+    let t = p .before .before .before .before .before .args .text .now in
     c .ended .ensures
     ∙ sym (scan-stop inWord glueOf t _ _ _ _ _ (space-char t (l .at) (sym (p .space-at .ensures) ∙ c .before .if1 .taken)) space-no-word)
     ∙ l .inv .0
@@ -74,7 +68,7 @@ abbrev Read : Type 0
 Read = tie.After-known-told Inv-loop μ-loop
 
 abbrev T : Read → List ℕ
-T c = c .before .before .before .before .before .before .before .before .before .args .text .now
+T c = c .before .before .before .before .before .before .before .before .before .before .args .text .now
 
 abbrev I : Read → ℕ
 I c = c .before .before .before .before .before .before .loop .at
@@ -109,43 +103,37 @@ glue-of-requires c κs = search needs
 add-weight : tie.Need-add-weight Inv-loop μ-loop
 add-weight c = omega (arith, c .glue-of .ensures, glue-one (C (c .before .before .before)))
 
-cast-next : tie.Need-cast-next Inv-loop μ-loop
-cast-next c = search needs
+cast-pass-letters : tie.Need-cast-pass-letters Inv-loop μ-loop
+cast-pass-letters c = search needs
 
-add-next : tie.Need-add-next Inv-loop μ-loop
-add-next c = omega (arith, room (c .before .before .before))
+add-pass-letters : tie.Need-add-pass-letters Inv-loop μ-loop
+add-pass-letters c = omega (arith, room (c .before .before .before))
 
-pass-plain-requires-2 : tie.Need-pass-plain-requires-2 Inv-loop μ-loop
-pass-plain-requires-2 c κs = omega (arith, room (c .before .before .before))
+pass-letters-requires-2 : tie.Need-pass-letters-requires-2 Inv-loop μ-loop
+pass-letters-requires-2 c κs = omega (arith, room (c .before .before .before))
 
-sub-chars-2 : tie.Need-sub-chars-2 Inv-loop μ-loop
-sub-chars-2 c = c .pass-plain2 .ensures .forward
-
-cast-chars-2 : tie.Need-cast-chars-2 Inv-loop μ-loop
-cast-chars-2 c = omega (arith, c .pass-plain2 .ensures .inside)
+-- The same turn, once the letters behind the character are passed.
+abbrev R : tie.After-struct-known2 Inv-loop μ-loop → Read
+R c = c .before .before .before .before .before
 
 add-chars-2 : tie.Need-add-chars-2 Inv-loop μ-loop
-add-chars-2 c = omega (arith, c .pass-plain2 .ensures .inside)
-
--- The same turn, once the bytes behind the character are passed.
-abbrev R : tie.After-pass-plain2 Inv-loop μ-loop → Read
-R c = c .before .before .before .before
+add-chars-2 c = let p = c .before .pass-letters2 .ensures in omega (arith, p .forward, p .inside, room (R c))
 
 add-chars-3 : tie.Need-add-chars-3 Inv-loop μ-loop
-add-chars-3 c = omega (arith, c .pass-plain2 .ensures .inside, room (R c))
+add-chars-3 c = let p = c .before .pass-letters2 .ensures in omega (arith, p .forward, p .inside, room (R c))
 
 loop-less : tie.Need-loop-less Inv-loop μ-loop
-loop-less c = let p = c .pass-plain2 .ensures in omega (arith, p .forward, p .inside, room (R c))
+loop-less c = let p = c .before .pass-letters2 .ensures in omega (arith, p .forward, p .inside, room (R c))
 
 loop-again : tie.Need-loop-again Inv-loop μ-loop
 loop-again c =
-    let p = c .pass-plain2 .ensures in
-    let g = c .before in
+    let p = c .before .pass-letters2 .ensures in
+    let g = c .before .before in
     let i = g .before .before in
     let r = R c in
     let l = r .before .before .before .before .before .before .loop in
     let h = room r in (
-      sym (scan-turn (T r) (l .at) (l .chars) (l .weight) (C r) (N r) (g .glue-of .result) (c .pass-plain2 .result) (read r)
+      sym (scan-turn (T r) (l .at) (l .chars) (l .weight) (C r) (N r) (g .glue-of .result) _ _ (read r)
           (sym (i .in-word .ensures) ∙ not-false _ (g .before .if2 .left)) (g .glue-of .ensures) p)
           ∙ l .inv .0,
       p .inside,
@@ -187,9 +175,7 @@ scan-word-spec =
     (tie.spec
     Inv-loop
     μ-loop
-    pass-plain-requires
-    sub-chars
-    cast-chars
+    pass-letters-requires
     add-chars
     loop-holds
     space-at-requires
@@ -202,11 +188,9 @@ scan-word-spec =
     returns-2
     glue-of-requires
     add-weight
-    cast-next
-    add-next
-    pass-plain-requires-2
-    sub-chars-2
-    cast-chars-2
+    cast-pass-letters
+    add-pass-letters
+    pass-letters-requires-2
     add-chars-2
     add-chars-3
     loop-less

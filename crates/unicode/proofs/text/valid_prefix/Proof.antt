@@ -19,11 +19,11 @@ Inv-loop text at₀ at = (validPrefix text ≡ at + validPrefix (drop at text)) 
 abbrev μ-loop : tie.MeasureT-loop
 μ-loop text at₀ at = length text - at
 
-pass-ascii-requires : tie.Need-pass-ascii-requires Inv-loop μ-loop
-pass-ascii-requires c κs = search needs
+pass-common-requires : tie.Need-pass-common-requires Inv-loop μ-loop
+pass-common-requires c κs = search needs
 
 loop-holds : tie.Need-loop-holds Inv-loop μ-loop
-loop-holds c = let p = c .pass-ascii .ensures in (omega (arith, p .prefix), p .inside)
+loop-holds c = let p = c .pass-common .ensures in (omega (arith, p .prefix), p .inside)
 
 decode-requires : tie.Need-decode-requires Inv-loop μ-loop
 decode-requires c κs = search needs
@@ -50,21 +50,21 @@ read c = sym (c .before .before .before .decode .ensures) ∙ c .before .len .gi
 room : (c : Read) → (1 ≤ N c) × (I c + N c ≤ length (S c))
 room c = decode-at-within (S c) (I c) _ (N c) (read c)
 
-cast-pass-ascii : tie.Need-cast-pass-ascii Inv-loop μ-loop
-cast-pass-ascii c = omega (arith, room c)
+cast-pass-common : tie.Need-cast-pass-common Inv-loop μ-loop
+cast-pass-common c = omega (arith, room c)
 
-add-pass-ascii : tie.Need-add-pass-ascii Inv-loop μ-loop
-add-pass-ascii c = omega (arith, room c)
+add-pass-common : tie.Need-add-pass-common Inv-loop μ-loop
+add-pass-common c = omega (arith, room c)
 
-pass-ascii-requires-2 : tie.Need-pass-ascii-requires-2 Inv-loop μ-loop
-pass-ascii-requires-2 c κs = omega (arith, room c)
+pass-common-requires-2 : tie.Need-pass-common-requires-2 Inv-loop μ-loop
+pass-common-requires-2 c κs = omega (arith, room c)
 
 loop-less : tie.Need-loop-less Inv-loop μ-loop
-loop-less c = let p = c .pass-ascii2 .ensures in omega (arith, room (c .before), p .forward, p .inside)
+loop-less c = let p = c .pass-common2 .ensures in omega (arith, room (c .before), p .forward, p .inside)
 
 loop-again : tie.Need-loop-again Inv-loop μ-loop
 loop-again c =
-    let p = c .pass-ascii2 .ensures in
+    let p = c .pass-common2 .ensures in
     let r = c .before in
     (omega (arith, r .before .before .before .before .loop .inv, prefix-at-more (S r) (I r) _ (N r) (read r), p .forward, p .prefix), p .inside)
 
@@ -90,13 +90,13 @@ valid-prefix-spec =
     (tie.spec
     Inv-loop
     μ-loop
-    pass-ascii-requires
+    pass-common-requires
     loop-holds
     decode-requires
     enum-known-len
-    cast-pass-ascii
-    add-pass-ascii
-    pass-ascii-requires-2
+    cast-pass-common
+    add-pass-common
+    pass-common-requires-2
     loop-less
     loop-again
     enum-told
