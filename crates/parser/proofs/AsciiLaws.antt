@@ -10,13 +10,13 @@ use lib.ListN.{length, getD}
 use Rattle.basis.specs.Choice.{pick}
 use Rattle.unicode.specs.Decoding.{decodeAt}
 use Rattle.unicode.specs.Ascii.{decode-ascii}
-use Rattle.unicode.specs.Wide.{Wide}
+use Rattle.unicode.specs.Wide.{wideAt, Wide, wide-char}
 use Rattle.unicode.specs.Members.{above-all}
 use Rattle.unicode.specs.declared.sequence.Decoded.the-variants.{Char}
 use Rattle.meaning.specs.Characters.{glue, inWord, inRun}
 use Rattle.parser.specs.Lexing.{charsFrom}
 use Rattle.parser.specs.Scanning.{glueOf, scanFrom}
-use Rattle.parser.specs.Ascii.{plain, Lettered, Spelled, plain-range}
+use Rattle.parser.specs.Ascii.{plain, plainAt, Lettered, Spelled, Letter, plain-range, plain-char}
 use Rattle.parser.proofs.CharacterLaws.{ascii-word, ascii-run, high-word}
 use Rattle.parser.proofs.ScanLaws.{scan-more}
 
@@ -76,6 +76,12 @@ module _ (c : ℕ) (h : 0x3000 < c) where
 
   wide-word : inWord c ≡ true
   wide-word = high-word c (omega arith) (λ e. omega arith) no-glue (λ e. omega arith) ∙ rw (above-all c h)
+
+pub letter-plain : (t : List ℕ) (at : ℕ) → plainAt t at ≡ true → Letter t at 1
+letter-plain t at e = let h = plain-char t at e in record { char = getD t at 0; is = h .1; glue = plain-glue (getD t at 0) (h .0) }
+
+pub letter-wide : (t : List ℕ) (at : ℕ) → wideAt t at ≡ true → Letter t at 3
+letter-wide t at e = let x = wide-char t at e in record { char = x .char; is = x .is; glue = wide-glue (x .char) (x .above) }
 
 module _ (t : List ℕ) (from : ℕ) where
   pub spelled-none : from ≤ length t → Spelled t from from 0

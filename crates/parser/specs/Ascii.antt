@@ -37,6 +37,12 @@ pub record Spelled (t : List ℕ) (from to chars : ℕ) : Type 0 where
   pub inside : to ≤ length t
   pub scans : (n w : ℕ) → scanFrom inWord glueOf from n w (charsFrom t from) ≡ scanFrom inWord glueOf to (n + chars) w (charsFrom t to)
 
+-- A letter of so many bytes stands at a position.
+pub record Letter (t : List ℕ) (at n : ℕ) : Type 0 where
+  pub char : ℕ
+  pub is : decodeAt t at ≡ Char char n
+  pub glue : glueOf char ≡ 0
+
 pub plain-range : (b : ℕ) → plain b ≡ true → (0x20 < b) × (b < 0x80)
 plain-range b e = let f = and-true (ltb 0x20 b) (ltb b 0x80) e in (ltb-true 0x20 b (f .0), ltb-true b 0x80 (f .1))
 

@@ -1,8 +1,8 @@
 // What texts are mostly made of, told before any decoding: ASCII, where a byte is a character, and letters of three bytes.
 ghost use mathlib.Core.Path.{_≡_};
-ghost use Prim.Native.Nat.{_≤_};
+ghost use Prim.Native.Nat.{_≤_, _<_};
 ghost use lib.ListN.{length};
-ghost use Rattle.parser.specs.Ascii.{plain, plainAt, spaceAt, Lettered, Spelled};
+ghost use Rattle.parser.specs.Ascii.{plain, plainAt, spaceAt, Lettered, Spelled, Letter};
 use unicode::wide::wide_at;
 
 // 21 to 7F are of words, and none of them glues.
@@ -77,4 +77,17 @@ pub fn pass_letters(text: &[u8], from: usize) -> Letters
     let end = wide.end;
     let chars = (plain - from) as u32 + wide.chars;
     Letters { end, chars }
+}
+
+// How many bytes the letter has that stands at a position, where it is told so. 0: it is not told.
+pub fn letter_len(text: &[u8], at: usize) -> usize
+    ensures { λ r. ⌜ (0 < r → Letter (now (text .entry)) at r) ⌝ }
+{
+    if plain_at(text, at) {
+        return 1;
+    }
+    if wide_at(text, at) {
+        return 3;
+    }
+    0
 }

@@ -4,6 +4,7 @@ ghost use Prim.Native.Nat.{_≤_};
 ghost use lib.ListN.{length};
 ghost use Rattle.parser.specs.Lexing.{charsFrom, partOf};
 ghost use Rattle.parser.specs.Scanning.{partAt};
+use crate::ascii::letter_len;
 use crate::characters::glue_of;
 use crate::lexeme::Part;
 use meaning::counts::Chars;
@@ -30,6 +31,12 @@ pub fn part_of(text: &[u8], at: usize, k: u32) -> Part
     let mut glues: u32 = 0;
     let mut left = k;
     while 0 < left {
+        let letter = letter_len(text, end);
+        if 0 < letter {
+            end += letter;
+            left -= 1;
+            continue;
+        }
         match decode(text, end) {
             Decoded::Char { cp, len } => {
                 glues += glue_of(cp);

@@ -9,6 +9,7 @@ use borrow.Author.Needs.{needs}
 use Rattle.unicode.specs.Decoding.{decodeAt}
 use Rattle.unicode.specs.Walk.{isChar}
 use Rattle.unicode.specs.declared.sequence.Decoded.the-variants.{Char}
+use Rattle.parser.specs.Ascii.{Letter}
 use Rattle.parser.proofs.ScanLaws.{glue-one, char-room}
 use Rattle.parser.proofs.PartLaws.{sizeTo, gluesTo, to-more, to-none, to-zero, part-is}
 use Rattle.parser.proofs.part.part_of.Statement.{statement}
@@ -24,6 +25,33 @@ abbrev μ-loop : tie.MeasureT-loop
 loop-holds : tie.Need-loop-holds Inv-loop μ-loop
 loop-holds c = (refl, omega arith, omega arith, omega arith)
 
+letter-len-requires : tie.Need-letter-len-requires Inv-loop μ-loop
+letter-len-requires c κs = search needs
+
+-- In a turn that is told a letter: the letter, and that its bytes lie in the text.
+letter : (c : tie.Then1 Inv-loop μ-loop) → Letter (c .before .before .before .before .before .args .text .now) (c .before .before .before .loop .end) (c .before .letter-len .result)
+letter c = c .before .letter-len .ensures (omega arith)
+
+letter-room : (c : tie.Then1 Inv-loop μ-loop)
+    → (1 ≤ c .before .letter-len .result) × (c .before .letter-len .result ≤ 4)
+    × (c .before .before .before .loop .end + c .before .letter-len .result ≤ length (c .before .before .before .before .before .args .text .now))
+letter-room c = char-room _ _ (letter c .char) _ (letter c .is)
+
+add-end : tie.Need-add-end Inv-loop μ-loop
+add-end c = omega (arith, letter-room c)
+
+sub-left : tie.Need-sub-left Inv-loop μ-loop
+sub-left c = search needs
+
+loop-less : tie.Need-loop-less Inv-loop μ-loop
+loop-less c = search needs
+
+loop-again : tie.Need-loop-again Inv-loop μ-loop
+loop-again c =
+    let l = c .before .before in
+    let y = letter c in
+    omega (arith, letter-room c, y .glue, to-more _ _ (y .char) (c .before .letter-len .result) (l .before .loop .left) (y .is) (l .loop-test .taken))
+
 decode-requires : tie.Need-decode-requires Inv-loop μ-loop
 decode-requires c κs = search needs
 
@@ -38,10 +66,10 @@ abbrev Read : Type 0
 Read = tie.After-glue-of Inv-loop μ-loop
 
 abbrev T : Read → List ℕ
-T c = c .before .before .before .before .before .before .before .before .args .text .now
+T c = c .before .before .before .before .before .before .before .before .before .before .args .text .now
 
 abbrev I : Read → ℕ
-I c = c .before .before .before .before .before .before .loop .end
+I c = c .before .before .before .before .before .before .before .before .loop .end
 
 abbrev C : Read → ℕ
 C c = c .before .before .cp .given .0 .0
@@ -64,18 +92,18 @@ add-glues c = omega (arith, one c)
 cast-end : tie.Need-cast-end Inv-loop μ-loop
 cast-end c = search needs
 
-add-end : tie.Need-add-end Inv-loop μ-loop
-add-end c = omega (arith, room c)
+add-end-2 : tie.Need-add-end-2 Inv-loop μ-loop
+add-end-2 c = omega (arith, room c)
 
-sub-left : tie.Need-sub-left Inv-loop μ-loop
-sub-left c = search needs
+sub-left-2 : tie.Need-sub-left-2 Inv-loop μ-loop
+sub-left-2 c = search needs
 
-loop-less : tie.Need-loop-less Inv-loop μ-loop
-loop-less c = search needs
+loop-less-2 : tie.Need-loop-less-2 Inv-loop μ-loop
+loop-less-2 c = search needs
 
-loop-again : tie.Need-loop-again Inv-loop μ-loop
-loop-again c =
-    let l = c .before .before .before .before .before in
+loop-again-2 : tie.Need-loop-again-2 Inv-loop μ-loop
+loop-again-2 c =
+    let l = c .before .before .before .before .before .before .before in
     omega (arith, one c, room c, c .glue-of .ensures, to-more (T c) (I c) (C c) (N c) (l .before .loop .left) (read c) (l .loop-test .taken))
 
 enum-told : tie.Need-enum-told Inv-loop μ-loop
@@ -87,7 +115,7 @@ part-at-requires c κs = search needs
 returns : tie.Need-returns Inv-loop μ-loop
 returns c =
     let d = c .before .before .before in
-    let l = d .before .before in
+    let l = d .before .before .before .before in
     let s = l .before .before in
     let z = to-none (s .args .text .now) (l .loop .end) (l .loop .left) (ap isChar (sym (d .decode .ensures) ∙ c .before .enum-told .given .1)) in
     c .part-at .ensures ∙ part-is (s .args .text .now) (s .args .at) (s .args .k) _ _ (omega arith) (omega arith)
@@ -101,7 +129,7 @@ part-at-requires-2 c κs = search needs
 returns-2 : tie.Need-returns-2 Inv-loop μ-loop
 returns-2 c =
     let d = c .before .before .before in
-    let l = d .before .before in
+    let l = d .before .before .before .before in
     let s = l .before .before in
     let z = to-none (s .args .text .now) (l .loop .end) (l .loop .left) (ap isChar (sym (d .decode .ensures) ∙ c .before .enum-told2 .given .1)) in
     c .part-at2 .ensures ∙ part-is (s .args .text .now) (s .args .at) (s .args .k) _ _ (omega arith) (omega arith)
@@ -123,15 +151,20 @@ part-of-spec =
     Inv-loop
     μ-loop
     loop-holds
+    letter-len-requires
+    add-end
+    sub-left
+    loop-less
+    loop-again
     decode-requires
     enum-known-cp
     glue-of-requires
     add-glues
     cast-end
-    add-end
-    sub-left
-    loop-less
-    loop-again
+    add-end-2
+    sub-left-2
+    loop-less-2
+    loop-again-2
     enum-told
     part-at-requires
     returns
