@@ -34,7 +34,7 @@ module _ (s : Settings) (h : checkSettings s ≡ Good) where
       let a = good-both (inRange s) (pick (knownAlignment (s .alignment)) vertical (Refused (UnknownAlignment (s .alignment)))) SettingOutOfRange h in
       (a .0, good-both (knownAlignment (s .alignment)) vertical (UnknownAlignment (s .alignment)) (a .1) .0)
 
-  fine-settings : FineSettings s
+  pub fine-settings : FineSettings s
   unfolding inRange sizesInRange
   fine-settings =
       let g = within 1 64 (s .glyph .0) in

@@ -3,4 +3,4 @@ mod checked;
 pub mod drawn;
 mod events;
 pub mod fresh;
-mod lines;
+pub mod lines;

@@ -14,7 +14,7 @@ ghost use Rattle.meaning.specs.Calls.{checkAffected, affectedAnswer};
 ghost use Rattle.table.specs.EditAlone.{checkPlace};
 
 // The length of the edited whole. 32-bit numbers are added in 64 bits, so that nothing wraps.
-fn whole_length(text: Offset, edit: Edit) -> u64
+pub fn whole_length(text: Offset, edit: Edit) -> u64
     requires { ⌜ (edit .from .0 ≤ edit .to .0) × (edit .to .0 ≤ text .0) ⌝ }
     ensures { λ r. ⌜ r ≡ text .0 + edit .inserted .0 - (edit .to .0 - edit .from .0) ⌝ }
 {

@@ -25,7 +25,7 @@ fn start_good(length: Offset, prior: LineBefore, e: Entry) -> bool
     }
 }
 
-fn no_rest(e: Entry) -> bool
+pub fn no_rest(e: Entry) -> bool
     ensures { λ r. ⌜ r ≡ noRest e ⌝ }
 {
     (e.rest.end.0 == 0) & (e.rest.count.0 == 0)

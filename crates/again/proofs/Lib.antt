@@ -1,0 +1,4 @@
+pub mod MeetLaws
+pub mod SkipLaws
+pub mod RestLaws
+pub mod CheckLaws

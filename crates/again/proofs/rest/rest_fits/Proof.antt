@@ -1,0 +1,68 @@
+-- `rest_fits` meets its contract.
+-- Assumes nothing.
+use mathlib.Core.Path.{sym, _∙_}
+use borrow.Author.Tests.{not-true, not-false}
+use Rattle.again.specs.HeldRest.{fits-none}
+use Rattle.again.proofs.RestLaws.{no-boundary, a-boundary, counts-few}
+use borrow.Author.Needs.{needs}
+use Rattle.again.proofs.rest.rest_fits.Statement.{statement}
+use Rattle.again.proofs.rest.rest_fits.Tie as tie
+
+no-rest-requires : tie.Need-no-rest-requires
+no-rest-requires c κs = search needs
+
+returns : tie.Need-returns
+returns c = fits-none _ _ (sym (c .before .no-rest .ensures) ∙ c .if1 .taken)
+
+rest-end-requires : tie.Need-rest-end-requires
+rest-end-requires c κs = search needs
+
+is-boundary-requires : tie.Need-is-boundary-requires
+is-boundary-requires c κs = search needs
+
+returns-2 : tie.Need-returns-2
+returns-2 c =
+    let b = c .before in
+    let end = b .before in
+    let some = end .before in
+    let start = some .before .before .before in
+    no-boundary _ _ (start .pre) (sym (some .before .no-rest .ensures) ∙ some .if1 .left) _ (end .rest-end .ensures)
+    (sym (b .is-boundary .ensures) ∙ not-true (b .is-boundary .result) (c .if2 .taken))
+
+cast-result : tie.Need-cast-result
+cast-result c = search needs
+
+chars-before-requires : tie.Need-chars-before-requires
+chars-before-requires c κs =
+    let n = c .before in
+    let b = n .before in
+    let end = b .before in
+    let some = end .before in
+    let start = some .before .before .before in (
+      start .pre,
+      a-boundary _ _ (start .pre) (sym (some .before .no-rest .ensures) ∙ some .if1 .left) _ (end .rest-end .ensures)
+          (sym (b .is-boundary .ensures) ∙ not-false (b .is-boundary .result) (n .if2 .left)),
+    )
+
+returns-3 : tie.Need-returns-3
+returns-3 c =
+    let n = c .before .before in
+    let b = n .before in
+    let end = b .before in
+    let some = end .before in
+    let start = some .before .before .before in
+    counts-few _ _ (start .pre) (sym (some .before .no-rest .ensures) ∙ some .if1 .left) _ (end .rest-end .ensures) _
+    (sym (b .is-boundary .ensures) ∙ not-false (b .is-boundary .result) (n .if2 .left)) (c .chars-before .ensures)
+
+pub rest-fits-spec : {M : Type 1} → statement M
+rest-fits-spec =
+    tie.close
+    (tie.spec
+    no-rest-requires
+    returns
+    rest-end-requires
+    is-boundary-requires
+    returns-2
+    cast-result
+    chars-before-requires
+    returns-3)

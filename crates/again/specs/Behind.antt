@@ -1,0 +1,57 @@
+-- A lent part of a text stands behind so many bytes of it: what is laid in the part is moved by them.
+-- Assumes nothing.
+use Prim.Native.Nat.{ℕ, _+_, _-_, _≤_}
+use native.Mathlib.Omega.{arith}
+use mathlib.Core.Path.{_≡_}
+use mathlib.Core.List.{List}
+use lib.Dec.{eqb}
+use lib.ListN.{length, take}
+use borrow.Author.Tests.{eq-eqb, ne-eqb}
+use Rattle.basis.specs.Choice.{pick}
+use Rattle.basis.specs.Order.{by-eq}
+use Rattle.unicode.specs.Encoding.{size}
+use Rattle.meaning.specs.LineIter.{Held}
+use Rattle.meaning.specs.Line.{Line, restOf, entryAt}
+use Rattle.meaning.specs.Edit.{moved, movedEntry}
+use Rattle.meaning.specs.declared.edit.Edit.{Edit}
+use Rattle.meaning.specs.declared.line.Rest.{Rest}
+use Rattle.laws.specs.Moved.{entry-moved}
+use Rattle.laws.specs.Rests.{rest-none, rest-some}
+use Rattle.parser.specs.Lexing.{charsFrom}
+use Rattle.rendering.specs.LineFrom.{heldIn}
+use Rattle.rendering.specs.Pending.{RestFits}
+use Rattle.rendering.specs.declared.step.Resumed.{Resumed}
+
+-- Bytes put in front of everything.
+abbrev pub behind : ℕ → Edit
+behind base = record { from = record { 0 = 0 }; to = record { 0 = 0 }; inserted = record { 0 = base } }
+
+moved-behind : (base at : ℕ) → moved (behind base) at ≡ base + at
+unfolding moved
+moved-behind base at = omega arith
+
+-- The line that is laid at an offset of the part, as a line of the whole.
+pub entry-behind : (base at : ℕ) (h : Held) (cs : List ℕ) (l : Line) → h .chars ≤ length cs
+    → entryAt (base + at) h cs l ≡ movedEntry (behind base) (entryAt at h cs l)
+entry-behind base at h cs l k = rw (moved-behind base at) at (entry-moved (behind base) at h cs l (omega arith) k)
+
+-- What is held before such a line, as an entry of the whole says it.
+unfoldable pub restBehind : (base : ℕ) → Resumed → Rest
+restBehind base r =
+    pick (eqb (r .chars .0) 0) (record { end = record { 0 = 0 }; count = record { 0 = 0 } })
+    (record { end = record { 0 = base + r .end .0 }; count = r .count })
+
+-- It is no large number.
+abbrev pub RestLow : (base : ℕ) → Resumed → Type 0
+RestLow base r = (r .chars .0 ≡ 0 → ⊥) → base + r .end .0 ≤ 131071
+
+pub rest-behind : (t : List ℕ) (base at : ℕ) (r : Resumed) → RestFits t at r
+    → restOf (base + at) (heldIn r) (charsFrom t at) ≡ restBehind base r
+unfolding restBehind pick
+rest-behind t base at r f =
+    let h = heldIn r in
+    let cs = charsFrom t at in
+    by-eq (r .chars .0) 0 (λ e. rw (rest-none (base + at) h cs e, eq-eqb (r .chars .0) 0 e))
+    (λ d.
+    let e : base + at + size (take (r .chars .0) cs) ≡ base + r .end .0 = omega (arith, f .ends d) in
+    rw (rest-some (base + at) h cs d, ne-eqb (r .chars .0) 0 d, e))

@@ -1,0 +1,178 @@
+-- What refusals 1 to 6 say where none of them is given: the first affected line and its rest, and that nothing wraps.
+-- Assumes nothing.
+use Prim.Native.Nat.{ℕ, _+_, _-_, _*_, _≤_, _<_}
+use native.Mathlib.Nat.{add-zero}
+use native.Mathlib.Omega.{arith}
+use mathlib.Core.Path.{_≡_, refl, sym, ap, subst, _∙_}
+use mathlib.Core.Bool.{true, _&&_}
+use mathlib.Core.List.{List, [], _∷_}
+use borrow.Author.Tests.{leb-true, ltb-false}
+use lib.Dec.{leb, ltb, eqb}
+use lib.ListN.{length, drop}
+use Rattle.basis.specs.Choice.{pick, by-test, and-true}
+use Rattle.basis.specs.Order.{by-le}
+use Rattle.unicode.specs.Decoding.{decodeAll}
+use Rattle.unicode.specs.Places.{boundary}
+use Rattle.meaning.specs.Checks.{firstOf, checkSettings, checkLength, checkUtf8}
+use Rattle.meaning.specs.Table.{entryIn, entriesIn}
+use Rattle.meaning.specs.WellFormed.{textLength, nothing, line, checkTable}
+use Rattle.meaning.specs.Edit.{keptFrom, unaffected, affected, inOrder, newLength, checkWhole, restFits, partFits, again}
+use Rattle.meaning.specs.declared.settings.Settings.{Settings}
+use Rattle.meaning.specs.declared.edit.Edit.{Edit}
+use Rattle.meaning.specs.declared.line.Entry.{Entry}
+use Rattle.meaning.specs.declared.refusals.Refusal.{Refusal}
+use Rattle.meaning.specs.declared.refusals.Refusal.the-variants.{TextTooLong}
+use Rattle.meaning.specs.declared.refusals.Checked.{Checked}
+use Rattle.meaning.specs.declared.refusals.Checked.the-variants.{Good, Refused}
+use Rattle.laws.specs.Calls3.{refuse-good}
+use Rattle.parser.specs.Lexing.{charsFrom}
+use Rattle.rendering.specs.Laying.{LineReady}
+use Rattle.rendering.specs.declared.step.Resumed.{Resumed}
+use Rattle.table.specs.LinesFrom.{linesFrom, lines-more}
+use Rattle.table.specs.GoodTable.{table-room, table-text, table-lines}
+use Rattle.table.specs.Moving.{AllMovable}
+use Rattle.table.specs.MovableLines.{table-movable}
+use Rattle.layout.specs.GoodInput.{fine-settings}
+use Rattle.again.specs.Behind.{behind}
+use Rattle.again.specs.HeldRest.{resumedOf, resumed-held, resumed-fits}
+use Rattle.again.specs.OldLines.{rises, affected-drop, kept-affected}
+use Rattle.again.specs.AgainFrom.{againFrom}
+use Rattle.again.specs.Seeking.{PassedBy, FindReady}
+use Rattle.again.specs.Checking.{checkFirst, checkLent, checkBefore, few-before, first-affected, no-line, bad-rest, bad-edit}
+
+-- ---- each test by itself
+
+pub goods : (c : Checked) (cs : List Checked) → firstOf (c ∷ cs) ≡ Good → (c ≡ Good) × (firstOf cs ≡ Good)
+unfolding firstOf
+goods Good cs e = (refl, e)
+goods (Refused r) cs e = let z : _≡_ {A = ℕ} 0 1 = cc in absurd (omega arith)
+
+-- None refuses.
+pub record AllGood (s : Settings) (part table : List ℕ) (lines : ℕ) (ed : Edit) : Type 0 where
+  pub settings : checkSettings s ≡ Good
+  pub short : checkLength (length part) ≡ Good
+  pub whole : checkWhole (checkTable lines table) (entriesIn lines table) ed ≡ Good
+  pub utf8 : checkUtf8 part ≡ Good
+  pub table-is : checkTable lines table ≡ Good
+  pub first : checkFirst part table lines ed ≡ Good
+
+pub all-good : (s : Settings) (part table : List ℕ) (lines : ℕ) (ed : Edit) → checkBefore s part table lines ed ≡ Good
+    → AllGood s part table lines ed
+unfolding checkBefore checkLent
+all-good s part table lines ed h =
+    let t = checkTable lines table in
+    let w = checkWhole t (entriesIn lines table) ed in
+    let f = checkFirst part table lines ed in
+    let a = goods (checkSettings s) (checkLent part table lines ed ∷ []) h in
+    let b = goods (checkLent part table lines ed) [] (a .1) in
+    let c = goods (checkLength (length part)) (w ∷ checkUtf8 part ∷ t ∷ f ∷ []) (b .0) in
+    let d = goods w (checkUtf8 part ∷ t ∷ f ∷ []) (c .1) in
+    let e = goods (checkUtf8 part) (t ∷ f ∷ []) (d .1) in
+    let g = goods t (f ∷ []) (e .1) in
+    record { settings = a .0; short = c .0; whole = d .0; utf8 = e .0; table-is = g .0; first = goods f [] (g .1) .0 }
+
+-- ---- the first affected line
+
+module _ (s : Settings) (part table : List ℕ) (lines : ℕ) (ed : Edit) (g : AllGood s part table lines ed) (k : ℕ)
+    (k-is : k ≡ length (unaffected (ed .from .0) (entriesIn lines table)))
+  where
+    abbrev old : List Entry
+    old = entriesIn lines table
+
+    abbrev cs : List ℕ
+    cs = decodeAll part
+
+    no-refusal : (r : Refusal) → Refused r ≡ checkFirst part table lines ed → ⊥
+    no-refusal r h = let z : _≡_ {A = ℕ} 0 1 = cc (g .first) in omega arith
+
+    -- There is one.
+    pub is-affected : k < lines
+    is-affected = by-le lines k (λ h. absurd (no-refusal _ (no-line table lines ed k k-is part h))) (λ h. h)
+
+    pub short-part : length part ≤ 65535
+    unfolding checkLength
+    short-part = ltb-false 65535 (length part) (refuse-good (ltb 65535 (length part)) (TextTooLong (length part)) (g .short))
+
+    module _ (e : Entry) (e-is : e ≡ entryIn (drop (10 * k) table)) where
+      pub rest-good : restFits e cs ≡ true
+      rest-good =
+          by-test (restFits e cs) (λ t. t) (λ f. absurd (no-refusal _ (bad-rest table lines ed k k-is part is-affected e e-is f)))
+
+      edit-good : partFits old ed e (length part) cs ≡ true
+      edit-good =
+          by-test (partFits old ed e (length part) cs) (λ t. t)
+          (λ f. absurd (no-refusal _ (bad-edit table lines ed k k-is part is-affected e e-is rest-good f)))
+
+      -- The edit replaces bytes of the old text.
+      in-order : inOrder old ed ≡ true
+      unfolding partFits
+      in-order =
+          let o = inOrder old ed in
+          let l = eqb (length part) (newLength old ed - e .start .0) in
+          let f = boundary cs (ed .from .0 - e .start .0) in
+          and-true o l (and-true (o && l) f (and-true (o && l && f) _ edit-good .0) .0) .0
+
+      pub order : (ed .from .0 ≤ ed .to .0) × (ed .to .0 ≤ textLength old)
+      unfolding inOrder
+      order =
+          let b = and-true (leb (ed .from .0) (ed .to .0)) (leb (ed .to .0) (textLength old)) in-order in
+          (leb-true (ed .from .0) (ed .to .0) (b .0), leb-true (ed .to .0) (textLength old) (b .1))
+
+      -- The edited whole is short.
+      whole-short : newLength old ed ≤ 65535
+      unfolding checkWhole checkLength pick
+      whole-short =
+          let c = rw (g .table-is, in-order) at (g .whole) in
+          ltb-false 65535 (newLength old ed) (refuse-good (ltb 65535 (newLength old ed)) (TextTooLong (newLength old ed)) c)
+
+      pub few-inserted : ed .inserted .0 ≤ 131071
+      unfolding newLength
+      few-inserted = omega (arith, whole-short, order, table-text lines table (g .table-is))
+
+      -- It starts within the text.
+      pub start-low : e .start .0 ≤ 65536
+      unfolding linesFrom
+      start-low =
+          let a = table-movable table lines k (behind 0) (g .table-is) is-affected (omega arith) in
+          rw e-is (subst (AllMovable (behind 0)) (lines-more table lines k is-affected) a .0 .start .1)
+
+      -- Old lines before it are passed.
+      passed : PassedBy ed old (e .start .0) k
+      passed later rest h =
+          let a = ed .from .0 in
+          let some = first-affected table lines ed k k-is is-affected in
+          kept-affected ed later rest a (textLength old) 0 nothing old (order .0) (table-lines lines table (g .table-is))
+          (λ none. omega (arith, ap length (sym some ∙ none)))
+          ∙ ap (keptFrom ed later rest) (affected-drop a old ∙ ap (λ (n : ℕ). drop n old) (sym k-is))
+
+      module _ (r : Resumed) (r-is : r ≡ resumedOf e cs) where
+        pub line-ready : LineReady s part 0 r
+        line-ready =
+            record {
+              settings = fine-settings s (g .settings);
+              short = short-part;
+              inside = omega arith;
+              rest = rw r-is (resumed-fits part e (g .utf8) rest-good);
+            }
+
+        pub find-ready : FindReady s part table lines k (e .start .0) ed r
+        find-ready =
+            record {
+              line = line-ready;
+              room = table-room lines table (g .table-is);
+              low = start-low;
+              first = few-before table lines ed k k-is;
+              rising = rises (textLength old) 0 nothing old (table-lines lines table (g .table-is));
+              passed = passed;
+            }
+
+        -- Laying again starts with it.
+        pub again-is : again s ed old (affected (ed .from .0) old) cs ≡ againFrom s part ed old (e .start .0) 0 r
+        unfolding again againFrom charsFrom
+        again-is =
+            rw (
+              first-affected table lines ed k k-is is-affected ∙ ap (λ (x : Entry). x ∷ linesFrom table lines (k + 1)) (sym e-is),
+              r-is,
+              resumed-held e cs,
+              add-zero (e .start .0),
+            )

@@ -1,0 +1,121 @@
+-- The old lines that laying again keeps are the last ones, and the first of them starts behind the replaced bytes.
+-- Assumes nothing.
+use Prim.Native.Nat.{ℕ, zero, suc, _+_, _-_, _≤_}
+use native.Mathlib.Omega.{arith}
+use mathlib.Core.Path.{_≡_, refl, sym, ap, subst, _∙_}
+use mathlib.Core.Bool.{true, _&&_}
+use mathlib.Core.List.{List, [], _∷_, map}
+use borrow.Author.Tests.{leb-true}
+use lib.Dec.{leb, eqb}
+use lib.ListN.{length, take, drop, length-drop, length-map, drop-of-length-le}
+use Rattle.basis.specs.Choice.{pick, by-test, and-true}
+use Rattle.unicode.specs.Encoding.{size}
+use Rattle.meaning.specs.LineIter.{Held}
+use Rattle.meaning.specs.Line.{layLine, restOf}
+use Rattle.meaning.specs.Layout.{rowAt}
+use Rattle.meaning.specs.Edit.{moved, movedRest, movedEntry, meets, keptFrom, Again, againUnlessEnded, oneMore, unlessKept, againBy}
+use Rattle.meaning.specs.declared.settings.Settings.{Settings}
+use Rattle.meaning.specs.declared.edit.Edit.{Edit}
+use Rattle.meaning.specs.declared.line.LineEnd.{LineEnd}
+use Rattle.meaning.specs.declared.line.LineEnd.the-variants.{NewLine, CarriageReturn, EndOfText, LineBreak}
+use Rattle.meaning.specs.declared.line.Rest.{Rest}
+use Rattle.meaning.specs.declared.line.Entry.{Entry}
+use Rattle.parser.specs.Lexing.{charsFrom}
+use Rattle.rendering.specs.LineFrom.{heldIn}
+use Rattle.rendering.specs.declared.step.Resumed.{Resumed}
+use Rattle.again.specs.AgainFrom.{againFrom}
+
+-- The first of some lines, if there is one, starts behind the replaced bytes.
+abbrev pub StartsBehind : Edit → List Entry → Type 0
+StartsBehind ed [] = Unit {0}
+StartsBehind ed (e ∷ es) = ed .to .0 ≤ e .start .0
+
+-- Some lines are the old ones from line j on, and start behind the replaced bytes.
+pub record Last (ed : Edit) (old es : List Entry) : Type 0 where
+  pub from : ℕ
+  pub within : from ≤ length old
+  pub is : es ≡ drop from old
+  pub behind : StartsBehind ed es
+
+module _ (ed : Edit) where
+  met-behind : (start : ℕ) (rest : Rest) (e : Entry) → meets ed start rest e ≡ true → ed .to .0 ≤ e .start .0
+  unfolding meets
+  met-behind start rest e h =
+      let a = leb (ed .to .0) (e .start .0) in
+      let b = eqb (moved ed (e .start .0)) start in
+      let c = eqb (movedRest ed (e .rest) .end .0) (rest .end .0) in
+      leb-true (ed .to .0) (e .start .0) (and-true a b (and-true (a && b) c (and-true (a && b && c) _ h .0) .0) .0)
+
+  -- No lines are the old ones from behind the last.
+  no-lines : (old : List Entry) → Last ed old []
+  no-lines old =
+      let h : length old ≤ length old = omega arith in
+      record { from = length old; within = h; is = sym (drop-of-length-le old h); behind = tt }
+
+  kept-last : (start : ℕ) (rest : Rest) (old : List Entry) → Last ed old (keptFrom ed start rest old)
+  unfolding keptFrom pick
+  kept-last start rest [] = no-lines []
+  kept-last start rest (e ∷ es) =
+      let more = kept-last start rest es in
+      by-test (meets ed start rest e)
+      (λ t. rw t (record { from = 0; within = omega arith; is = refl; behind = met-behind start rest e t }))
+      (λ t. rw t (record { from = suc (more .from); within = omega (arith, more .within); is = more .is; behind = more .behind }))
+
+  -- What is kept are such lines, moved.
+  pub record KeptLast (old : List Entry) (a : Again) : Type 0 where
+    pub lines : List Entry
+    pub last : Last ed old lines
+    pub is : a .kept ≡ map (movedEntry ed) lines
+
+  ended-last : (old : List Entry) (e : LineEnd) (a : Again) → KeptLast old a → KeptLast old (againUnlessEnded e a)
+  unfolding againUnlessEnded
+  ended-last old EndOfText a k = record { lines = []; last = no-lines old; is = refl }
+  ended-last old NewLine a k = k
+  ended-last old CarriageReturn a k = k
+  ended-last old LineBreak a k = k
+
+  stopped-last : (old : List Entry) (es : List Entry) (a : Again) → Last ed old es → KeptLast old a → KeptLast old (unlessKept ed es a)
+  unfolding unlessKept
+  stopped-last old [] a l k = k
+  stopped-last old (e ∷ es) a l k = record { lines = e ∷ es; last = l; is = refl }
+
+  again-last : (old : List Entry) (n : ℕ) (s : Settings) (start : ℕ) (h : Held) (cs : List ℕ) → KeptLast old (againBy n s ed old start h cs)
+  unfolding againBy
+  again-last old zero s start h cs = record { lines = []; last = no-lines old; is = refl }
+  again-last old (suc n) s start h cs =
+      let l = layLine s h cs in
+      let next = start + size (take (l .chars) cs) in
+      let rest = againBy n s ed old next (l .held) (drop (l .chars) cs) in
+      let k = ended-last old (l .ended) rest (again-last old n s next (l .held) (drop (l .chars) cs)) in
+      stopped-last old (keptFrom ed start (restOf start h cs) old) (oneMore (rowAt start h cs l) (againUnlessEnded (l .ended) rest))
+      (kept-last start (restOf start h cs) old) (record { lines = k .lines; last = k .last; is = k .is })
+
+-- ---- by their count
+
+module _ (s : Settings) (t : List ℕ) (ed : Edit) (old : List Entry) (base : ℕ) (r : Resumed) where
+  abbrev a : Again
+  a = againFrom s t ed old base 0 r
+
+  abbrev first : ℕ
+  first = length old - length (a .kept)
+
+  lasts : KeptLast ed old a
+  unfolding againFrom
+  lasts = again-last ed old (suc (length (charsFrom t 0))) s (base + 0) (heldIn r) (charsFrom t 0)
+
+  counted : lasts .last .from ≡ first
+  counted =
+      let l = lasts .last in
+      let n = ap length (lasts .is) ∙ length-map (lasts .lines) (movedEntry ed) ∙ ap length (l .is) ∙ length-drop (l .from) old in
+      omega (arith, n, l .within)
+
+  pub kept-few : length (a .kept) ≤ length old
+  kept-few =
+      let l = lasts .last in
+      omega (arith, ap length (lasts .is) ∙ length-map (lasts .lines) (movedEntry ed) ∙ ap length (l .is) ∙ length-drop (l .from) old)
+
+  pub kept-are : a .kept ≡ map (movedEntry ed) (drop first old)
+  kept-are = lasts .is ∙ ap (map (movedEntry ed)) (lasts .last .is ∙ ap (λ (n : ℕ). drop n old) counted)
+
+  pub kept-behind : StartsBehind ed (drop first old)
+  kept-behind = subst (StartsBehind ed) (lasts .last .is ∙ ap (λ (n : ℕ). drop n old) counted) (lasts .last .behind)

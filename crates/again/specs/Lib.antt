@@ -1,0 +1,16 @@
+pub mod Behind
+pub mod Pointer
+pub mod AgainFrom
+pub mod OldLines
+pub mod Seeking
+pub mod Laid
+pub mod Writing
+pub mod PartChars
+pub mod HeldRest
+pub mod Checking
+pub mod KeptLines
+pub mod GoodRelay
+pub mod Written
+pub mod Answering
+pub mod Relaying
+pub mod Demand3

@@ -1,0 +1,194 @@
+-- Laying again as it runs: what was found, the table's room, the lines moved and the lines written.
+-- Assumes nothing.
+use Prim.Native.Nat.{ℕ, _+_, _-_, _*_, _/_, _≤_, _<_}
+use native.Mathlib.Omega.{arith}
+use mathlib.Core.Path.{_≡_, refl, sym, ap, subst, _∙_}
+use mathlib.Core.List.{List, _++_, map}
+use lib.ListN.{length, take, drop, length-append, length-map}
+use Rattle.basis.specs.Order.{by-lt}
+use Rattle.unicode.specs.Decoding.{decodeAll}
+use Rattle.meaning.specs.Layout.{entryOfRow}
+use Rattle.meaning.specs.Table.{ofEntry, ofAll, capacityOf, written, entryIn, entriesIn}
+use Rattle.meaning.specs.Edit.{unaffected, movedEntry, Again, linesAgain}
+use Rattle.meaning.specs.Calls.{linesLaid, linesAfter}
+use Rattle.meaning.specs.declared.settings.Settings.{Settings}
+use Rattle.meaning.specs.declared.edit.Edit.{Edit}
+use Rattle.meaning.specs.declared.line.Entry.{Entry}
+use Rattle.meaning.specs.declared.refusals.Refusal.the-variants.{TooSmall}
+use Rattle.meaning.specs.declared.refusals.Checked.the-variants.{Good}
+use Rattle.meaning.specs.declared.answers.Relaid.the-variants as relaid
+use Rattle.laws.specs.Affected.{unaffected-old}
+use Rattle.laws.specs.TableLaws.{entries-length, entries-first}
+use Rattle.rendering.specs.declared.step.Resumed.{Resumed}
+use Rattle.table.specs.LinesFrom.{linesFrom, lines-more, lines-end}
+use Rattle.table.specs.GoodTable.{table-room, table-count}
+use Rattle.table.specs.Moving.{linesMoved, AllMovable, Movable}
+use Rattle.table.specs.MovableLines.{table-movable}
+use Rattle.again.specs.HeldRest.{resumedOf}
+use Rattle.again.specs.OldLines.{lines-drop}
+use Rattle.again.specs.AgainFrom.{againFrom, few-laid}
+use Rattle.again.specs.Seeking.{foundIn}
+use Rattle.again.specs.KeptLines.{StartsBehind, kept-few, kept-are, kept-behind}
+use Rattle.again.specs.Laid.{laidFrom, laid-are}
+use Rattle.again.specs.Writing.{WriteReady, linesPut}
+use Rattle.again.specs.Written.{put-written, put-both}
+use Rattle.again.specs.Checking.{checkBefore, few-before}
+use Rattle.again.specs.GoodRelay.{AllGood, all-good, short-part, order, few-inserted, start-low, line-ready, again-is}
+use Rattle.again.specs.Answering.{Answers, too-small, laid-again}
+use Rattle.again.specs.declared.stop.Found.{Found}
+
+-- The first affected line is line k, with the entry e, and resumes r; laying from it on finds so many lines.
+module _ (s : Settings) (part table : List ℕ) (lines : ℕ) (ed : Edit) (good : checkBefore s part table lines ed ≡ Good)
+    (k : ℕ) (k-is : k ≡ length (unaffected (ed .from .0) (entriesIn lines table)))
+    (e : Entry) (e-is : e ≡ entryIn (drop (10 * k) table)) (r : Resumed) (r-is : r ≡ resumedOf e (decodeAll part))
+    (found : Found) (found-is : found ≡ foundIn lines (againFrom s part ed (entriesIn lines table) (e .start .0) 0 r))
+  where
+    abbrev old : List Entry
+    old = entriesIn lines table
+
+    abbrev a : Again
+    a = againFrom s part ed old (e .start .0) 0 r
+
+    g : AllGood s part table lines ed
+    g = all-good s part table lines ed good
+
+    -- ---- how many lines there are
+
+    laid-is : found .laid ≡ length (a .laid)
+    unfolding foundIn
+    laid-is = ap (λ (f : Found). f .laid) found-is
+
+    kept-is : found .kept ≡ lines - length (a .kept)
+    unfolding foundIn
+    kept-is = ap (λ (f : Found). f .kept) found-is
+
+    kept-left : length (a .kept) ≡ lines - found .kept
+    kept-left = omega (arith, kept-is, kept-few s part ed old (e .start .0) r, entries-length lines table)
+
+    pub kept-within : found .kept ≤ lines
+    kept-within = omega (arith, kept-is)
+
+    -- No count of lines wraps.
+    pub counts-low : (k ≤ 65536) × (found .laid ≤ 65536) × (lines ≤ 65536)
+    counts-low =
+        let n = table-count lines table (g .table-is) in (
+          omega (arith, few-before table lines ed k k-is),
+          omega (arith, laid-is, few-laid s part ed old (e .start .0) r, short-part s part table lines ed g k k-is),
+          n,
+        )
+
+    rows-are : linesLaid s part table lines ed ≡ a .laid
+    unfolding linesLaid
+    rows-are = ap (λ (x : Again). x .laid) (again-is s part table lines ed g k k-is e e-is r r-is)
+
+    after-is : linesAfter s part table lines ed ≡ unaffected (ed .from .0) old ++ (map entryOfRow (a .laid) ++ a .kept)
+    unfolding linesAfter linesAgain
+    after-is =
+        ap (λ (x : Again). unaffected (ed .from .0) old ++ (map entryOfRow (x .laid) ++ x .kept))
+        (again-is s part table lines ed g k k-is e e-is r r-is)
+
+    needed-is : k + found .laid + (lines - found .kept) ≡ length (linesAfter s part table lines ed)
+    needed-is =
+        let u = unaffected (ed .from .0) old in
+        let es = map entryOfRow (a .laid) in
+        omega (
+          arith,
+          ap length after-is,
+          length-append u (es ++ a .kept),
+          length-append es (a .kept),
+          length-map (a .laid) entryOfRow,
+          laid-is,
+          kept-left,
+        )
+
+    -- ---- refusal 8
+
+    pub no-room : length table / 10 < k + found .laid + (lines - found .kept)
+        → Answers s part table lines ed (relaid.Refused (TooSmall (k + found .laid + (lines - found .kept)))) table
+    unfolding capacityOf
+    no-room h = too-small s part table lines ed good (k + found .laid + (lines - found .kept)) needed-is h
+
+    module _ (room : k + found .laid + (lines - found .kept) ≤ length table / 10) where
+      -- ---- the lines kept
+
+      abbrev left : List Entry
+      left = linesFrom table lines (found .kept)
+
+      left-is : left ≡ drop (lines - length (a .kept)) old
+      left-is = lines-drop (found .kept) lines table ∙ ap (λ (n : ℕ). drop n old) kept-is
+
+      left-behind : StartsBehind ed left
+      left-behind =
+          let n = entries-length lines table in
+          subst (StartsBehind ed) (sym left-is)
+          (subst (λ (m : ℕ). StartsBehind ed (drop (m - length (a .kept)) old)) n (kept-behind s part ed old (e .start .0) r))
+
+      kept-lines : map (movedEntry ed) left ≡ a .kept
+      kept-lines =
+          let n = entries-length lines table in
+          ap (map (movedEntry ed)) left-is
+          ∙ sym (subst (λ (m : ℕ). a .kept ≡ map (movedEntry ed) (drop (m - length (a .kept)) old)) n (kept-are s part ed old (e .start .0) r))
+
+      all-movable : AllMovable ed left
+      unfolding linesFrom
+      all-movable =
+          by-lt (found .kept) lines
+          (λ h.
+          table-movable table lines (found .kept) ed (g .table-is) h (subst (StartsBehind ed) (lines-more table lines (found .kept) h) left-behind))
+          (λ h. subst (AllMovable ed) (sym (lines-end table lines (found .kept) h)) tt)
+
+      pub movable : Movable table (found .kept) (k + found .laid) (lines - found .kept) ed
+      unfolding linesFrom
+      movable =
+          record {
+            from-room = omega (arith, kept-within, table-room lines table (g .table-is));
+            to-room = omega arith;
+            edit =
+                record {
+                  order = order s part table lines ed g k k-is e e-is .0;
+                  few = few-inserted s part table lines ed g k k-is e e-is;
+                };
+            each = all-movable;
+          }
+
+      -- ---- the lines laid
+
+      module _ (u : List ℕ) (u-is : u ≡ linesMoved table (found .kept) (k + found .laid) (lines - found .kept) ed) (same : length u ≡ length table) where
+        pub write-ready : WriteReady s part u (e .start .0) k (found .laid) r
+        write-ready =
+            record {
+              line = line-ready s part table lines ed g k k-is e e-is r r-is;
+              low = start-low s part table lines ed g k k-is e e-is;
+              room = omega arith;
+            }
+
+        module _ (v : List ℕ) (v-is : v ≡ linesPut u k (laidFrom (found .laid) s part (e .start .0) 0 r)) where
+          laid-lines : laidFrom (found .laid) s part (e .start .0) 0 r ≡ map entryOfRow (a .laid)
+          laid-lines =
+              ap (λ (n : ℕ). laidFrom n s part (e .start .0) 0 r) laid-is
+              ∙ sym (laid-are s part ed old (e .start .0) (a .laid) 0 r (line-ready s part table lines ed g k k-is e e-is r r-is .rest) refl)
+
+          first-lines : entriesIn k table ≡ unaffected (ed .from .0) old
+          first-lines =
+              sym (entries-first k lines table (few-before table lines ed k k-is))
+              ∙ ap (λ (n : ℕ). take n old) k-is
+              ∙ unaffected-old (ed .from .0) old
+
+          table-is : v ≡ written table (ofAll ofEntry (linesAfter s part table lines ed))
+          unfolding linesFrom
+          table-is =
+              let es = map entryOfRow (a .laid) in
+              let moved : u ≡ linesPut table (k + found .laid) (a .kept) = u-is ∙ ap (linesPut table (k + found .laid)) kept-lines in
+              v-is
+              ∙ (λ i. linesPut (moved i) k (laid-lines i))
+              ∙ put-both table k (k + found .laid) es (a .kept) (omega (arith, laid-is, length-map (a .laid) entryOfRow)) (omega arith)
+              ∙ put-written table k (unaffected (ed .from .0) old) first-lines (omega arith) (es ++ a .kept)
+              ∙ ap (λ (x : List Entry). written table (ofAll ofEntry x)) (sym after-is)
+
+          pub relaid-whole : Answers s part table lines ed (relaid.Lines (k + found .laid + (lines - found .kept)) (found .laid)) v
+          unfolding capacityOf
+          relaid-whole =
+              let b =
+              laid-again s part table lines ed good (k + found .laid + (lines - found .kept)) needed-is (found .laid)
+              (laid-is ∙ ap length (sym rows-are)) room in
+              (b .0, table-is ∙ b .1)

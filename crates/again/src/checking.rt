@@ -1,0 +1,136 @@
+// What laying again tests before anything is laid: refusals 1 to 6, in this order.
+use crate::meeting::less;
+use crate::rest::rest_fits;
+use checks::settings::check_settings;
+use checks::text::check_text;
+use meaning::counts::Offset;
+use meaning::edit::Edit;
+use meaning::line::Entry;
+use meaning::refusals::Checked;
+use meaning::refusals::Refusal;
+use meaning::settings::Settings;
+use table::affected::unaffected_lines;
+use table::affected::whole_length;
+use table::entries::read_entry;
+use table::well_formed::check_table;
+use table::well_formed::text_length;
+use unicode::text::is_boundary;
+ghost use mathlib.Core.Path.{_≡_};
+ghost use lib.ListN.{length};
+ghost use Rattle.unicode.specs.Decoding.{decodeAll};
+ghost use Rattle.meaning.specs.Checks.{checkUtf8};
+ghost use Rattle.meaning.specs.Table.{entriesIn};
+ghost use Rattle.meaning.specs.WellFormed.{checkTable};
+ghost use Rattle.meaning.specs.Edit.{checkWhole};
+ghost use Rattle.meaning.specs.declared.refusals.Checked.the-variants.{Good};
+ghost use Rattle.again.specs.Checking.{wholeOf, endsFit, lengthFits, checkFirst, checkLent, checkBefore};
+
+// Refusal 3 of the edited whole, where the old text has so many bytes.
+fn whole_of(text: Offset, edit: Edit) -> Checked
+    ensures { λ r. ⌜ r ≡ wholeOf (text .0) edit ⌝ }
+{
+    if edit.to.0 < edit.from.0 {
+        return Checked::Good;
+    }
+    if text.0 < edit.to.0 {
+        return Checked::Good;
+    }
+    let length = whole_length(text, edit);
+    if 65535 < length {
+        return Checked::Refused(Refusal::TextTooLong(length));
+    }
+    Checked::Good
+}
+
+// The same from the table and its check: a table that is refused says nothing of a length.
+fn check_whole(table: &[u32], lines: usize, edit: Edit, checked: Checked) -> Checked
+    requires { ⌜ checked ≡ checkTable lines (now table) ⌝ }
+    ensures { λ r. ⌜ r ≡ checkWhole checked (entriesIn lines (now (table .entry))) edit ⌝ }
+{
+    match checked {
+        Checked::Good => whole_of(text_length(table, lines), edit),
+        Checked::Refused(_) => Checked::Good,
+    }
+}
+
+// Has a part of so many bytes what the edited whole has from an entry's start on.
+fn length_fits(text: Offset, edit: Edit, e: Entry, length: usize) -> bool
+    ensures { λ r. ⌜ r ≡ lengthFits (text .0) edit e length ⌝ }
+{
+    if edit.to.0 < edit.from.0 {
+        return false;
+    }
+    if text.0 < edit.to.0 {
+        return false;
+    }
+    let whole = whole_length(text, edit);
+    length as u64 == less(whole, e.start.0 as u64)
+}
+
+// Are both ends of the inserted bytes boundaries in a part that stands from an entry's start on.
+fn ends_fit(part: &[u8], edit: Edit, e: Entry) -> bool
+    requires { ⌜ checkUtf8 (now part) ≡ Good ⌝ }
+    ensures { λ r. ⌜ r ≡ endsFit edit e (decodeAll (now (part .entry))) ⌝ }
+{
+    let start = e.start.0 as u64;
+    let from = edit.from.0 as u64;
+    let front = less(from, start);
+    let end = less(from + edit.inserted.0 as u64, start);
+    is_boundary(part, front as usize) & is_boundary(part, end as usize)
+}
+
+// Refusals 5 and 6 of the first affected line.
+fn check_first(part: &[u8], table: &[u32], lines: usize, edit: Edit) -> Checked
+    requires { ⌜ (checkUtf8 (now part) ≡ Good) × (checkTable lines (now table) ≡ Good) ⌝ }
+    ensures { λ r. ⌜ r ≡ checkFirst (now (part .entry)) (now (table .entry)) lines edit ⌝ }
+{
+    let a = edit.from;
+    let k = unaffected_lines(table, lines, a);
+    if lines <= k {
+        return Checked::Refused(Refusal::BadEdit);
+    }
+    let e = read_entry(table, k);
+    if !rest_fits(part, e) {
+        return Checked::Refused(Refusal::BadLine(k as u64));
+    }
+    if !length_fits(text_length(table, lines), edit, e, part.len()) {
+        return Checked::Refused(Refusal::BadEdit);
+    }
+    if !ends_fit(part, edit, e) {
+        return Checked::Refused(Refusal::BadEdit);
+    }
+    Checked::Good
+}
+
+// Refusals 3 to 6.
+fn check_lent(part: &[u8], table: &[u32], lines: usize, edit: Edit) -> Checked
+    ensures { λ r. ⌜ r ≡ checkLent (now (part .entry)) (now (table .entry)) lines edit ⌝ }
+{
+    if 65535 < part.len() {
+        return Checked::Refused(Refusal::TextTooLong(part.len() as u64));
+    }
+    let checked = check_table(table, lines);
+    let whole = check_whole(table, lines, edit, checked);
+    if let Checked::Refused(r) = whole {
+        return Checked::Refused(r);
+    }
+    let text = check_text(part);
+    if let Checked::Refused(r) = text {
+        return Checked::Refused(r);
+    }
+    if let Checked::Refused(r) = checked {
+        return Checked::Refused(r);
+    }
+    check_first(part, table, lines, edit)
+}
+
+// Refusals 1 to 6.
+pub fn check_before(s: Settings, part: &[u8], table: &[u32], lines: usize, edit: Edit) -> Checked
+    ensures { λ r. ⌜ r ≡ checkBefore s (now (part .entry)) (now (table .entry)) lines edit ⌝ }
+{
+    let settings = check_settings(s);
+    if let Checked::Refused(r) = settings {
+        return Checked::Refused(r);
+    }
+    check_lent(part, table, lines, edit)
+}

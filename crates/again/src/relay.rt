@@ -1,0 +1,53 @@
+// Laying a text again after an edit: a public call.
+use crate::checking::check_before;
+use crate::rest::held_of;
+use crate::stop::find_stop;
+use crate::writing::write_again;
+use meaning::answers::Relaid;
+use meaning::edit::Edit;
+use meaning::refusals::Checked;
+use meaning::refusals::Refusal;
+use meaning::settings::Settings;
+use table::affected::unaffected_lines;
+use table::entries::read_entry;
+use table::moving::move_lines;
+ghost use mathlib.Core.Path.{_≡_};
+ghost use Rattle.meaning.specs.Calls.{relayAnswer, relayTable};
+ghost use Rattle.meaning.specs.declared.refusals.Checked.the-variants.{Good};
+ghost use Rattle.again.specs.Checking.{checkBefore};
+
+// Refusal 8; else the lines that are kept are moved to where they stand now, and the lines laid are written before them.
+fn lay_lines(s: Settings, part: &[u8], table: &mut [u32], lines: usize, edit: Edit) -> Relaid
+    requires { ⌜ checkBefore s (now part) (now table) lines edit ≡ Good ⌝ }
+    ensures { λ r. ⌜ r ≡ relayAnswer s (now (part .entry)) (now (table .entry)) lines edit ⌝ }
+    ensures { λ r. ⌜ now (table .exit) ≡ relayTable s (now (part .entry)) (now (table .entry)) lines edit ⌝ }
+{
+    let a = edit.from;
+    let k = unaffected_lines(table, lines, a);
+    let e = read_entry(table, k);
+    let rest = held_of(part, e);
+    let base = e.start;
+    let found = find_stop(part, s, table, lines, k, base, edit, rest);
+    let kept = found.kept;
+    let left = lines - kept;
+    let to = k + found.laid;
+    if table.len() / 10 < to + left {
+        return Relaid::Refused(Refusal::TooSmall((to + left) as u64));
+    }
+    move_lines(table, kept, to, left, edit);
+    write_again(part, s, table, base, k, found.laid, rest);
+    Relaid::Lines((to + left) as u64, found.laid as u64)
+}
+
+// Refusals 1 to 6 and 8 in this order (7 never arises), of which none writes anything; else the lines laid from the first affected
+// one on, and behind them the old lines that laying again meets, moved.
+pub fn lay_again(s: Settings, part: &[u8], table: &mut [u32], lines: usize, edit: Edit) -> Relaid
+    ensures { λ r. ⌜ r ≡ relayAnswer s (now (part .entry)) (now (table .entry)) lines edit ⌝ }
+    ensures { λ r. ⌜ now (table .exit) ≡ relayTable s (now (part .entry)) (now (table .entry)) lines edit ⌝ }
+{
+    let checked = check_before(s, part, table, lines, edit);
+    if let Checked::Refused(r) = checked {
+        return Relaid::Refused(r);
+    }
+    lay_lines(s, part, table, lines, edit)
+}

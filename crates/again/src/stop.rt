@@ -1,0 +1,109 @@
+// Where laying again stops: at the first line that an old line meets, or at the text's end. Nothing is written.
+use crate::meeting::meets_line;
+use crate::meeting::stands_before;
+use layout::lines::is_last;
+use meaning::counts::Chars;
+use meaning::counts::Offset;
+use meaning::edit::Edit;
+use meaning::line::Rest;
+use meaning::settings::Settings;
+use rendering::line::lay_line;
+use rendering::step::Resumed;
+use table::entries::read_entry;
+ghost use Prim.Native.Nat.{_+_, _-_, _*_, _≤_};
+ghost use mathlib.Core.Path.{_≡_};
+ghost use lib.ListN.{length};
+ghost use Rattle.meaning.specs.Table.{entriesIn};
+ghost use Rattle.table.specs.LinesFrom.{linesFrom};
+ghost use Rattle.again.specs.Behind.{restBehind, RestLow};
+ghost use Rattle.again.specs.Pointer.{passing, meetsFirst};
+ghost use Rattle.again.specs.AgainFrom.{againFrom};
+ghost use Rattle.again.specs.Seeking.{FindReady, foundIn};
+
+// How many lines are laid, and the first old line that is kept; the count of old lines if none is.
+pub struct Found {
+    pub laid: usize,
+    pub kept: usize,
+}
+
+// What is held before a line of a part that stands behind so many bytes, as an entry of the whole says it.
+fn rest_behind(base: Offset, r: Resumed) -> Rest
+    requires { ⌜ RestLow (base .0) r ⌝ }
+    ensures { λ o. ⌜ o ≡ restBehind (base .0) r ⌝ }
+{
+    if r.chars.0 == 0 {
+        return Rest {
+            end: Offset(0),
+            count: Chars(0),
+        };
+    }
+    let end = Offset(base.0 + r.end.0);
+    let count = r.count;
+    Rest { end, count }
+}
+
+// The first old line, from line j on, that a line from a start on may meet.
+fn skip_before(table: &[u32], lines: usize, j: usize, edit: Edit, start: Offset) -> usize
+    requires { ⌜ (10 * lines ≤ length (now table)) × (j ≤ lines) ⌝ }
+    ensures { λ r. ⌜ r ≡ j + passing edit (start .0) (linesFrom (now (table .entry)) lines j) ⌝ }
+{
+    let mut i: usize = j;
+    while i < lines {
+        if !stands_before(edit, start, table[10 * i]) {
+            return i;
+        }
+        i += 1;
+    }
+    i
+}
+
+// Is old line j, if there is one, met by a line with this start and rest.
+fn meets_first(table: &[u32], lines: usize, j: usize, edit: Edit, start: Offset, rest: Rest) -> bool
+    requires { ⌜ 10 * lines ≤ length (now table) ⌝ }
+    ensures { λ r. ⌜ r ≡ meetsFirst edit (start .0) rest (linesFrom (now (table .entry)) lines j) ⌝ }
+{
+    if lines <= j {
+        return false;
+    }
+    meets_line(edit, start, rest, read_entry(table, j))
+}
+
+// Lays lines from the part's front on, before each of which the old lines from line k on are looked at.
+pub fn find_stop(
+    part: &[u8],
+    s: Settings,
+    table: &[u32],
+    lines: usize,
+    k: usize,
+    base: Offset,
+    edit: Edit,
+    rest: Resumed,
+) -> Found
+    requires { ⌜ FindReady s (now part) (now table) lines k (base .0) edit rest ⌝ }
+    ensures { λ r. ⌜ r ≡ foundIn lines (againFrom s (now (part .entry)) edit (entriesIn lines (now (table .entry))) (base .0) 0 rest) ⌝ }
+{
+    let mut n: usize = 0;
+    let mut j: usize = k;
+    let mut at: usize = 0;
+    let mut held = rest;
+    loop {
+        let start = Offset(base.0 + at as u32);
+        j = skip_before(table, lines, j, edit, start);
+        let before = rest_behind(base, held);
+        if meets_first(table, lines, j, edit, start, before) {
+            return Found { laid: n, kept: j };
+        }
+        let line = lay_line(part, s, at, held);
+        n += 1;
+        let ended = line.ended;
+        if is_last(ended) {
+            return Found {
+                laid: n,
+                kept: lines,
+            };
+        }
+        at = line.next.0 as usize;
+        let more = line.rest;
+        held = more;
+    }
+}
