@@ -6,9 +6,10 @@ use meaning::answers::Height;
 use meaning::answers::Laid;
 use meaning::answers::LaidWithEvents;
 use meaning::answers::LineY;
+use meaning::answers::Relaid;
 use meaning::answers::Tokenized;
 ghost use mathlib.Core.Path.{_≡_};
-ghost use Rattle.meaning.specs.Answers.{tokensNumber, tokensValue, layoutNumber, layoutValue, drawingNumber, drawingValue, drawingCount, affectedNumber, affectedValue, heightNumber, heightValue, yNumber, yValue, yPlace};
+ghost use Rattle.meaning.specs.Answers.{tokensNumber, tokensValue, layoutNumber, layoutValue, drawingNumber, drawingValue, drawingCount, affectedNumber, affectedValue, relayNumber, relayValue, relayCount, heightNumber, heightValue, yNumber, yValue, yPlace};
 
 pub fn tokens_number(a: Tokenized) -> u32
     ensures { λ r. ⌜ r ≡ tokensNumber a ⌝ }
@@ -89,6 +90,34 @@ pub fn affected_value(a: Affected) -> u64
     match a {
         Affected::Line(line) => line,
         Affected::Refused(refusal) => value(refusal),
+    }
+}
+
+pub fn relay_number(a: Relaid) -> u32
+    ensures { λ r. ⌜ r ≡ relayNumber a ⌝ }
+{
+    match a {
+        Relaid::Lines(_, _) => 0,
+        Relaid::Refused(refusal) => number(refusal),
+    }
+}
+
+pub fn relay_value(a: Relaid) -> u64
+    ensures { λ r. ⌜ r ≡ relayValue a ⌝ }
+{
+    match a {
+        Relaid::Lines(n, _) => n,
+        Relaid::Refused(refusal) => value(refusal),
+    }
+}
+
+// The count of lines laid, and where the call was refused the number that the caller had there.
+pub fn relay_count(a: Relaid, old: u64) -> u64
+    ensures { λ r. ⌜ r ≡ relayCount a old ⌝ }
+{
+    match a {
+        Relaid::Lines(_, m) => m,
+        Relaid::Refused(_) => old,
     }
 }
 

@@ -1,6 +1,7 @@
 // The calls for C. include/bisquemop.h says what each one does.
 mod answers;
 
+use again::relay::lay_again;
 use answers::affected_number;
 use answers::affected_value;
 use answers::drawing_count;
@@ -11,6 +12,9 @@ use answers::height_value;
 use answers::layout_number;
 use answers::layout_value;
 use answers::put_y;
+use answers::relay_count;
+use answers::relay_number;
+use answers::relay_value;
 use answers::tokens_number;
 use answers::tokens_value;
 use answers::y_number;
@@ -33,8 +37,8 @@ ghost use mathlib.Core.Path.{_≡_};
 ghost use Rattle.meaning.specs.Settings.{settingsOf};
 ghost use Rattle.meaning.specs.Refusals.{checkedNumber, checkedValue};
 ghost use Rattle.meaning.specs.Checks.{checkSettings, checkText};
-ghost use Rattle.meaning.specs.Answers.{tokensNumber, tokensValue, layoutNumber, layoutValue, drawingNumber, drawingValue, drawingCount, affectedNumber, affectedValue, heightNumber, heightValue, yNumber, yValue, yPlace};
-ghost use Rattle.meaning.specs.Calls.{tokensAnswer, tokensBuffer, layoutAnswer, layoutTable, drawingAnswer, drawingTable, drawingEvents, affectedAnswer, heightAnswer, yAnswer};
+ghost use Rattle.meaning.specs.Answers.{tokensNumber, tokensValue, layoutNumber, layoutValue, drawingNumber, drawingValue, drawingCount, affectedNumber, affectedValue, relayNumber, relayValue, relayCount, heightNumber, heightValue, yNumber, yValue, yPlace};
+ghost use Rattle.meaning.specs.Calls.{tokensAnswer, tokensBuffer, layoutAnswer, layoutTable, drawingAnswer, drawingTable, drawingEvents, affectedAnswer, relayAnswer, relayTable, heightAnswer, yAnswer};
 ghost use Rattle.bisquemop.specs.Edits.{editOf};
 
 // The settings from the twelve numbers that C passes.
@@ -236,6 +240,59 @@ pub extern "C" fn bisquemop_first_affected(
     let answer = first_affected(table, lines as usize, edit);
     *value = affected_value(answer);
     affected_number(answer)
+}
+
+#[no_mangle]
+pub extern "C" fn bisquemop_lay_again(
+    glyph: u32,
+    width: u32,
+    tab: u32,
+    spacing: u32,
+    paragraph: u32,
+    base: u32,
+    height: u32,
+    top: i32,
+    alignment: u32,
+    vertical: u32,
+    leading: u32,
+    trailing: u32,
+    part: &[u8],
+    table: &mut [u32],
+    lines: u64,
+    a: u32,
+    b: u32,
+    inserted: u32,
+    value: &mut u64,
+    laid: &mut u64,
+) -> u32
+    ensures { λ r. ⌜ r ≡ relayNumber (relayAnswer (settingsOf glyph width tab spacing paragraph base height top alignment vertical leading trailing) (now (part .entry)) (now (table .entry)) lines (editOf a b inserted)) ⌝ }
+    ensures { λ r. ⌜ now (table .exit) ≡ relayTable (settingsOf glyph width tab spacing paragraph base height top alignment vertical leading trailing) (now (part .entry)) (now (table .entry)) lines (editOf a b inserted) ⌝ }
+    ensures { λ r. ⌜ now (value .exit) ≡ relayValue (relayAnswer (settingsOf glyph width tab spacing paragraph base height top alignment vertical leading trailing) (now (part .entry)) (now (table .entry)) lines (editOf a b inserted)) ⌝ }
+    ensures { λ r. ⌜ now (laid .exit) ≡ relayCount (relayAnswer (settingsOf glyph width tab spacing paragraph base height top alignment vertical leading trailing) (now (part .entry)) (now (table .entry)) lines (editOf a b inserted)) (now (laid .entry)) ⌝ }
+{
+    let s = settings_from(
+        glyph,
+        width,
+        tab,
+        spacing,
+        paragraph,
+        base,
+        height,
+        top,
+        alignment,
+        vertical,
+        leading,
+        trailing,
+    );
+    let edit = Edit {
+        from: Offset(a),
+        to: Offset(b),
+        inserted: Offset(inserted),
+    };
+    let answer = lay_again(s, part, table, lines as usize, edit);
+    *value = relay_value(answer);
+    *laid = relay_count(answer, *laid);
+    relay_number(answer)
 }
 
 #[no_mangle]
