@@ -1,7 +1,7 @@
 -- Demand 3 of `lay_again`: what it answers, and the table that it leaves, where it is lent an edit of a text and the table of its layout.
 -- Assumes nothing.
 use Prim.Native.Nat.{ℕ, _*_}
-use mathlib.Core.Path.{_≡_, sym, ap, _∙_}
+use mathlib.Core.Path.{_≡_, ap, _∙_}
 use mathlib.Core.List.{List, map}
 use lib.ListN.{length, take, drop}
 use Rattle.unicode.specs.Encoding.{encodeAll}
@@ -15,7 +15,7 @@ use Rattle.meaning.specs.declared.answers.Laid.the-variants as fresh
 use Rattle.meaning.specs.declared.answers.Relaid.{Relaid}
 use Rattle.meaning.specs.declared.answers.Relaid.the-variants as relaid
 use Rattle.laws.specs.TableLaws.{entries-written}
-use Rattle.laws.specs.Demand3Calls.{EditOf, Demand3, demand-3-holds}
+use Rattle.laws.specs.Demand3Calls.{EditOf, demand-3-holds}
 use Rattle.again.specs.Answering.{Answers}
 
 -- Of an answer and of the table afterwards. Lines are numbered from 0, so that the first affected one has the number of those before it.

@@ -79,14 +79,14 @@ module _ (ed : Edit) where
   stopped-last old [] a l k = k
   stopped-last old (e ∷ es) a l k = record { lines = e ∷ es; last = l; is = refl }
 
-  again-last : (old : List Entry) (n : ℕ) (s : Settings) (start : ℕ) (h : Held) (cs : List ℕ) → KeptLast old (againBy n s ed old start h cs)
+  keeps-last : (old : List Entry) (n : ℕ) (s : Settings) (start : ℕ) (h : Held) (cs : List ℕ) → KeptLast old (againBy n s ed old start h cs)
   unfolding againBy
-  again-last old zero s start h cs = record { lines = []; last = no-lines old; is = refl }
-  again-last old (suc n) s start h cs =
+  keeps-last old zero s start h cs = record { lines = []; last = no-lines old; is = refl }
+  keeps-last old (suc n) s start h cs =
       let l = layLine s h cs in
       let next = start + size (take (l .chars) cs) in
       let rest = againBy n s ed old next (l .held) (drop (l .chars) cs) in
-      let k = ended-last old (l .ended) rest (again-last old n s next (l .held) (drop (l .chars) cs)) in
+      let k = ended-last old (l .ended) rest (keeps-last old n s next (l .held) (drop (l .chars) cs)) in
       stopped-last old (keptFrom ed start (restOf start h cs) old) (oneMore (rowAt start h cs l) (againUnlessEnded (l .ended) rest))
       (kept-last start (restOf start h cs) old) (record { lines = k .lines; last = k .last; is = k .is })
 
@@ -101,7 +101,7 @@ module _ (s : Settings) (t : List ℕ) (ed : Edit) (old : List Entry) (base : �
 
   lasts : KeptLast ed old a
   unfolding againFrom
-  lasts = again-last ed old (suc (length (charsFrom t 0))) s (base + 0) (heldIn r) (charsFrom t 0)
+  lasts = keeps-last ed old (suc (length (charsFrom t 0))) s (base + 0) (heldIn r) (charsFrom t 0)
 
   counted : lasts .last .from ≡ first
   counted =

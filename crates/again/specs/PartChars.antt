@@ -39,7 +39,8 @@ module _ (t : List ℕ) (good : checkUtf8 t ≡ Good) where
   encoded : encodeAll cs ≡ t
   unfolding checkUtf8
   encoded =
-      let e = not-false (eqb (validPrefix t) (length t)) (refuse-good (not (eqb (validPrefix t) (length t))) (NotUtf8 (record { 0 = validPrefix t })) good) in
+      let whole = eqb (validPrefix t) (length t) in
+      let e = not-false whole (refuse-good (not whole) (NotUtf8 (record { 0 = validPrefix t })) good) in
       text-decode t (prefix-whole t .0 (eqb-true (validPrefix t) (length t) e))
 
   pub part-size : size cs ≡ length t

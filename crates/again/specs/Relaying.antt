@@ -37,11 +37,16 @@ use Rattle.again.specs.GoodRelay.{AllGood, all-good, short-part, order, 
 use Rattle.again.specs.Answering.{Answers, too-small, laid-again}
 use Rattle.again.specs.declared.stop.Found.{Found}
 
--- The first affected line is line k, with the entry e, and resumes r; laying from it on finds so many lines.
-module _ (s : Settings) (part table : List ℕ) (lines : ℕ) (ed : Edit) (good : checkBefore s part table lines ed ≡ Good)
-    (k : ℕ) (k-is : k ≡ length (unaffected (ed .from .0) (entriesIn lines table)))
-    (e : Entry) (e-is : e ≡ entryIn (drop (10 * k) table)) (r : Resumed) (r-is : r ≡ resumedOf e (decodeAll part))
-    (found : Found) (found-is : found ≡ foundIn lines (againFrom s part ed (entriesIn lines table) (e .start .0) 0 r))
+-- The tests are passed, the first affected line is line k, with the entry e, and resumes r, and laying from it on finds so many lines.
+pub record Sought (s : Settings) (part table : List ℕ) (lines : ℕ) (ed : Edit) (k : ℕ) (e : Entry) (r : Resumed) (found : Found) : Type 0 where
+  pub good : checkBefore s part table lines ed ≡ Good
+  pub first : k ≡ length (unaffected (ed .from .0) (entriesIn lines table))
+  pub entry : e ≡ entryIn (drop (10 * k) table)
+  pub resumes : r ≡ resumedOf e (decodeAll part)
+  pub finds : found ≡ foundIn lines (againFrom s part ed (entriesIn lines table) (e .start .0) 0 r)
+
+module _ (s : Settings) (part table : List ℕ) (lines : ℕ) (ed : Edit) (k : ℕ) (e : Entry) (r : Resumed) (found : Found)
+    (q : Sought s part table lines ed k e r found)
   where
     abbrev old : List Entry
     old = entriesIn lines table
@@ -50,17 +55,17 @@ module _ (s : Settings) (part table : List ℕ) (lines : ℕ) (ed : Edit) (good 
     a = againFrom s part ed old (e .start .0) 0 r
 
     g : AllGood s part table lines ed
-    g = all-good s part table lines ed good
+    g = all-good s part table lines ed (q .good)
 
     -- ---- how many lines there are
 
     laid-is : found .laid ≡ length (a .laid)
     unfolding foundIn
-    laid-is = ap (λ (f : Found). f .laid) found-is
+    laid-is = ap (λ (f : Found). f .laid) (q .finds)
 
     kept-is : found .kept ≡ lines - length (a .kept)
     unfolding foundIn
-    kept-is = ap (λ (f : Found). f .kept) found-is
+    kept-is = ap (λ (f : Found). f .kept) (q .finds)
 
     kept-left : length (a .kept) ≡ lines - found .kept
     kept-left = omega (arith, kept-is, kept-few s part ed old (e .start .0) r, entries-length lines table)
@@ -72,20 +77,20 @@ module _ (s : Settings) (part table : List ℕ) (lines : ℕ) (ed : Edit) (good 
     pub counts-low : (k ≤ 65536) × (found .laid ≤ 65536) × (lines ≤ 65536)
     counts-low =
         let n = table-count lines table (g .table-is) in (
-          omega (arith, few-before table lines ed k k-is),
-          omega (arith, laid-is, few-laid s part ed old (e .start .0) r, short-part s part table lines ed g k k-is),
+          omega (arith, few-before table lines ed k (q .first)),
+          omega (arith, laid-is, few-laid s part ed old (e .start .0) r, short-part s part table lines ed g k (q .first)),
           n,
         )
 
     rows-are : linesLaid s part table lines ed ≡ a .laid
     unfolding linesLaid
-    rows-are = ap (λ (x : Again). x .laid) (again-is s part table lines ed g k k-is e e-is r r-is)
+    rows-are = ap (λ (x : Again). x .laid) (again-is s part table lines ed g k (q .first) e (q .entry) r (q .resumes))
 
     after-is : linesAfter s part table lines ed ≡ unaffected (ed .from .0) old ++ (map entryOfRow (a .laid) ++ a .kept)
     unfolding linesAfter linesAgain
     after-is =
         ap (λ (x : Again). unaffected (ed .from .0) old ++ (map entryOfRow (x .laid) ++ x .kept))
-        (again-is s part table lines ed g k k-is e e-is r r-is)
+        (again-is s part table lines ed g k (q .first) e (q .entry) r (q .resumes))
 
     needed-is : k + found .laid + (lines - found .kept) ≡ length (linesAfter s part table lines ed)
     needed-is =
@@ -106,7 +111,7 @@ module _ (s : Settings) (part table : List ℕ) (lines : ℕ) (ed : Edit) (good 
     pub no-room : length table / 10 < k + found .laid + (lines - found .kept)
         → Answers s part table lines ed (relaid.Refused (TooSmall (k + found .laid + (lines - found .kept)))) table
     unfolding capacityOf
-    no-room h = too-small s part table lines ed good (k + found .laid + (lines - found .kept)) needed-is h
+    no-room h = too-small s part table lines ed (q .good) (k + found .laid + (lines - found .kept)) needed-is h
 
     module _ (room : k + found .laid + (lines - found .kept) ≤ length table / 10) where
       -- ---- the lines kept
@@ -134,7 +139,8 @@ module _ (s : Settings) (part table : List ℕ) (lines : ℕ) (ed : Edit) (good 
       all-movable =
           by-lt (found .kept) lines
           (λ h.
-          table-movable table lines (found .kept) ed (g .table-is) h (subst (StartsBehind ed) (lines-more table lines (found .kept) h) left-behind))
+          table-movable table lines (found .kept) ed (g .table-is) h
+          (subst (StartsBehind ed) (lines-more table lines (found .kept) h) left-behind))
           (λ h. subst (AllMovable ed) (sym (lines-end table lines (found .kept) h)) tt)
 
       pub movable : Movable table (found .kept) (k + found .laid) (lines - found .kept) ed
@@ -145,8 +151,8 @@ module _ (s : Settings) (part table : List ℕ) (lines : ℕ) (ed : Edit) (good 
             to-room = omega arith;
             edit =
                 record {
-                  order = order s part table lines ed g k k-is e e-is .0;
-                  few = few-inserted s part table lines ed g k k-is e e-is;
+                  order = order s part table lines ed g k (q .first) e (q .entry) .0;
+                  few = few-inserted s part table lines ed g k (q .first) e (q .entry);
                 };
             each = all-movable;
           }
@@ -157,8 +163,8 @@ module _ (s : Settings) (part table : List ℕ) (lines : ℕ) (ed : Edit) (good 
         pub write-ready : WriteReady s part u (e .start .0) k (found .laid) r
         write-ready =
             record {
-              line = line-ready s part table lines ed g k k-is e e-is r r-is;
-              low = start-low s part table lines ed g k k-is e e-is;
+              line = line-ready s part table lines ed g k (q .first) e (q .entry) r (q .resumes);
+              low = start-low s part table lines ed g k (q .first) e (q .entry);
               room = omega arith;
             }
 
@@ -166,12 +172,12 @@ module _ (s : Settings) (part table : List ℕ) (lines : ℕ) (ed : Edit) (good 
           laid-lines : laidFrom (found .laid) s part (e .start .0) 0 r ≡ map entryOfRow (a .laid)
           laid-lines =
               ap (λ (n : ℕ). laidFrom n s part (e .start .0) 0 r) laid-is
-              ∙ sym (laid-are s part ed old (e .start .0) (a .laid) 0 r (line-ready s part table lines ed g k k-is e e-is r r-is .rest) refl)
+              ∙ sym (laid-are s part ed old (e .start .0) (a .laid) 0 r (line-ready s part table lines ed g k (q .first) e (q .entry) r (q .resumes) .rest) refl)
 
           first-lines : entriesIn k table ≡ unaffected (ed .from .0) old
           first-lines =
-              sym (entries-first k lines table (few-before table lines ed k k-is))
-              ∙ ap (λ (n : ℕ). take n old) k-is
+              sym (entries-first k lines table (few-before table lines ed k (q .first)))
+              ∙ ap (λ (n : ℕ). take n old) (q .first)
               ∙ unaffected-old (ed .from .0) old
 
           table-is : v ≡ written table (ofAll ofEntry (linesAfter s part table lines ed))
@@ -189,6 +195,6 @@ module _ (s : Settings) (part table : List ℕ) (lines : ℕ) (ed : Edit) (good 
           unfolding capacityOf
           relaid-whole =
               let b =
-              laid-again s part table lines ed good (k + found .laid + (lines - found .kept)) needed-is (found .laid)
+              laid-again s part table lines ed (q .good) (k + found .laid + (lines - found .kept)) needed-is (found .laid)
               (laid-is ∙ ap length (sym rows-are)) room in
               (b .0, table-is ∙ b .1)

@@ -129,7 +129,8 @@ module _ (s : Settings) (part table : List ℕ) (lines base : ℕ) (ed : Edit) (
             none : keptFrom ed (base + at) (restBehind base r) old ≡ []
             none =
                 passed-on (base + at) (restBehind base r) (omega arith)
-                ∙ none-met ed (base + at) (restBehind base r) (drop i old) (rising-drop i old rising) past (rw (rest-is, lines-drop i lines table) at m)
+                ∙ none-met ed (base + at) (restBehind base r) (drop i old) (rising-drop i old rising) past
+                (rw (rest-is, lines-drop i lines table) at m)
 
             -- The line that ends the text.
             pub finds-last : isLast (l .ended) ≡ true → record { laid = n + 1; kept = lines } ≡ foundIn lines whole

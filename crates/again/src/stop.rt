@@ -10,7 +10,7 @@ use meaning::settings::Settings;
 use rendering::line::lay_line;
 use rendering::step::Resumed;
 use table::entries::read_entry;
-ghost use Prim.Native.Nat.{_+_, _-_, _*_, _≤_};
+ghost use Prim.Native.Nat.{_+_, _*_, _≤_};
 ghost use mathlib.Core.Path.{_≡_};
 ghost use lib.ListN.{length};
 ghost use Rattle.meaning.specs.Table.{entriesIn};

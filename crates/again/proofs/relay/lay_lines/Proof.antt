@@ -1,9 +1,9 @@
 -- `lay_lines` meets its contract.
 -- Assumes nothing.
+use Rattle.again.specs.Relaying.{Sought, kept-within, counts-low, no-room, movable, write-ready, relaid-whole}
 use native.Mathlib.Omega.{arith}
 use Rattle.table.specs.GoodTable.{table-room}
 use Rattle.again.specs.GoodRelay.{all-good, is-affected, short-part, rest-good, find-ready}
-use Rattle.again.specs.Relaying.{kept-within, counts-low, no-room, movable, write-ready, relaid-whole}
 use borrow.Author.Needs.{needs}
 use Rattle.again.proofs.relay.lay_lines.Statement.{statement}
 use Rattle.again.proofs.relay.lay_lines.Tie as tie
@@ -25,7 +25,8 @@ held-of-requires c κs =
     let k = c .before .before in
     let start = k .before .before .before .before .before in
     let g = all-good _ _ _ _ _ (start .pre) in
-    (g .utf8, rest-good _ _ _ _ _ g _ (k .unaffected-lines .ensures) _ (c .read-entry .ensures), short-part _ _ _ _ _ g _ (k .unaffected-lines .ensures))
+    let first = k .unaffected-lines .ensures in
+    (g .utf8, rest-good _ _ _ _ _ g _ first _ (c .read-entry .ensures), short-part _ _ _ _ _ g _ first)
 
 find-stop-requires : tie.Need-find-stop-requires
 find-stop-requires c κs =
@@ -35,82 +36,55 @@ find-stop-requires c κs =
     let start = k .before .before .before .before .before in
     find-ready _ _ _ _ _ (all-good _ _ _ _ _ (start .pre)) _ (k .unaffected-lines .ensures) _ (e .read-entry .ensures) _ (h .held-of .ensures)
 
-sub-left : tie.Need-sub-left
-sub-left c =
-    let f = c in
+-- What is known once laying has found where it stops.
+sought : (f : tie.After-find-stop) →
     let h = f .before .before .before in
     let e = h .before in
     let k = e .before .before in
-    let start = k .before .before .before .before .before in
-    omega (arith, kept-within _ _ _ _ _ (start .pre) _ (k .unaffected-lines .ensures) _ (e .read-entry .ensures) _ (h .held-of .ensures) _ (f .find-stop .ensures))
+    let a = k .before .before .before .before .before .args in
+    Sought (a .s) (a .part .now) (a .table .now) (a .lines) (a .edit) (k .unaffected-lines .result) (e .read-entry .result) (h .held-of .result)
+    (f .find-stop .result)
+sought f =
+    let h = f .before .before .before in
+    let e = h .before in
+    let k = e .before .before in
+    record {
+      good = k .before .before .before .before .before .pre;
+      first = k .unaffected-lines .ensures;
+      entry = e .read-entry .ensures;
+      resumes = h .held-of .ensures;
+      finds = f .find-stop .ensures;
+    }
+
+sub-left : tie.Need-sub-left
+sub-left c = omega (arith, kept-within _ _ _ _ _ _ _ _ _ (sought c))
 
 add-to : tie.Need-add-to
-add-to c =
-    let f = c .before in
-    let h = f .before .before .before in
-    let e = h .before in
-    let k = e .before .before in
-    let start = k .before .before .before .before .before in
-    omega (arith, counts-low _ _ _ _ _ (start .pre) _ (k .unaffected-lines .ensures) _ (e .read-entry .ensures) _ (h .held-of .ensures) _ (f .find-stop .ensures))
+add-to c = omega (arith, counts-low _ _ _ _ _ _ _ _ _ (sought (c .before)))
 
 add-if1 : tie.Need-add-if1
-add-if1 c =
-    let f = c .before in
-    let h = f .before .before .before in
-    let e = h .before in
-    let k = e .before .before in
-    let start = k .before .before .before .before .before in
-    omega (arith, counts-low _ _ _ _ _ (start .pre) _ (k .unaffected-lines .ensures) _ (e .read-entry .ensures) _ (h .held-of .ensures) _ (f .find-stop .ensures))
+add-if1 c = omega (arith, counts-low _ _ _ _ _ _ _ _ _ (sought (c .before)))
 
 add-t25 : tie.Need-add-t25
-add-t25 c =
-    let f = c .before .before in
-    let h = f .before .before .before in
-    let e = h .before in
-    let k = e .before .before in
-    let start = k .before .before .before .before .before in
-    omega (arith, counts-low _ _ _ _ _ (start .pre) _ (k .unaffected-lines .ensures) _ (e .read-entry .ensures) _ (h .held-of .ensures) _ (f .find-stop .ensures))
+add-t25 c = omega (arith, counts-low _ _ _ _ _ _ _ _ _ (sought (c .before .before)))
 
 same-length : tie.Need-same-length
 same-length c = search needs
 
 returns : tie.Need-returns
-returns c =
-    let f = c .before .before in
-    let h = f .before .before .before in
-    let e = h .before in
-    let k = e .before .before in
-    let start = k .before .before .before .before .before in
-    no-room _ _ _ _ _ (start .pre) _ (k .unaffected-lines .ensures) _ (e .read-entry .ensures) _ (h .held-of .ensures) _ (f .find-stop .ensures) (c .if1 .taken)
+returns c = no-room _ _ _ _ _ _ _ _ _ (sought (c .before .before)) (c .if1 .taken)
 
 move-lines-requires : tie.Need-move-lines-requires
-move-lines-requires c κs =
-    let f = c .before .before .before in
-    let h = f .before .before .before in
-    let e = h .before in
-    let k = e .before .before in
-    let start = k .before .before .before .before .before in
-    movable _ _ _ _ _ (start .pre) _ (k .unaffected-lines .ensures) _ (e .read-entry .ensures) _ (h .held-of .ensures) _ (f .find-stop .ensures) (c .before .if1 .left)
+move-lines-requires c κs = let room = c .before in movable _ _ _ _ _ _ _ _ _ (sought (room .before .before)) (room .if1 .left)
 
 write-again-requires : tie.Need-write-again-requires
 write-again-requires c κs =
     let m = c .before .before .before in
     let room = m .before .before in
-    let f = room .before .before in
-    let h = f .before .before .before in
-    let e = h .before in
-    let k = e .before .before in
-    let start = k .before .before .before .before .before in
-    write-ready _ _ _ _ _ (start .pre) _ (k .unaffected-lines .ensures) _ (e .read-entry .ensures) _ (h .held-of .ensures) _ (f .find-stop .ensures) (room .if1 .left) _ (m .move-lines .ensures) (m .move-lines .kept .0)
+    write-ready _ _ _ _ _ _ _ _ _ (sought (room .before .before)) (room .if1 .left) _ (m .move-lines .ensures) (m .move-lines .kept .0)
 
 add-t21 : tie.Need-add-t21
-add-t21 c =
-    let f = c .before .before .before .before .before .before .before .before .before .before in
-    let h = f .before .before .before in
-    let e = h .before in
-    let k = e .before .before in
-    let start = k .before .before .before .before .before in
-    omega (arith, counts-low _ _ _ _ _ (start .pre) _ (k .unaffected-lines .ensures) _ (e .read-entry .ensures) _ (h .held-of .ensures) _ (f .find-stop .ensures))
+add-t21 c = omega (arith, counts-low _ _ _ _ _ _ _ _ _ (sought (c .before .before .before .before .before .before .before .before .before .before)))
 
 same-length-2 : tie.Need-same-length-2
 same-length-2 c = search needs
@@ -120,12 +94,8 @@ returns-2 c =
     let w = c .before .before in
     let m = w .before .before .before .before in
     let room = m .before .before in
-    let f = room .before .before in
-    let h = f .before .before .before in
-    let e = h .before in
-    let k = e .before .before in
-    let start = k .before .before .before .before .before in
-    relaid-whole _ _ _ _ _ (start .pre) _ (k .unaffected-lines .ensures) _ (e .read-entry .ensures) _ (h .held-of .ensures) _ (f .find-stop .ensures) (room .if1 .left) _ (m .move-lines .ensures) (m .move-lines .kept .0) _ (w .write-again .ensures)
+    relaid-whole _ _ _ _ _ _ _ _ _ (sought (room .before .before)) (room .if1 .left) _ (m .move-lines .ensures) (m .move-lines .kept .0) _
+    (w .write-again .ensures)
 
 pub lay-lines-spec : {M : Type 1} → statement M
 lay-lines-spec =

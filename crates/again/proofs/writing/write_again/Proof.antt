@@ -1,6 +1,5 @@
 -- `write_again` meets its contract.
 -- Assumes nothing.
-
 use Prim.Native.Nat.{_-_}
 use native.Mathlib.Omega.{arith}
 use Rattle.again.specs.Writing.{Wrote, write-start, write-end, line-movable, write-next}
