@@ -1,12 +1,17 @@
 pub mod DrawLaws
 pub mod FitsLaws
+pub mod GoesLaws
 pub mod HyphenLaws
 pub mod KindLaws
 pub mod LayLaws
 pub mod MoveLaws
+pub mod OnwardLaws
 pub mod PassLaws
+pub mod PlainLaws
 pub mod RestLaws
 pub mod RunLaws
+pub mod StrideLaws
 pub mod TabLaws
+pub mod WaitLaws
 pub mod WidthLaws
 pub mod WordLaws

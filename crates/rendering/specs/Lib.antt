@@ -14,5 +14,7 @@ pub mod Pending
 pub mod Stopping
 pub mod Running
 pub mod Runs
+pub mod PlainWords
+pub mod Strides
 pub mod Laying
 pub mod LineLaws

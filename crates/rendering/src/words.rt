@@ -27,7 +27,7 @@ ghost use Rattle.rendering.specs.Ready.{Ready, stepFrom};
 ghost use Rattle.rendering.specs.Stopping.{wordMeasure, wordPlace};
 
 // Just after a print.
-fn printed_at(pen: u32, spaces: u32) -> Measure
+pub fn printed_at(pen: u32, spaces: u32) -> Measure
     ensures { λ r. ⌜ r ≡ printedAt pen spaces ⌝ }
 {
     Measure {
@@ -39,7 +39,7 @@ fn printed_at(pen: u32, spaces: u32) -> Measure
 }
 
 // What is measured after a word of n characters, g of which glue: a space each, and a glyph for every other.
-fn word_measure(glyph: u32, sp: Spaces, m: Measure, n: u32, g: u32) -> Measure
+pub fn word_measure(glyph: u32, sp: Spaces, m: Measure, n: u32, g: u32) -> Measure
     requires { ⌜ FineSpaces sp × (glyph ≤ 64) × (n ≤ 65535) × (g ≤ n) × (m .pen .0 ≤ 8192 * 65535) × (m .spaces .0 ≤ 65535) ⌝ }
     ensures { λ r. ⌜ r ≡ wordMeasure glyph sp m n g ⌝ }
 {
@@ -48,7 +48,7 @@ fn word_measure(glyph: u32, sp: Spaces, m: Measure, n: u32, g: u32) -> Measure
 }
 
 // The place after such a word, which fits.
-fn word_place(glyph: u32, p: Place, n: u32, g: u32) -> Place
+pub fn word_place(glyph: u32, p: Place, n: u32, g: u32) -> Place
     requires { ⌜ FinePlace p × (fitsIn (p .cursor) (n * glyph) ≡ true) ⌝ }
     ensures { λ r. ⌜ r ≡ wordPlace glyph p n g ⌝ }
 {
