@@ -1,6 +1,6 @@
 -- How far the strides of a pass come: the start of their loop, and where it stops.
 -- Assumes nothing.
-use mathlib.Core.Path.{_≡_, refl, sym, subst, _∙_}
+use mathlib.Core.Path.{_≡_, refl, sym, ap, subst, _∙_}
 use mathlib.Core.Bool.{Bool, true, false, false≢true}
 use mathlib.Core.List.{List}
 use Prim.Native.Nat.{ℕ, _+_, _-_, _*_, _≤_, _<_, min}
@@ -14,11 +14,12 @@ use Rattle.meaning.specs.declared.cursor.Place.{Place}
 use Rattle.meaning.specs.declared.line.Measure.{Measure}
 use Rattle.laws.specs.Measuring.{printedAt}
 use Rattle.rendering.specs.Stepping.{ranFrom}
-use Rattle.rendering.specs.Unrolled.{nothingResumed}
+use Rattle.rendering.specs.Unrolled.{farther, nothingResumed}
 use Rattle.rendering.specs.Running.{PassReady, none-fits}
 use Rattle.rendering.specs.PlainWords.{Stride, Found}
-use Rattle.rendering.specs.Strides.{goingAt, strodePlace, printedLast, justPrinted, Onward, Waits, Goes, StrideReady}
+use Rattle.rendering.specs.Strides.{goingAt, strodePlace, printedLast, justPrinted, Onward, Waits, Goes, StrideReady, WaitReady}
 use Rattle.rendering.specs.declared.step.Resumed.{Resumed}
+use Rattle.rendering.specs.declared.step.Ended.{Ended}
 use Rattle.rendering.specs.declared.strides.Going.{Going}
 use Rattle.rendering.proofs.OnwardLaws.{onward-none, onward-on}
 
@@ -119,3 +120,16 @@ module _ {s : Settings} {p : Place} {t : List ℕ} {at : ℕ} {r : Resumed} {m :
         };
         waits = λ n. (f .waits n .0, e, k);
       }
+
+-- ---- where a word waits
+
+module _ {s : Settings} {p : Place} {t : List ℕ} {at : ℕ} {r : Resumed} {m : Measure} {g : Going} (f : Goes s p t at r m g) (d : g .waits .0 ≡ 0 → ⊥) where
+  pub waits-ready : WaitReady s t g
+  waits-ready = (rest-none (f .onward .ready) (f .waits d .1), f .waits d .0)
+
+  -- The line's end there is the pass's, however far it looked before.
+  pub waits-end : (e : Ended) → e ≡ ranFrom s (g .place) t (g .at .0) 0 0 (g .measure) → (k : ℕ)
+      → farther k e ≡ farther k (ranFrom s p t at (r .chars .0) (r .count .0) m)
+  waits-end e is k =
+      let w = f .waits d in
+      ap (farther k) (is ∙ (λ i. ranFrom s (g .place) t (g .at .0) (sym (w .1) i) (sym (w .2) i) (g .measure)) ∙ f .onward .same)

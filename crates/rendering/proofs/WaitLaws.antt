@@ -94,7 +94,7 @@ module _ {s : Settings} {p : Place} {t : List ℕ} {at : ℕ} {m : Measure} (r :
       let none : room / (wide / 1) ≡ 0 = omega (arith, div-lt-iff-lt-mul some .1 less) in
       let next : at + 1 ≡ at + size (take 1 (charsFrom t at)) = run-end t at x refl (y .stands) in
       let ends : Stop (endsBefore LineBreak m (at + size (take 1 (charsFrom t at))) 0 0) ≡ cutAnswer s p t at x wide m
-          = cut-answer cut room 1 m (partOf at 1 (charsFrom t at)) nothingResumed refl (omega arith) (rw none) refl (none-left (at + 1) 1 1 1 (omega arith)) in
+      = cut-answer cut room 1 m (partOf at 1 (charsFrom t at)) nothingResumed refl (omega arith) (rw none) refl (none-left (at + 1) 1 1 1 (omega arith)) in
       sym (far-ends LineBreak m (at + 1) 0 (at + 1 + 1))
       ∙ ap (λ (k : ℕ). farther (at + 1 + 1) (endsBefore LineBreak m k 0 0)) next
       ∙ stops-onward r x d _ (ends ∙ space-cut y refl wide is (stays r (w .empty) end (w .stride)) f)

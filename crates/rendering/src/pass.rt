@@ -8,6 +8,8 @@ use crate::spaces::on_space;
 use crate::step::Ended;
 use crate::step::Resumed;
 use crate::step::Stepped;
+use crate::strides::ends_waiting;
+use crate::strides::strides_on;
 use crate::tabs::on_tab;
 use crate::words::on_word;
 use meaning::cursor::Place;
@@ -73,12 +75,19 @@ pub fn run_pass(
     let mut sum = m;
     let mut reach: u32 = 0;
     loop {
-        let token = pending(text, at, held);
+        let g = strides_on(text, s, p, at, held, sum);
+        if g.waits.0 != 0 {
+            return looked_to(reach, ends_waiting(text, s, g));
+        }
+        let here = g.place;
+        let so = g.measure;
+        let to = g.at.0 as usize;
+        let token = pending(text, to, held);
         let Lexed::Token(x) = token else {
-            let end = at as u32;
-            return ends_before(LineEnd::EndOfText, sum, end, 0, farther(reach, end + 1));
+            let end = to as u32;
+            return ends_before(LineEnd::EndOfText, so, end, 0, farther(reach, end + 1));
         };
-        let stepped = step_token(text, s, p, at, x, sum);
+        let stepped = step_token(text, s, here, to, x, so);
         match stepped {
             Stepped::Go(q, n, far) => {
                 reach = farther(reach, farther(x.reach.0, far.0));

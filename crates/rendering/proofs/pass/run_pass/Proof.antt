@@ -6,6 +6,7 @@ use Rattle.rendering.specs.Stepping.{ranFrom}
 use Rattle.rendering.specs.Unrolled.{farther, farther-near}
 use Rattle.rendering.specs.Pending.{Pending, pending, none-pending}
 use Rattle.rendering.specs.Running.{PassReady, none-fits, step-keeps, pass-goes, pass-stops, pass-ends}
+use Rattle.rendering.proofs.GoesLaws.{waits-ready, waits-end}
 use borrow.Author.Needs.{needs}
 use Rattle.rendering.proofs.pass.run_pass.Statement.{statement}
 use Rattle.rendering.proofs.pass.run_pass.Tie as tie
@@ -18,19 +19,54 @@ Inv-loop text s from p₀ at₀ held₀ sum₀ reach₀ p at held sum reach =
 abbrev μ-loop : tie.MeasureT-loop
 μ-loop text s from p₀ at₀ held₀ sum₀ reach₀ p at held sum reach = length text - at
 
--- The token that was read at the loop's offset.
+-- After the strides: what is left of the pass, having looked so far, is the whole pass.
+strode : (c : tie.After-strides-on Inv-loop μ-loop) →
+    let l = c .before in
+    let a = l .before .before .args in
+    let g = c .strides-on .result in
+    farther (l .loop .reach) (ranFrom (a .s) (g .place) (a .text .now) (g .at .0) (l .loop .held .chars .0) (l .loop .held .count .0) (g .measure))
+    ≡ ranFrom (a .s) (a .start) (a .text .now) (a .from) (a .rest .chars .0) (a .rest .count .0) (a .m)
+strode c = ap (farther (c .before .loop .reach)) (c .strides-on .ensures .onward .same) ∙ c .before .loop .inv .0
+
+abbrev there : tie.After-pending Inv-loop μ-loop → tie.After-strides-on Inv-loop μ-loop
+there c = c .before .before .before .before .before .before
+
+-- The token that was read after them.
 pended : (c : tie.After-token Inv-loop μ-loop) →
-    let l = c .before .before .before in
-    Pending (l .before .before .args .text .now) (l .loop .at) (l .loop .held .chars .0) (l .loop .held .count .0) (c .token .given .0 .0)
+    let r = there (c .before .before) in
+    let l = r .before in
+    Pending (l .before .before .args .text .now) (r .strides-on .result .at .0) (l .loop .held .chars .0) (l .loop .held .count .0) (c .token .given .0 .0)
 pended c =
-    let l = c .before .before .before in
-    pending _ (l .loop .at) (l .loop .held) _ (l .loop .inv .1 .rest) (sym (c .before .before .pending .ensures) ∙ c .token .given .1)
+    let r = there (c .before .before) in
+    pending _ (r .strides-on .result .at .0) (r .before .loop .held) _ (r .strides-on .ensures .onward .ready .rest)
+    (sym (c .before .before .pending .ensures) ∙ c .token .given .1)
 
 loop-holds : tie.Need-loop-holds Inv-loop μ-loop
 loop-holds c = (farther-near 0 _ (omega arith), c .before .pre)
 
+strides-on-requires : tie.Need-strides-on-requires Inv-loop μ-loop
+strides-on-requires c κs = search needs
+
+ends-waiting-requires : tie.Need-ends-waiting-requires Inv-loop μ-loop
+ends-waiting-requires c κs = waits-ready (c .before .before .strides-on .ensures) (c .if1 .taken)
+
+looked-to-requires : tie.Need-looked-to-requires Inv-loop μ-loop
+looked-to-requires c κs = search needs
+
+returns : tie.Need-returns Inv-loop μ-loop
+returns c =
+    let w = c .before in
+    let i = w .before in
+    let r = i .before .before in
+    c .looked-to .ensures ∙ waits-end (r .strides-on .ensures) (i .if1 .taken) _ (w .ends-waiting .ensures) _ ∙ r .before .loop .inv .0
+
+cast-to : tie.Need-cast-to Inv-loop μ-loop
+cast-to c = search needs
+
 pending-requires : tie.Need-pending-requires Inv-loop μ-loop
-pending-requires c κs = search needs
+pending-requires c κs =
+    let i = c .before .before .before .before .before .strides-on .ensures .onward .ready in
+    (i .short, i .rest)
 
 enum-known-token : tie.Need-enum-known-token Inv-loop μ-loop
 enum-known-token c = search needs
@@ -42,7 +78,9 @@ cast-end : tie.Need-cast-end Inv-loop μ-loop
 cast-end c = search needs
 
 add-farther : tie.Need-add-farther Inv-loop μ-loop
-add-farther c = search needs
+add-farther c =
+    let i = there (c .before .before) .strides-on .ensures .onward .ready in
+    record { fits = omega (arith, i .inside, i .short) }
 
 farther-requires : tie.Need-farther-requires Inv-loop μ-loop
 farther-requires c κs = search needs
@@ -50,20 +88,23 @@ farther-requires c κs = search needs
 ends-before-requires : tie.Need-ends-before-requires Inv-loop μ-loop
 ends-before-requires c κs = search needs
 
-returns : tie.Need-returns Inv-loop μ-loop
-returns c =
+returns-2 : tie.Need-returns-2 Inv-loop μ-loop
+returns-2 c =
     let f = c .before in
     let n = f .before .before .before in
-    let l = n .before in
+    let r = there n in
+    let l = r .before in
+    let g = r .strides-on .result in
     c .ends-before .ensures
-    ∙ pass-ends (l .before .before .args .s) (l .loop .p) _ (l .loop .at) (l .loop .held .chars .0) (l .loop .held .count .0) (l .loop .sum) (l .loop .reach)
-    (none-pending (l .loop .at) _ (sym (n .pending .ensures) ∙ f .before .enum-told .given .1)) _ (f .farther .ensures)
-    ∙ l .loop .inv .0
+    ∙ pass-ends (l .before .before .args .s) (g .place) _ (g .at .0) (l .loop .held .chars .0) (l .loop .held .count .0) (g .measure) (l .loop .reach)
+    (none-pending (g .at .0) _ (sym (n .pending .ensures) ∙ f .before .enum-told .given .1)) _ (f .farther .ensures)
+    ∙ strode r
 
 step-token-requires : tie.Need-step-token-requires Inv-loop μ-loop
 step-token-requires c κs =
-    let i = c .before .before .before .before .loop .inv .1 in
-    record { settings = i .settings; place = i .place; short = i .short; stands = pended (c .before) .stands; small = i .small }
+    let k = c .before in
+    let i = there (k .before .before) .strides-on .ensures .onward .ready in
+    record { settings = i .settings; place = i .place; short = i .short; stands = pended k .stands; small = i .small }
 
 enum-known-stepped : tie.Need-enum-known-stepped Inv-loop μ-loop
 enum-known-stepped c = search needs
@@ -82,8 +123,9 @@ nothing-left-requires c κs = search needs
 
 loop-less : tie.Need-loop-less Inv-loop μ-loop
 loop-less c =
-    let y = pended (c .before .before .before .before .before .before .before .before .before) .stands in
-    omega (arith, y .longer, y .within)
+    let k = c .before .before .before .before .before .before .before .before .before in
+    let y = pended k .stands in
+    omega (arith, y .longer, y .within, there (k .before .before) .strides-on .ensures .onward .forward)
 
 loop-again : tie.Need-loop-again Inv-loop μ-loop
 loop-again c =
@@ -92,16 +134,18 @@ loop-again c =
     let w = g .before .before in
     let d = w .before .before in
     let k = d .before .before in
-    let l = k .before .before .before in
-    let a = l .before .before .args in
-    let i = l .loop .inv .1 in
+    let r = there (k .before .before) in
+    let l = r .before in
+    let s = l .before .before .args .s in
+    let v = r .strides-on .result in
+    let i = r .strides-on .ensures .onward .ready in
     let x = k .token .given .0 .0 in
     let y = pended k in
     let e = sym (d .step-token .ensures) ∙ w .stepped .given .1 in
-    let fine = step-keeps (a .s) (l .loop .p) _ (l .loop .at) (l .loop .held .chars .0) (l .loop .held .count .0) x (l .loop .sum) (i .settings) (i .place) (i .small) y _ _ _ e in
+    let fine = step-keeps s (v .place) _ (v .at .0) (l .loop .held .chars .0) (l .loop .held .count .0) x (v .measure) (i .settings) (i .place) (i .small) y _ _ _ e in
     let far = f .farther3 .ensures ∙ ap (max (l .loop .reach)) (g .farther2 .ensures) in (
-      pass-goes (a .s) (l .loop .p) _ (l .loop .at) (l .loop .held .chars .0) (l .loop .held .count .0) (l .loop .sum) (l .loop .reach) x y _ _ _ e _ far _ (c .nothing-left .ensures)
-          ∙ l .loop .inv .0,
+      pass-goes s (v .place) _ (v .at .0) (l .loop .held .chars .0) (l .loop .held .count .0) (v .measure) (l .loop .reach) x y _ _ _ e _ far _ (c .nothing-left .ensures)
+          ∙ strode r,
       record { settings = i .settings; place = fine .0; short = i .short; inside = y .stands .within; rest = none-fits _ _ _ (c .nothing-left .ensures); small = fine .1 },
     )
 
@@ -111,20 +155,22 @@ enum-known-stepped-2 c = search needs
 farther-requires-4 : tie.Need-farther-requires-4 Inv-loop μ-loop
 farther-requires-4 c κs = search needs
 
-looked-to-requires : tie.Need-looked-to-requires Inv-loop μ-loop
-looked-to-requires c κs = search needs
+looked-to-requires-2 : tie.Need-looked-to-requires-2 Inv-loop μ-loop
+looked-to-requires-2 c κs = search needs
 
-returns-2 : tie.Need-returns-2 Inv-loop μ-loop
-returns-2 c =
+returns-3 : tie.Need-returns-3 Inv-loop μ-loop
+returns-3 c =
     let f = c .before in
     let w = f .before .before in
     let d = w .before .before in
     let k = d .before .before in
-    let l = k .before .before .before in
-    c .looked-to .ensures
-    ∙ pass-stops (l .before .before .args .s) (l .loop .p) _ (l .loop .at) (l .loop .held .chars .0) (l .loop .held .count .0) (l .loop .sum) (l .loop .reach) (k .token .given .0 .0) (pended k) _
+    let r = there (k .before .before) in
+    let l = r .before in
+    let g = r .strides-on .result in
+    c .looked-to2 .ensures
+    ∙ pass-stops (l .before .before .args .s) (g .place) _ (g .at .0) (l .loop .held .chars .0) (l .loop .held .count .0) (g .measure) (l .loop .reach) (k .token .given .0 .0) (pended k) _
     (sym (d .step-token .ensures) ∙ w .stepped2 .given .1) _ (f .farther4 .ensures)
-    ∙ l .loop .inv .0
+    ∙ strode r
 
 pub run-pass-spec : {M : Type 1} → statement M
 run-pass-spec =
@@ -133,6 +179,11 @@ run-pass-spec =
     Inv-loop
     μ-loop
     loop-holds
+    strides-on-requires
+    ends-waiting-requires
+    looked-to-requires
+    returns
+    cast-to
     pending-requires
     enum-known-token
     enum-told
@@ -140,7 +191,7 @@ run-pass-spec =
     add-farther
     farther-requires
     ends-before-requires
-    returns
+    returns-2
     step-token-requires
     enum-known-stepped
     farther-requires-2
@@ -151,5 +202,5 @@ run-pass-spec =
     loop-again
     enum-known-stepped-2
     farther-requires-4
-    looked-to-requires
-    returns-2)
+    looked-to-requires-2
+    returns-3)
