@@ -1,16 +1,13 @@
 -- A pass that goes on over a token. What that looked at, the pass after it looks at too, so nothing is kept of it.
 -- Assumes nothing.
-use mathlib.Core.Path.{_≡_, refl, sym, ap, subst, _∙_}
-use mathlib.Core.Bool.{Bool, true, false}
+use mathlib.Core.Path.{_≡_, refl, sym, _∙_}
 use mathlib.Core.List.{List, [], _∷_}
-use Prim.Native.Nat.{ℕ, _+_, _-_, _≤_, _<_, max}
+use Prim.Native.Nat.{ℕ, _+_, _≤_, max}
 use native.Mathlib.Omega.{arith}
-use lib.ListN.{length}
-use Rattle.meaning.specs.Tokens.{Tok, tokens, charsOf, sizeOf, enderOf, needOf}
+use Rattle.meaning.specs.Tokens.{Tok, tokens, charsOf, sizeOf, needOf}
 use Rattle.meaning.specs.LineIter.{Step, go, stop, step, Ran, passOn, process}
 use Rattle.meaning.specs.Line.{heldTokens}
 use Rattle.meaning.specs.declared.settings.Settings.{Settings}
-use Rattle.meaning.specs.declared.counts.Offset.{Offset}
 use Rattle.meaning.specs.declared.cursor.Place.{Place}
 use Rattle.meaning.specs.declared.line.Measure.{Measure}
 use Rattle.laws.specs.Spell.{spell, Sound}

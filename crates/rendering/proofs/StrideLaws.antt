@@ -1,13 +1,12 @@
 -- A space and a word of ASCII that a pass takes at once.
 -- Assumes nothing.
-use mathlib.Core.Path.{_≡_, refl, sym, ap, _∙_}
+use mathlib.Core.Path.{_≡_, refl, sym, _∙_}
 use mathlib.Core.Bool.{Bool, true, false}
 use mathlib.Core.List.{List}
-use Prim.Native.Nat.{ℕ, _+_, _-_, _*_, _/_, _≤_, _<_, max, min}
+use Prim.Native.Nat.{ℕ, _+_, _-_, _*_, _/_, _≤_, max, min}
 use native.Mathlib.Nat.{mul-le-mul-right, div-mul-le-self, div-le-self}
 use native.Mathlib.Omega.{arith}
-use borrow.Author.Tests.{le-leb, lt-leb}
-use Rattle.basis.specs.Choice.{pick}
+use borrow.Author.Tests.{le-leb}
 use Rattle.basis.specs.Order.{by-eq}
 use Rattle.meaning.specs.Tokens.{tokens}
 use Rattle.meaning.specs.Cursor.{placedAt, roomOf, fitsIn, advance}
@@ -19,14 +18,12 @@ use Rattle.meaning.specs.declared.cursor.LineCursor.{LineCursor}
 use Rattle.meaning.specs.declared.cursor.Place.{Place}
 use Rattle.meaning.specs.declared.line.EventKind.the-variants.{Space}
 use Rattle.meaning.specs.declared.line.Measure.{Measure}
-use Rattle.meaning.specs.declared.tokens.TokenKind.the-variants.{Word}
 use Rattle.laws.specs.Measuring.{printedAt}
 use Rattle.parser.specs.Lexing.{charsFrom}
-use Rattle.parser.specs.Ascii.{plainAt, spaceAt}
 use Rattle.rendering.specs.Ahead.{lookAt}
 use Rattle.rendering.specs.Fine.{FineCursor}
 use Rattle.rendering.specs.Lexed.{lexes}
-use Rattle.rendering.specs.Stepping.{lookOf, ranFrom}
+use Rattle.rendering.specs.Stepping.{lookOf}
 use Rattle.rendering.specs.Unrolled.{nothingResumed}
 use Rattle.rendering.specs.Runs.{wholeAnswer}
 use Rattle.rendering.specs.Running.{PassReady}
@@ -35,7 +32,7 @@ use Rattle.rendering.specs.PlainWords.{PlainWord, Stride}
 use Rattle.rendering.specs.Strides.{strodePlace, Onward}
 use Rattle.rendering.specs.declared.look.Look.{Look}
 use Rattle.rendering.specs.declared.step.Stepped.the-variants.{Go}
-use Rattle.rendering.proofs.DrawLaws.{draws-all, draws-some, whole-drawn, whole-hidden}
+use Rattle.rendering.proofs.DrawLaws.{draws-all, draws-some, whole-drawn}
 use Rattle.rendering.proofs.FitsLaws.{look-zero, look-word}
 use Rattle.rendering.proofs.RunLaws.{space-whole}
 use Rattle.rendering.proofs.WordLaws.{word-at, word-goes}

@@ -1,21 +1,19 @@
 -- A line that ends where a space and a word of ASCII do not both fit.
 -- Assumes nothing.
 use mathlib.Core.Path.{_≡_, refl, sym, ap, _∙_}
-use mathlib.Core.Bool.{Bool, true, false}
+use mathlib.Core.Bool.{true, false}
 use mathlib.Core.List.{List}
-use Prim.Native.Nat.{ℕ, _+_, _-_, _*_, _/_, _≤_, _<_, max, min}
+use Prim.Native.Nat.{ℕ, _+_, _-_, _*_, _/_, _<_, max}
 use native.Mathlib.Nat.{div-one, div-lt-iff-lt-mul}
 use native.Mathlib.Omega.{arith}
-use borrow.Author.Tests.{lt-leb, leb-false, eq-eqb}
+use borrow.Author.Tests.{lt-leb, leb-false}
 use lib.ListN.{take}
 use Rattle.basis.specs.Choice.{pick}
 use Rattle.unicode.specs.Encoding.{size}
-use Rattle.meaning.specs.Cursor.{placedAt, roomOf, fitsIn, advance}
-use Rattle.meaning.specs.SpaceConfig.{spacesWidth, spacesAfter}
-use Rattle.meaning.specs.LineIter.{heldAfter, movedOn, usedUp}
+use Rattle.meaning.specs.Cursor.{roomOf, fitsIn, advance}
+use Rattle.meaning.specs.SpaceConfig.{spacesWidth}
 use Rattle.meaning.specs.Line.{noted}
 use Rattle.meaning.specs.declared.settings.Settings.{Settings}
-use Rattle.meaning.specs.declared.cursor.LineCursor.{LineCursor}
 use Rattle.meaning.specs.declared.cursor.Place.{Place}
 use Rattle.meaning.specs.declared.line.EventKind.the-variants.{Space}
 use Rattle.meaning.specs.declared.line.LineEnd.{LineEnd}

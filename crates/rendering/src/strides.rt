@@ -23,7 +23,6 @@ use meaning::settings::Settings;
 use parser::ascii::plain_at;
 ghost use mathlib.Core.Path.{_≡_};
 ghost use Prim.Native.Nat.{_≤_};
-ghost use Rattle.laws.specs.Measuring.{printedAt};
 ghost use Rattle.rendering.specs.Stepping.{ranFrom};
 ghost use Rattle.rendering.specs.Unrolled.{nothingResumed};
 ghost use Rattle.rendering.specs.Running.{PassReady};

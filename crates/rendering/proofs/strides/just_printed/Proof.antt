@@ -1,4 +1,3 @@
-use mathlib.Core.Path.{refl}
 use Rattle.basis.specs.Choice.{pick}
 use Rattle.rendering.specs.Strides.{justPrinted}
 use Rattle.rendering.proofs.strides.just_printed.Statement.{statement}

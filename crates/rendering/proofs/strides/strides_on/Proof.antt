@@ -1,5 +1,4 @@
 use native.Mathlib.Omega.{arith}
-use borrow.Author.Needs.{needs}
 use Rattle.rendering.proofs.OnwardLaws.{onward-none}
 use Rattle.rendering.proofs.GoesLaws.{goes-to, rest-none, goes-rest}
 use Rattle.rendering.proofs.strides.strides_on.Statement.{statement}
