@@ -1,0 +1,55 @@
+use Prim.Native.Nat.{_-_}
+use mathlib.Core.Path.{_≡_, sym, _∙_}
+use lib.ListN.{take, drop}
+use borrow.Author.Needs.{needs}
+use Rattle.replay.specs.Lines.{lineEnd}
+use Rattle.replay.proofs.LineLaws.{feed-here, feed-later, no-feed}
+use Rattle.replay.proofs.input.find.Statement.{statement}
+use Rattle.replay.proofs.input.find.Tie as tie
+
+abbrev Inv-loop : tie.InvT-loop
+Inv-loop s from end i₀ i = lineEnd from (drop from (take end s)) ≡ lineEnd i (drop i (take end s))
+
+abbrev μ-loop : tie.MeasureT-loop
+μ-loop s from end i₀ i = end - i
+
+loop-holds : tie.Need-loop-holds Inv-loop μ-loop
+loop-holds c = search needs
+
+shared-slice-read-if1 : tie.Need-shared-slice-read-if1 Inv-loop μ-loop
+shared-slice-read-if1 c = search needs
+
+returns : tie.Need-returns Inv-loop μ-loop
+returns c =
+    let l = c .before .before .before in
+    sym (l .loop .inv ∙ feed-here (l .before .args .s .now) (l .before .args .end) (l .before .pre) (l .loop .i) (search needs) (c .if1 .taken))
+
+add-i : tie.Need-add-i Inv-loop μ-loop
+add-i c = search needs
+
+loop-less : tie.Need-loop-less Inv-loop μ-loop
+loop-less c = search needs
+
+loop-again : tie.Need-loop-again Inv-loop μ-loop
+loop-again c =
+    let l = c .before .before .before in
+    l .loop .inv ∙ feed-later (l .before .args .s .now) (l .before .args .end) (l .before .pre) (l .loop .i) (search needs) (c .if1 .left)
+
+returns-2 : tie.Need-returns-2 Inv-loop μ-loop
+returns-2 c =
+    let l = c .before in
+    sym (l .loop .inv ∙ no-feed (l .before .args .s .now) (l .before .args .end) (l .before .pre) (l .loop .i) (c .loop-test .left))
+
+pub find-spec : {M : Type 1} → statement M
+find-spec =
+    tie.close
+    (tie.spec
+    Inv-loop
+    μ-loop
+    loop-holds
+    shared-slice-read-if1
+    returns
+    add-i
+    loop-less
+    loop-again
+    returns-2)
