@@ -1,3 +1,5 @@
+-- `replay::case::bytes` meets its contract. The invariant: so many numbers are copied.
+-- Assumes nothing.
 use Prim.Native.Nat.{ℕ, _-_, _≤_}
 use mathlib.Core.Bool.{false≢true}
 use mathlib.Core.Path.{_≡_, refl, sym, ap, _∙_}

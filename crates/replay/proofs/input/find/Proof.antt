@@ -1,3 +1,5 @@
+-- `replay::input::find` meets its contract. The invariant: the first line feed of all is that of what is left.
+-- Assumes nothing.
 use Prim.Native.Nat.{_-_}
 use mathlib.Core.Path.{_≡_, sym, _∙_}
 use lib.ListN.{take, drop}

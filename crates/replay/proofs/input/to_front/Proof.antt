@@ -1,3 +1,5 @@
+-- `replay::input::to_front` meets its contract. The invariant: so many bytes are moved.
+-- Assumes nothing.
 use Prim.Native.Nat.{ℕ, _-_, _≤_}
 use mathlib.Core.Path.{_≡_, refl, subst}
 use native.Mathlib.Omega.{arith}

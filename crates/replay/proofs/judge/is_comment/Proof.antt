@@ -1,3 +1,5 @@
+-- `replay::judge::is_comment` meets its contract.
+-- Assumes nothing.
 use mathlib.Core.Bool.{false≢true}
 use borrow.Author.Needs.{needs}
 use Rattle.replay.proofs.LineLaws.{first-byte}

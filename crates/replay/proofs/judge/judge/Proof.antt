@@ -1,3 +1,5 @@
+-- `replay::judge::judge` meets its contract.
+-- Assumes nothing.
 use mathlib.Core.Path.{sym}
 use lib.ListN.{take}
 use lib.Seq.{length-take-le}

@@ -1,3 +1,5 @@
+-- `replay::judge::judge_numbers` meets its contract.
+-- Assumes nothing.
 use mathlib.Core.Path.{subst}
 use borrow.Author.Needs.{needs}
 use Rattle.replay.specs.Shape.{Shaped}

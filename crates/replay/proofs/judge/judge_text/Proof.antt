@@ -1,3 +1,5 @@
+-- `replay::judge::judge_text` meets its contract.
+-- Assumes nothing.
 use mathlib.Core.Path.{subst}
 use lib.ListN.{length}
 use borrow.Author.Needs.{needs}

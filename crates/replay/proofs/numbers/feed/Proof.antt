@@ -1,3 +1,5 @@
+-- `replay::numbers::feed` meets its contract.
+-- Assumes nothing.
 use borrow.Author.Needs.{needs}
 use borrow.Author.Tests.{eq-eqb}
 use Rattle.basis.specs.Choice.{pick}

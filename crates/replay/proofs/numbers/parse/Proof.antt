@@ -1,3 +1,6 @@
+-- `replay::numbers::parse` meets its contract. The invariant: what was read, and what the rest of the line adds, make the
+-- line's numbers.
+-- Assumes nothing.
 use Prim.Native.Nat.{_-_}
 use mathlib.Core.Path.{sym, _∙_}
 use lib.ListN.{length}

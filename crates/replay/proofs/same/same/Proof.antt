@@ -1,3 +1,5 @@
+-- `replay::same::same` meets its contract. The invariant: all numbers are the same exactly if those that are left are.
+-- Assumes nothing.
 use Prim.Native.Nat.{_-_}
 use mathlib.Core.Path.{_≡_, refl, sym, _∙_}
 use lib.ListN.{length, drop}

@@ -1,3 +1,5 @@
+-- `replay::same::same_lines` meets its contract. The invariant: all lines are the same exactly if those that are left are.
+-- Assumes nothing.
 use Prim.Native.Nat.{_-_, _≤_}
 use mathlib.Core.Path.{_≡_, sym, _∙_}
 use borrow.Author.Needs.{needs}

@@ -1,3 +1,5 @@
+-- `replay::tally::count` meets its contract.
+-- Assumes nothing.
 use mathlib.Core.Path.{sym, ap, _∙_}
 use borrow.Author.Needs.{needs}
 use Rattle.replay.specs.Tally.{countedOf}
