@@ -103,7 +103,12 @@ pub fn write(count: u64, seed: u64) -> bool {
         let events = list(rules.events.iter().map(|e| row([e.kind, e.start, e.end, e.count, e.width, e.x as u32])));
         let between = if number == 0 { "" } else { "∷ " };
         let sets = format!("sets {glyph} {width} {tab} {alignment} {leading} {trailing}");
-        writeln!(out, "    {between}example ({sets}) {}\n    {lines}\n    {events}", show::quoted(&text, |c| matches!(c, ' ' | 'a'..='z'))).unwrap();
+        writeln!(
+            out,
+            "    {between}example ({sets}) {}\n    {lines}\n    {events}",
+            show::quoted(&text, |c| matches!(c, ' ' | 'a'..='z'))
+        )
+        .unwrap();
     }
     println!("{out}    {}[]\n{TAIL}", if count == 0 { "" } else { "∷ " });
     eprintln!("oracle: seed {seed}: {own} layouts of the crate, {other} of the rules alone");

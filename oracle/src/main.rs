@@ -8,6 +8,7 @@ mod examples;
 mod library;
 mod model;
 mod random;
+mod record;
 mod show;
 
 use compare::{Depth, Sides, Tally};
@@ -44,6 +45,7 @@ usage: oracle examples SPECS            the scope's examples, and those of the d
        oracle dense LENGTH              the same with five kinds of character and narrower boxes, for longer texts
        oracle random COUNT [SEED]       texts and settings by chance
        oracle definitions COUNT SEED    a module of cases by chance, for the prover to compute by the definitions
+       oracle record CASES SEED         a sample of the crate's answers, a case a line, for a replay with no Rust at hand
        oracle show TEXT [NAME=NUMBER..] one layout, by the crate and by the rules; \\n, \\t, \\u{ad} and so on in TEXT
 ";
 
@@ -66,6 +68,7 @@ fn main() {
         ["definitions", count, seed] => {
             count.parse().ok().zip(seed.parse().ok()).map(|(count, seed)| definitions::write(count, seed))
         }
+        ["record", cases, seed] => cases.parse().ok().zip(seed.parse().ok()).map(|(cases, seed)| record::write(cases, seed)),
         ["show", text, settings @ ..] => settings_of(settings).map(|settings| show_one(&unescape(text), &settings)),
         _ => None,
     });

@@ -19,7 +19,7 @@ impl Chance {
         (self.next() % u64::from(n)) as u32
     }
 
-    fn pick<T: Copy>(&mut self, from: &[T]) -> T {
+    pub fn pick<T: Copy>(&mut self, from: &[T]) -> T {
         from[self.below(from.len() as u32) as usize]
     }
 }
@@ -120,13 +120,27 @@ fn character(chance: &mut Chance, mix: u32) -> char {
 
 /// A text of one of six mixtures: most of them short, one in fifty long.
 pub fn text(chance: &mut Chance, text: &mut String) {
-    text.clear();
     let mix = chance.below(11) / 2;
     let len = match chance.below(50) {
         0 => chance.below(400),
         1..=10 => chance.below(90),
         _ => chance.below(26),
     };
+    fill(chance, mix, len, text);
+}
+
+/// A text of one of the mixtures, of at most so many bytes.
+pub fn text_upto(chance: &mut Chance, bytes: usize, text: &mut String) {
+    let mix = chance.below(11) / 2;
+    let len = chance.below(26);
+    fill(chance, mix, len, text);
+    while text.len() > bytes {
+        text.pop();
+    }
+}
+
+fn fill(chance: &mut Chance, mix: u32, len: u32, text: &mut String) {
+    text.clear();
     let mut left = len;
     while left > 0 {
         let c = character(chance, mix);
