@@ -1,10 +1,10 @@
-//! One case on every side, and the tally over many.
+//! One case on every side.
 
 #[cfg(library)]
 use crate::library;
+use crate::tally::{Tally, ALIGNMENTS};
 use crate::{model, show};
 use shape::*;
-use std::collections::BTreeMap;
 use std::panic::{catch_unwind, AssertUnwindSafe};
 
 use embedded_text_checked::plugin::probe as checked;
@@ -47,132 +47,18 @@ pub fn difference(one: &Laid, other: &Laid) -> Option<&'static str> {
     }
 }
 
-const ALIGNMENTS: [&str; 4] = ["left", "centre", "right", "justified"];
-
-/// How often something was found, and the smallest case of it.
-pub struct Found {
-    pub count: u64,
-    chars: usize,
-    settings: Settings,
-    text: String,
-    details: String,
-}
-
-/// What was compared, and what was found.
-#[derive(Default)]
-pub struct Tally {
-    /// Layouts that were looked at, those of them in the domain and compared, and what they are made of.
-    pub cases: u64,
-    pub compared: u64,
-    pub lines: u64,
-    pub events: u64,
-    /// Texts whose tokens were compared, and the tokens.
-    pub token_texts: u64,
-    pub tokens: u64,
-    /// Layouts that the crate's whole text box drew too.
-    pub drawn: u64,
-    pub heights: u64,
-    /// Layouts outside the domain, and those of them that come out the same all the same.
-    pub overflow: u64,
-    pub overflow_same: u64,
-    pub cut: u64,
-    pub cut_same: u64,
-    /// Layouts of the library that were held to the rules, all ten numbers of a line and all events; and those that were also held
-    /// to the crate, in the domain.
-    pub library: u64,
-    pub library_crate: u64,
-    /// Layouts that were lent to the crate without the guard, to see that it stops where it is said to.
-    pub unguarded: u64,
-    /// By alignment and end type, lines; by kind of event, events. All in the domain.
-    ends: [[u64; 4]; 4],
-    kinds: [u64; 3],
-    rests: u64,
-    dropped: u64,
-    /// Differences that are explained, by their reason, and the others.
-    pub explained: BTreeMap<String, Found>,
-    pub unexplained: BTreeMap<String, Found>,
-}
-
-impl Tally {
-    fn note(list: &mut BTreeMap<String, Found>, key: String, settings: &Settings, text: &str, details: impl FnOnce() -> String) {
-        let chars = text.chars().count();
-        // Of two cases of as many characters, the first found stays.
-        match list.get_mut(&key) {
-            Some(found) if found.chars <= chars => found.count += 1,
-            before => {
-                let count = before.map_or(0, |found| found.count) + 1;
-                list.insert(key, Found { count, chars, settings: *settings, text: text.into(), details: details() });
-            }
-        }
-    }
-
-    /// Everything that was found, for people. True if nothing is unexplained.
-    pub fn report(&self) -> bool {
-        println!("layouts looked at            {}", self.cases);
-        println!("  in the domain, compared    {}  ({} lines, {} events)", self.compared, self.lines, self.events);
-        println!(
-            "  outside: overflow          {}  (with wrapping arithmetic the same all the same: {})",
-            self.overflow, self.overflow_same
-        );
-        println!("  outside: U+200B in a cut   {}  (by rule 9 as stand-in the same all the same: {})", self.cut, self.cut_same);
-        println!("token lists compared         {}  ({} tokens)", self.token_texts, self.tokens);
-        println!("drawn by the whole text box  {}  (heights compared: {})", self.drawn, self.heights);
-        println!("lent without the guard       {}", self.unguarded);
-        if cfg!(library) {
-            println!(
-                "the library's layouts        {} held to the rules, {} of them to the crate too",
-                self.library, self.library_crate
-            );
-        } else {
-            println!("the library is not linked: the crate was held to the rules alone");
-        }
-        if self.lines > 0 {
-            for (name, ends) in ALIGNMENTS.iter().zip(&self.ends) {
-                println!(
-                    "lines {name:<9}  NewLine {} CarriageReturn {} EndOfText {} LineBreak {}",
-                    ends[0], ends[1], ends[2], ends[3]
-                );
-            }
-            println!("events  space {} printed {} move {}", self.kinds[0], self.kinds[1], self.kinds[2]);
-            println!("lines with a rest {}, with dropped characters {}", self.rests, self.dropped);
-        }
-        for (title, list) in [("explained", &self.explained), ("UNEXPLAINED", &self.unexplained)] {
-            println!("differences, {title}: {}", list.values().map(|found| found.count).sum::<u64>());
-            for (key, found) in list {
-                println!(
-                    "- {key}: {} times, smallest {} at {}",
-                    found.count,
-                    show::text(&found.text),
-                    show::settings(&found.settings, key.contains("height"))
-                );
-                print!("{}", found.details);
-            }
-        }
-        self.unexplained.is_empty()
-    }
-}
-
-/// How much is done with each case besides comparing the layouts.
-#[derive(Clone, Copy)]
-pub struct Depth {
-    /// Draw by the crate's whole text box as well, and compare heights and y.
-    pub whole: bool,
-    /// Lend the case to the crate without the guard, too.
-    pub unguarded: bool,
-}
-
 /// The sides' layouts of one case.
 #[derive(Default)]
 pub struct Sides {
     pub text: model::Text,
     pub krate: Laid,
     pub model: Laid,
-    other: Laid,
-    measure: Vec<Event>,
+    pub other: Laid,
+    pub measure: Vec<Event>,
     crate_tokens: Vec<Token>,
-    model_tokens: Vec<Token>,
+    pub model_tokens: Vec<Token>,
     #[cfg(library)]
-    library: library::Buffers,
+    pub library: library::Library,
 }
 
 const RULES: model::Ways = model::Ways { last_move_unmeasured: false, room_below_zero: false };
@@ -200,58 +86,17 @@ impl Sides {
         self.library_tokens(text, tally);
     }
 
-    /// The library's tokens against the rules' and so, where nothing was noted before, against the crate's.
-    #[cfg(library)]
-    fn library_tokens(&mut self, text: &str, tally: &mut Tally) {
-        let mut found = Vec::new();
-        let answer = self.library.tokens(text, &mut found);
-        if answer.is_err() || found != self.model_tokens {
-            let details = || format!("  library {answer:?} {found:?}\n  rules {:?}\n", self.model_tokens);
-            Tally::note(&mut tally.unexplained, "the library's tokens".into(), &crate::EXAMPLE, text, details);
-        }
-    }
-
-    /// The library's layout against the rules', in the domain or not; and against the crate's in the domain, where it may differ
-    /// only as the rules do.
-    #[cfg(library)]
-    fn library_layout(&mut self, settings: &Settings, text: &str, outside: Outside, tally: &mut Tally) {
-        let answer = self.library.lay(settings, text, &mut self.other);
-        tally.library += 1;
-        let differs = match answer {
-            Ok(()) => difference(&self.other, &self.model).map(str::to_string),
-            Err((number, value)) => Some(format!("refused {number} {value}")),
-        };
-        if let Some(field) = differs {
-            let details = || format!(" library:\n{} rules:\n{}", show::rows(&self.other), show::laid(&self.model));
-            Tally::note(
-                &mut tally.unexplained,
-                format!("the library's layout against the rules: {field}"),
-                settings,
-                text,
-                details,
-            );
-        }
-        if outside == Outside::default() {
-            tally.library_crate += 1;
-            let field = difference(&self.krate, &self.other);
-            if answer.is_ok() && field != difference(&self.krate, &self.model) {
-                let key = format!("the library's layout against the crate: {}", field.unwrap_or("too few differences"));
-                let details = || format!(" crate:\n{} library:\n{}", show::laid(&self.krate), show::rows(&self.other));
-                Tally::note(&mut tally.unexplained, key, settings, text, details);
-            }
-        }
-    }
-
-    /// Lays a text, whose tokens were compared before, by the crate and by the rules, and compares.
-    pub fn layout(&mut self, settings: &Settings, text: &str, depth: Depth, tally: &mut Tally) {
+    /// Lays a text, whose tokens were compared before, on every side, and compares. A deep look takes longer: the crate is also
+    /// lent the case without a guard and draws the whole text box, and heights and y are compared.
+    pub fn layout(&mut self, settings: &Settings, text: &str, deep: bool, tally: &mut Tally) {
         tally.cases += 1;
         let outside = checked::lay(settings, text, true, &mut self.krate);
         model::lay(settings, RULES, &self.text, &mut self.measure, &mut self.model);
 
         #[cfg(library)]
-        self.library_layout(settings, text, outside, tally);
+        self.library_layout(settings, text, deep, outside, tally);
 
-        if depth.unguarded {
+        if deep {
             tally.unguarded += 1;
             let stopped = catch_unwind(AssertUnwindSafe(|| checked::lay(settings, text, false, &mut self.other))).is_err();
             if stopped != outside.overflow {
@@ -279,7 +124,7 @@ impl Sides {
                 let besides = if outside.cut_zero_width { ", U+200B in a cut" } else { "" };
                 self.explain(settings, text, &WAYS[..1], field, besides, tally);
             }
-            if depth.whole {
+            if deep {
                 self.whole(settings, text, tally);
             }
         }
@@ -348,68 +193,6 @@ impl Sides {
                 let cut = if outside.cut_zero_width { " and U+200B in a cut" } else { "" };
                 self.explain(settings, text, &WAYS, field, &format!(", outside the domain by overflow{cut}"), tally);
             }
-        }
-    }
-
-    /// The crate's whole text box must draw what the line by line run gave, and its height is held to rule 11.
-    fn whole(&mut self, settings: &Settings, text: &str, tally: &mut Tally) {
-        let (drawn, height) = checked::draw(settings, text);
-        tally.drawn += 1;
-        let ys = model::places(settings, height, &self.krate.lines);
-        let mut expected = Vec::new();
-        let mut from = 0;
-        for (y, upto) in ys.into_iter().zip(&self.krate.upto) {
-            for event in &self.krate.events[from..*upto as usize] {
-                match event.kind {
-                    SPACE if event.width > 0 => {
-                        expected.push(Drawn { kind: SPACE, address: 0, len: 0, width: event.width, x: event.x, y });
-                    }
-                    PRINTED => {
-                        let (start, end) = (event.start as usize, event.end as usize);
-                        let (address, len) = (text.as_ptr() as usize + start, end - start);
-                        let hyphen = &text[start..end] == "\u{ad}";
-                        let (address, len) = if hyphen { (0, 1) } else { (address, len) };
-                        expected.push(Drawn { kind: PRINTED, address, len, width: 0, x: event.x, y });
-                    }
-                    _ => {}
-                }
-            }
-            from = *upto as usize;
-        }
-        let within = text.as_ptr() as usize..=text.as_ptr() as usize + text.len();
-        let same = drawn.len() == expected.len()
-            && drawn.iter().zip(&expected).all(|(d, e)| {
-                // the crate's own "-" stands anywhere but in the text
-                let own = e.kind == PRINTED && e.address == 0 && !within.contains(&d.address);
-                *d == if own { Drawn { address: d.address, ..*e } } else { *e }
-            });
-        if !same {
-            let details = || format!("  drawn {drawn:?}\n  line by line {expected:?}\n");
-            Tally::note(&mut tally.unexplained, "the whole text box draws otherwise".into(), settings, text, details);
-        }
-
-        tally.heights += 1;
-        let rule = model::height(settings, text.len() as u32, &self.model.lines);
-        let by_measures = model::height_by_measures(settings, &self.text, &mut self.measure);
-        let details = || format!("  height crate {height}, rules {rule}\n{}", self.both());
-        if height != by_measures {
-            Tally::note(
-                &mut tally.unexplained,
-                format!("text height, where {by_measures} was expected"),
-                settings,
-                text,
-                details,
-            );
-        } else if height != rule {
-            let reason = if height == model::height_by_widths(settings, &self.krate.lines) {
-                "a LineBreak before an empty line adds nothing"
-            } else {
-                "the crate's lines of the height are not those that it draws"
-            };
-            let more = if height > rule { "above" } else { "below" };
-            let key =
-                format!("text height (rule 11), {reason}: the crate's is {more}, {}", ALIGNMENTS[settings.alignment as usize]);
-            Tally::note(&mut tally.explained, key, settings, text, details);
         }
     }
 }

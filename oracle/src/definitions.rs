@@ -87,7 +87,7 @@ pub fn write(count: u64, seed: u64) -> bool {
     let mut out = String::from(HEAD);
     for number in 0..count {
         let settings = settings(&mut chance);
-        let text: String = (0..chance.below(10)).map(|_| crate::ALPHABET[chance.below(12) as usize]).collect();
+        let text: String = (0..chance.below(10)).map(|_| crate::runs::ALPHABET[chance.below(12) as usize]).collect();
         apart.take_apart(&text);
         model::lay(&settings, model::Ways::default(), &apart, &mut Vec::new(), &mut rules);
         let outside = checked::lay(&settings, &text, true, &mut krate);

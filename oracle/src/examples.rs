@@ -8,19 +8,24 @@ use embedded_text_checked::plugin::probe as checked;
 use embedded_text_wrapping::plugin::probe as wrapping;
 
 /// Claims that were looked at, and those that do not hold.
-struct Claims {
+pub struct Claims {
     held: u32,
     failed: u32,
 }
 
 impl Claims {
-    fn claim(&mut self, holds: bool, words: impl FnOnce() -> String) {
+    pub fn claim(&mut self, holds: bool, words: impl FnOnce() -> String) {
         if holds {
             self.held += 1;
         } else {
             self.failed += 1;
             println!("MISMATCH {}", words());
         }
+    }
+
+    #[cfg(library)]
+    pub fn equal<T: PartialEq + std::fmt::Debug>(&mut self, words: &str, found: T, expected: T) {
+        self.claim(found == expected, || format!("{words}\n  found    {found:?}\n  expected {expected:?}"));
     }
 }
 
@@ -63,6 +68,8 @@ pub fn run(specs: &str) -> bool {
         ("layouts after the edits in EditExamples.antt", edits),
         ("tokens in SmallExamples.antt", tokens),
         ("heights in SmallExamples.antt", heights),
+        #[cfg(library)]
+        ("the library's calls and their refusals", crate::calls::run),
     ] {
         let mut claims = Claims { held: 0, failed: 0 };
         part(&mut claims, specs);
@@ -96,7 +103,7 @@ fn ten(laid: &Laid) -> Vec<Vec<u32>> {
 #[cfg(library)]
 fn hold_library(claims: &mut Claims, settings: &Settings, text: &str, lines: &[Vec<u32>], events: Option<&[Vec<u32>]>) {
     let mut laid = Laid::default();
-    let answer = crate::library::Buffers::default().lay(settings, text, &mut laid);
+    let answer = crate::library::Library::default().lay(settings, text, &mut laid);
     let (found, drawn) = (ten(&laid), laid.events.iter().map(six).collect::<Vec<_>>());
     claims.claim(answer.is_ok() && found == lines && events.map_or(true, |events| drawn == events), || {
         let name = format!("{} at {}", show::text(text), show::settings(settings, false));

@@ -1,40 +1,10 @@
-//! The library's calls, where it is linked (`--cfg library`): the calls for C, and safe functions over them that give their
-//! answers in the shapes of the other sides.
+//! The library, where it is linked (`--cfg library`): its answers in the shapes of the other sides, and held to them.
 
+use crate::bisquemop::{self, Refusal};
+use crate::compare::{difference, Sides};
+use crate::tally::Tally;
+use crate::{model, show};
 use shape::*;
-
-/// As include/bisquemop.h declares them.
-mod c {
-    extern "C" {
-        pub fn bisquemop_tokens(text: *const u8, len: usize, tokens: *mut u32, tokens_len: usize, value: *mut u64) -> u32;
-
-        pub fn bisquemop_layout_events(
-            glyph: u32,
-            width: u32,
-            tab: u32,
-            spacing: u32,
-            paragraph: u32,
-            base: u32,
-            height: u32,
-            top: i32,
-            alignment: u32,
-            vertical: u32,
-            leading: u32,
-            trailing: u32,
-            text: *const u8,
-            len: usize,
-            table: *mut u32,
-            table_len: usize,
-            events: *mut u32,
-            events_len: usize,
-            value: *mut u64,
-            event_count: *mut u64,
-        ) -> u32;
-    }
-}
-
-/// The number of a refusal, and what goes besides it.
-pub type Refused = (u32, u64);
 
 /// What a buffer holds before a call, so that what a call leaves alone can be seen.
 const UNTOUCHED: u32 = 0xA5A5_A5A5;
@@ -42,18 +12,20 @@ const UNTOUCHED: u32 = 0xA5A5_A5A5;
 /// How many numbers more than it needs each call is lent.
 const SPARE: usize = 8;
 
-/// The numbers that the calls write.
+/// The buffers that are lent to the calls.
 #[derive(Default)]
-pub struct Buffers {
+pub struct Library {
     table: Vec<u32>,
     events: Vec<u32>,
+    again: Vec<u32>,
+    lines: u64,
 }
 
-/// A buffer of some numbers, and a few more that no call may touch.
-fn lend(buffer: &mut Vec<u32>, numbers: usize) -> (*mut u32, usize) {
+/// A buffer that has room for some numbers and a few more, none of them written.
+fn fresh(buffer: &mut Vec<u32>, numbers: usize) -> &mut [u32] {
     buffer.clear();
     buffer.resize(numbers + SPARE, UNTOUCHED);
-    (buffer.as_mut_ptr(), numbers)
+    buffer
 }
 
 /// The rows that a call wrote; nothing after them may have changed.
@@ -63,57 +35,23 @@ fn rows(buffer: &[u32], rows: u64, numbers: usize) -> std::slice::ChunksExact<'_
     written.chunks_exact(numbers)
 }
 
-impl Buffers {
-    /// The library's tokens.
-    pub fn tokens(&mut self, text: &str, found: &mut Vec<Token>) -> Result<(), Refused> {
-        let mut value = 0;
-        let (tokens, tokens_len) = lend(&mut self.table, 4 * text.len());
-        // SAFETY: the text is lent for reading, and the buffer has `tokens_len` numbers; neither overlaps the other.
-        let number = unsafe { c::bisquemop_tokens(text.as_ptr(), text.len(), tokens, tokens_len, &mut value) };
-        if number != 0 {
-            return Err((number, value));
-        }
+impl Library {
+    pub fn tokens(&mut self, text: &str, found: &mut Vec<Token>) -> Result<(), Refusal> {
+        let count = bisquemop::tokens(text.as_bytes(), fresh(&mut self.table, 4 * text.len()))?;
         found.clear();
-        found.extend(rows(&self.table, value, 4).map(|n| Token { kind: n[0], start: n[1], end: n[2], count: n[3] }));
+        found.extend(rows(&self.table, count, 4).map(|n| Token { kind: n[0], start: n[1], end: n[2], count: n[3] }));
         Ok(())
     }
 
-    /// The library's layout, with all ten numbers of each line.
-    pub fn lay(&mut self, s: &Settings, text: &str, laid: &mut Laid) -> Result<(), Refused> {
+    /// A layout with all ten numbers of each line, and the events.
+    pub fn lay(&mut self, settings: &Settings, text: &str, laid: &mut Laid) -> Result<(), Refusal> {
         laid.clear();
-        let (mut value, mut event_count) = (0, 0);
         // A line takes a character, but the last; and a character makes at most two events.
-        let (table, table_len) = lend(&mut self.table, 10 * (text.len() + 2));
-        let (events, events_len) = lend(&mut self.events, 6 * (2 * text.len() + 2));
-        // SAFETY: the text is lent for reading, and the buffers have as many numbers as is said; nothing overlaps.
-        let number = unsafe {
-            c::bisquemop_layout_events(
-                s.glyph,
-                s.width,
-                s.tab,
-                s.spacing,
-                s.paragraph,
-                s.base,
-                s.height,
-                s.top,
-                s.alignment,
-                s.vertical,
-                s.leading,
-                s.trailing,
-                text.as_ptr(),
-                text.len(),
-                table,
-                table_len,
-                events,
-                events_len,
-                &mut value,
-                &mut event_count,
-            )
-        };
-        if number != 0 {
-            return Err((number, value));
-        }
-        for n in rows(&self.table, value, 10) {
+        let table = fresh(&mut self.table, 10 * (text.len() + 1));
+        let events = fresh(&mut self.events, 6 * (2 * text.len() + 2));
+        let (lines, event_count) = bisquemop::layout_events(settings, text.as_bytes(), table, events)?;
+        self.lines = lines;
+        for n in rows(&self.table, lines, 10) {
             laid.lines.push(Line {
                 start: n[0],
                 rest_end: n[1],
@@ -130,5 +68,86 @@ impl Buffers {
             laid.events.push(Event { kind: n[0], start: n[1], end: n[2], count: n[3], width: n[4], x: n[5] as i32 });
         }
         Ok(())
+    }
+
+    /// Whether the call without events writes the table of the last layout.
+    pub fn lays_the_same(&mut self, settings: &Settings, text: &str) -> bool {
+        let answer = bisquemop::layout(settings, text.as_bytes(), fresh(&mut self.again, 10 * (text.len() + 1)));
+        answer == Ok(self.lines) && self.again == self.table
+    }
+
+    /// The height of the last layout.
+    pub fn height(&self, settings: &Settings) -> Result<u64, Refusal> {
+        bisquemop::height(settings, &self.table, self.lines)
+    }
+
+    /// Each line's y in the last layout, and whether it shows.
+    #[cfg(has_line_y)]
+    pub fn places(&self, settings: &Settings) -> Result<Vec<(i32, bool)>, Refusal> {
+        let mut places = Vec::new();
+        while let Some(place) = bisquemop::line_y(settings, &self.table, self.lines, places.len() as u64)? {
+            places.push((place.y, place.shows));
+        }
+        Ok(places)
+    }
+}
+
+impl Sides {
+    /// The library's tokens against the rules' and so, where nothing was noted before, against the crate's.
+    pub fn library_tokens(&mut self, text: &str, tally: &mut Tally) {
+        let mut found = Vec::new();
+        let answer = self.library.tokens(text, &mut found);
+        if answer.is_err() || found != self.model_tokens {
+            let details = || format!("  library {answer:?} {found:?}\n  rules {:?}\n", self.model_tokens);
+            Tally::note(&mut tally.unexplained, "the library's tokens".into(), &crate::EXAMPLE, text, details);
+        }
+    }
+
+    /// The library's layout against the rules', in the domain or not; and against the crate's in the domain, where it may differ
+    /// only as the rules do.
+    pub fn library_layout(&mut self, settings: &Settings, text: &str, deep: bool, outside: Outside, tally: &mut Tally) {
+        let answer = self.library.lay(settings, text, &mut self.other);
+        tally.library += 1;
+        let differs = match answer {
+            Ok(()) => difference(&self.other, &self.model).map(str::to_string),
+            Err(refusal) => Some(format!("refused, {refusal:?}")),
+        };
+        if let Some(field) = differs {
+            let key = format!("the library's layout against the rules: {field}");
+            let details = || format!(" library:\n{} rules:\n{}", show::rows(&self.other), show::laid(&self.model));
+            Tally::note(&mut tally.unexplained, key, settings, text, details);
+            return;
+        }
+        if outside == Outside::default() {
+            tally.library_crate += 1;
+            let field = difference(&self.krate, &self.other);
+            if field != difference(&self.krate, &self.model) {
+                let key = format!("the library's layout against the crate: {}", field.unwrap_or("too few differences"));
+                let details = || format!(" crate:\n{} library:\n{}", show::laid(&self.krate), show::rows(&self.other));
+                Tally::note(&mut tally.unexplained, key, settings, text, details);
+            }
+        }
+        if deep {
+            self.library_places(settings, text, tally);
+        }
+    }
+
+    /// The table without events, the height, and each line's y and whether it shows, of the layout just compared.
+    fn library_places(&mut self, settings: &Settings, text: &str, tally: &mut Tally) {
+        tally.library_places += 1;
+        let mut hold = |same: bool, what: &str| {
+            if !same {
+                Tally::note(&mut tally.unexplained, format!("the library's {what}"), settings, text, String::new);
+            }
+        };
+        hold(self.library.lays_the_same(settings, text), "layout without events");
+        let height = model::height(settings, text.len() as u32, &self.model.lines);
+        hold(self.library.height(settings) == Ok(height.into()), "height");
+        #[cfg(has_line_y)]
+        {
+            let ys = model::places(settings, height, &self.model.lines);
+            let places = ys.iter().map(|&y| (y, model::shows(settings, y))).collect();
+            hold(self.library.places(settings) == Ok(places), "y, or whether a line shows");
+        }
     }
 }

@@ -4,7 +4,8 @@
 //! events of it, each list after its length. Only cases in the domain of the comparison are recorded, and of them only those in
 //! which the crate does what the scope says; the others are counted by reason.
 
-use crate::{compare, model, random, spread, ALPHABET, EXAMPLE};
+use crate::runs::{spread, ALPHABET};
+use crate::{compare, model, random, EXAMPLE};
 use shape::*;
 use std::collections::HashSet;
 use std::fmt::Write;

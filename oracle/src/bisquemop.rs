@@ -1,0 +1,239 @@
+//! The library's calls, safe: every call of include/bisquemop.h over slices, with its answer as a `Result`. Nothing else in the
+//! program is `unsafe`.
+
+#![allow(unsafe_code)]
+
+use shape::Settings;
+
+/// Why a call refused what it was given, with what goes besides the number.
+#[derive(Clone, Copy, Debug, PartialEq, Eq)]
+pub enum Refusal {
+    /// 1.
+    SettingOutOfRange,
+    /// 2, and the number that was given.
+    UnknownAlignment(u64),
+    /// 3, and the length of the text.
+    TextTooLong(u64),
+    /// 4, and the length of the longest valid prefix.
+    NotUtf8(u64),
+    /// 5, and the first bad line.
+    BadLine(u64),
+    /// 6.
+    BadEdit,
+    /// 7, and the line.
+    LineTakesNothing(u64),
+    /// 8, and how many entries the first buffer that is too small needs.
+    TooSmall(u64),
+}
+
+/// The old text's bytes from `a` up to `b` are replaced by `inserted` new ones.
+#[derive(Clone, Copy, Debug, PartialEq, Eq)]
+pub struct Edit {
+    pub a: u32,
+    pub b: u32,
+    pub inserted: u32,
+}
+
+/// What laying again answers: how many lines there are now, and how many of them were laid.
+#[derive(Clone, Copy, Debug, PartialEq, Eq)]
+pub struct Again {
+    pub lines: u64,
+    pub laid: u64,
+}
+
+/// Where a line stands, and whether it shows.
+#[derive(Clone, Copy, Debug, PartialEq, Eq)]
+pub struct Place {
+    pub y: i32,
+    pub shows: bool,
+}
+
+/// The calls as the header declares them. The twelve settings come first, where a call has them.
+mod c {
+    macro_rules! with_settings {
+        ($($name:ident($($more:tt)*);)*) => {
+            extern "C" {
+                $(pub fn $name(
+                    glyph: u32, width: u32, tab: u32, spacing: u32, paragraph: u32, base: u32, height: u32, top: i32,
+                    alignment: u32, vertical: u32, leading: u32, trailing: u32, $($more)*
+                ) -> u32;)*
+            }
+        };
+    }
+
+    with_settings! {
+        bisquemop_check_settings(value: *mut u64);
+        bisquemop_layout(text: *const u8, len: usize, table: *mut u32, table_len: usize, value: *mut u64);
+        bisquemop_layout_events(
+            text: *const u8, len: usize, table: *mut u32, table_len: usize, events: *mut u32, events_len: usize,
+            value: *mut u64, event_count: *mut u64
+        );
+        bisquemop_lay_again(
+            part: *const u8, len: usize, table: *mut u32, table_len: usize, lines: u64, a: u32, b: u32, inserted: u32,
+            value: *mut u64, laid: *mut u64
+        );
+        bisquemop_height(table: *const u32, table_len: usize, lines: u64, value: *mut u64);
+        bisquemop_line_y(
+            table: *const u32, table_len: usize, lines: u64, line: u64, value: *mut u64, y: *mut i32
+        );
+    }
+
+    extern "C" {
+        pub fn bisquemop_check_text(text: *const u8, len: usize, value: *mut u64) -> u32;
+        pub fn bisquemop_tokens(text: *const u8, len: usize, tokens: *mut u32, tokens_len: usize, value: *mut u64) -> u32;
+        pub fn bisquemop_first_affected(
+            table: *const u32,
+            table_len: usize,
+            lines: u64,
+            a: u32,
+            b: u32,
+            inserted: u32,
+            value: *mut u64,
+        ) -> u32;
+    }
+}
+
+/// A call that has the twelve settings.
+macro_rules! call {
+    ($name:ident, $s:expr $(, $more:expr)*) => {
+        c::$name(
+            $s.glyph, $s.width, $s.tab, $s.spacing, $s.paragraph, $s.base, $s.height, $s.top, $s.alignment, $s.vertical, $s.leading,
+            $s.trailing $(, $more)*
+        )
+    };
+}
+
+/// The value that a call is done with, or its refusal.
+fn answer(number: u32, value: u64) -> Result<u64, Refusal> {
+    let refusal = match number {
+        0 => return Ok(value),
+        1 if value == 0 => Refusal::SettingOutOfRange,
+        2 => Refusal::UnknownAlignment(value),
+        3 => Refusal::TextTooLong(value),
+        4 => Refusal::NotUtf8(value),
+        5 => Refusal::BadLine(value),
+        6 if value == 0 => Refusal::BadEdit,
+        7 => Refusal::LineTakesNothing(value),
+        8 => Refusal::TooSmall(value),
+        _ => panic!("the library answered {number} and {value}, which is no refusal"),
+    };
+    Err(refusal)
+}
+
+/// The same for a call that is done with 0.
+fn nothing(number: u32, value: u64) -> Result<(), Refusal> {
+    answer(number, value).map(|value| assert_eq!(value, 0, "the library is done with a value"))
+}
+
+/// The same for a call that writes a second number, which it must write when it is done and then only. It held `UNWRITTEN`.
+fn with<T: PartialEq>(number: u32, value: u64, second: T, unwritten: T) -> Result<(u64, T), Refusal> {
+    assert!((number == 0) == (second != unwritten), "the library wrote a number that it should not, or did not write it");
+    answer(number, value).map(|value| (value, second))
+}
+
+/// What a second number holds before a call. None of them is ever as large.
+const UNWRITTEN: u64 = u64::MAX;
+const NO_PLACE: i32 = i32::MIN;
+
+pub fn check_settings(settings: &Settings) -> Result<(), Refusal> {
+    let mut value = 0;
+    // SAFETY: only numbers and a number of ours to write are lent.
+    let number = unsafe { call!(bisquemop_check_settings, settings, &mut value) };
+    nothing(number, value)
+}
+
+pub fn check_text(text: &[u8]) -> Result<(), Refusal> {
+    let mut value = 0;
+    // SAFETY: the pointer and the length are those of a slice that is lent for reading.
+    let number = unsafe { c::bisquemop_check_text(text.as_ptr(), text.len(), &mut value) };
+    nothing(number, value)
+}
+
+/// How many tokens were written, four numbers each.
+pub fn tokens(text: &[u8], tokens: &mut [u32]) -> Result<u64, Refusal> {
+    let mut value = 0;
+    // SAFETY: pointers and lengths are those of two slices, one lent for reading and one for writing, which cannot overlap.
+    let number = unsafe { c::bisquemop_tokens(text.as_ptr(), text.len(), tokens.as_mut_ptr(), tokens.len(), &mut value) };
+    answer(number, value)
+}
+
+/// How many lines were written, ten numbers each.
+pub fn layout(settings: &Settings, text: &[u8], table: &mut [u32]) -> Result<u64, Refusal> {
+    let mut value = 0;
+    // SAFETY: pointers and lengths are those of two slices, one lent for reading and one for writing, which cannot overlap.
+    let number =
+        unsafe { call!(bisquemop_layout, settings, text.as_ptr(), text.len(), table.as_mut_ptr(), table.len(), &mut value) };
+    answer(number, value)
+}
+
+/// How many lines were written, ten numbers each, and how many events, six numbers each.
+pub fn layout_events(settings: &Settings, text: &[u8], table: &mut [u32], events: &mut [u32]) -> Result<(u64, u64), Refusal> {
+    let (mut value, mut count) = (0, UNWRITTEN);
+    // SAFETY: pointers and lengths are those of three slices, one lent for reading and two for writing, which cannot overlap.
+    let number = unsafe {
+        call!(
+            bisquemop_layout_events,
+            settings,
+            text.as_ptr(),
+            text.len(),
+            table.as_mut_ptr(),
+            table.len(),
+            events.as_mut_ptr(),
+            events.len(),
+            &mut value,
+            &mut count
+        )
+    };
+    with(number, value, count, UNWRITTEN)
+}
+
+/// The first line that an edit affects.
+pub fn first_affected(table: &[u32], lines: u64, edit: Edit) -> Result<u64, Refusal> {
+    let mut value = 0;
+    // SAFETY: the pointer and the length are those of a slice that is lent for reading.
+    let number =
+        unsafe { c::bisquemop_first_affected(table.as_ptr(), table.len(), lines, edit.a, edit.b, edit.inserted, &mut value) };
+    answer(number, value)
+}
+
+/// Lays again after an edit, lent the new text from the first affected line's start on.
+pub fn lay_again(settings: &Settings, part: &[u8], table: &mut [u32], lines: u64, edit: Edit) -> Result<Again, Refusal> {
+    let (mut value, mut laid) = (0, UNWRITTEN);
+    // SAFETY: pointers and lengths are those of two slices, one lent for reading and one for writing, which cannot overlap.
+    let number = unsafe {
+        call!(
+            bisquemop_lay_again,
+            settings,
+            part.as_ptr(),
+            part.len(),
+            table.as_mut_ptr(),
+            table.len(),
+            lines,
+            edit.a,
+            edit.b,
+            edit.inserted,
+            &mut value,
+            &mut laid
+        )
+    };
+    with(number, value, laid, UNWRITTEN).map(|(lines, laid)| Again { lines, laid })
+}
+
+/// The height of a laid text.
+pub fn height(settings: &Settings, table: &[u32], lines: u64) -> Result<u64, Refusal> {
+    let mut value = 0;
+    // SAFETY: the pointer and the length are those of a slice that is lent for reading.
+    let number = unsafe { call!(bisquemop_height, settings, table.as_ptr(), table.len(), lines, &mut value) };
+    answer(number, value)
+}
+
+/// Where a line of a laid text stands; none if there is no such line.
+pub fn line_y(settings: &Settings, table: &[u32], lines: u64, line: u64) -> Result<Option<Place>, Refusal> {
+    let (mut value, mut y) = (0, NO_PLACE);
+    // SAFETY: the pointer and the length are those of a slice that is lent for reading.
+    let number = unsafe { call!(bisquemop_line_y, settings, table.as_ptr(), table.len(), lines, line, &mut value, &mut y) };
+    let found = answer(number, value)?;
+    assert!(found <= 2, "the library answered {found} for a line's place");
+    assert!((found == 2) == (y == NO_PLACE), "the library wrote a y that it should not, or did not write it");
+    Ok((found < 2).then_some(Place { y, shows: found == 1 }))
+}

@@ -1,0 +1,154 @@
+//! Each call of the library by itself, where it is linked: what it answers when done, and every refusal that it has, after which
+//! all that was lent holds what it held.
+
+use crate::bisquemop::{self, Edit, Refusal};
+use crate::examples::Claims;
+use crate::EXAMPLE;
+use shape::Settings;
+
+const UNTOUCHED: u32 = 7;
+
+/// What a call answers over a buffer of some numbers, and whether it left the buffer alone.
+fn lent<T>(numbers: usize, call: impl FnOnce(&mut [u32]) -> T) -> (T, bool) {
+    let mut buffer = vec![UNTOUCHED; numbers];
+    let answer = call(&mut buffer);
+    (answer, buffer.iter().all(|&n| n == UNTOUCHED))
+}
+
+/// Settings and a text that a call must refuse, and how.
+fn refused() -> Vec<(Settings, Vec<u8>, Refusal)> {
+    let good = b"ab cde".to_vec();
+    let long = vec![b'a'; 65_536];
+    let bad = b"ab\xff".to_vec();
+    vec![
+        (Settings { glyph: 0, ..EXAMPLE }, good.clone(), Refusal::SettingOutOfRange),
+        (Settings { glyph: 65, alignment: 9, ..EXAMPLE }, long.clone(), Refusal::SettingOutOfRange),
+        (Settings { top: -4097, ..EXAMPLE }, good.clone(), Refusal::SettingOutOfRange),
+        (Settings { alignment: 4, vertical: 3, ..EXAMPLE }, bad.clone(), Refusal::UnknownAlignment(4)),
+        (Settings { vertical: 3, ..EXAMPLE }, good, Refusal::UnknownAlignment(3)),
+        (EXAMPLE, long, Refusal::TextTooLong(65_536)),
+        (EXAMPLE, bad, Refusal::NotUtf8(2)),
+    ]
+}
+
+/// The table of a text that surely has room.
+fn table_of(settings: &Settings, text: &str) -> (Vec<u32>, u64) {
+    let mut table = vec![UNTOUCHED; 10 * (text.len() + 1)];
+    let lines = bisquemop::layout(settings, text.as_bytes(), &mut table).expect("a good text and good settings");
+    (table, lines)
+}
+
+pub fn run(claims: &mut Claims, _specs: &str) {
+    checks(claims);
+    layouts(claims);
+    tables(claims);
+    #[cfg(has_lay_again)]
+    again(claims);
+    #[cfg(has_line_y)]
+    places(claims);
+}
+
+fn checks(claims: &mut Claims) {
+    claims.equal("check_settings of good ones", bisquemop::check_settings(&EXAMPLE), Ok(()));
+    claims.equal("check_text of a good one", bisquemop::check_text("é漢😀".as_bytes()), Ok(()));
+    claims.equal("check_text of none", bisquemop::check_text(b""), Ok(()));
+    for (settings, text, refusal) in refused() {
+        if matches!(refusal, Refusal::SettingOutOfRange | Refusal::UnknownAlignment(_)) {
+            claims.equal("check_settings", bisquemop::check_settings(&settings), Err(refusal));
+        } else {
+            claims.equal("check_text", bisquemop::check_text(&text), Err(refusal));
+            claims.equal("tokens", lent(400, |tokens| bisquemop::tokens(&text, tokens)), (Err(refusal), true));
+        }
+    }
+    claims.equal("tokens", lent(12, |tokens| bisquemop::tokens(b"ab cde", tokens)), (Ok(3), false));
+    let small = lent(11, |tokens| bisquemop::tokens(b"ab cde", tokens));
+    claims.equal("tokens in too small a buffer", small, (Err(Refusal::TooSmall(3)), true));
+}
+
+fn layouts(claims: &mut Claims) {
+    for (settings, text, refusal) in refused() {
+        let found = lent(400, |table| bisquemop::layout(&settings, &text, table));
+        claims.equal("layout", found, (Err(refusal), true));
+        let found = lent(400, |table| lent(400, |events| bisquemop::layout_events(&settings, &text, table, events)));
+        claims.equal("layout_events", found, ((Err(refusal), true), true));
+    }
+    // Two lines and three events: 20 numbers and 18.
+    let text = b"ab cde";
+    claims.equal("layout", lent(20, |table| bisquemop::layout(&EXAMPLE, text, table)), (Ok(2), false));
+    let small = lent(19, |table| bisquemop::layout(&EXAMPLE, text, table));
+    claims.equal("layout in too small a table", small, (Err(Refusal::TooSmall(2)), true));
+    let with_events =
+        |lines, drawn| lent(lines, |table| lent(drawn, |events| bisquemop::layout_events(&EXAMPLE, text, table, events)));
+    claims.equal("layout_events", with_events(20, 18), ((Ok((2, 3)), false), false));
+    claims.equal("layout_events in too small a table", with_events(19, 0), ((Err(Refusal::TooSmall(2)), true), true));
+    claims.equal("layout_events in too small a buffer", with_events(20, 17), ((Err(Refusal::TooSmall(3)), true), true));
+}
+
+fn tables(claims: &mut Claims) {
+    let (table, lines) = table_of(&EXAMPLE, "aa\nbb\ncc");
+    let edit = |a, b, inserted| Edit { a, b, inserted };
+    let affected = |lines, edit| bisquemop::first_affected(&table, lines, edit);
+    claims.equal("first_affected, the scope's example", affected(lines, edit(3, 3, 1)), Ok(1));
+    claims.equal("first_affected of no line", affected(0, edit(3, 3, 1)), Err(Refusal::BadLine(0)));
+    claims.equal("first_affected of a part of the lines", affected(2, edit(3, 3, 1)), Err(Refusal::BadLine(1)));
+    claims.equal("first_affected of an edit turned round", affected(lines, edit(4, 3, 1)), Err(Refusal::BadEdit));
+    claims.equal("first_affected of an edit past the end", affected(lines, edit(3, 9, 1)), Err(Refusal::BadEdit));
+    let long = affected(lines, edit(3, 3, 65_535));
+    claims.equal("first_affected of a long edit", long, Err(Refusal::TextTooLong(65_543)));
+    let (one, count) = table_of(&EXAMPLE, "ab cde");
+    claims.equal("first_affected, the scope's last example", bisquemop::first_affected(&one, count, edit(5, 6, 0)), Ok(0));
+
+    claims.equal("height", bisquemop::height(&EXAMPLE, &table, lines), Ok(8 + 2 * (10 + 3)));
+    claims.equal("height of no line", bisquemop::height(&EXAMPLE, &table, 0), Err(Refusal::BadLine(0)));
+    let bad = Settings { base: 0, ..EXAMPLE };
+    claims.equal("height at a bad setting", bisquemop::height(&bad, &table, lines), Err(Refusal::SettingOutOfRange));
+    let bad = Settings { vertical: 3, ..EXAMPLE };
+    claims.equal("height at an unknown alignment", bisquemop::height(&bad, &table, 0), Err(Refusal::UnknownAlignment(3)));
+}
+
+/// The scope's example of laying again, and the refusals of it.
+#[cfg(has_lay_again)]
+fn again(claims: &mut Claims) {
+    let (table, lines) = table_of(&EXAMPLE, "aa\nbb\ncc");
+    let edit = Edit { a: 3, b: 3, inserted: 1 };
+    let mut laid = table.clone();
+    let answer = bisquemop::lay_again(&EXAMPLE, b"xbb\ncc", &mut laid, lines, edit);
+    claims.equal("lay_again, the scope's example", answer, Ok(bisquemop::Again { lines: 3, laid: 1 }));
+    let starts: Vec<u32> = laid.chunks_exact(10).take(3).map(|line| line[0]).collect();
+    claims.equal("lay_again, the scope's example: starts", starts, vec![0, 3, 7]);
+
+    let mut refuse = |words, settings: &Settings, part: &[u8], room: usize, lines, edit, refusal| {
+        let mut lent = table[..10 * room].to_vec();
+        let answer = bisquemop::lay_again(settings, part, &mut lent, lines, edit);
+        claims.equal(words, (answer, lent == table[..10 * room]), (Err(refusal), true));
+    };
+    let bad = Settings { tab: 4097, ..EXAMPLE };
+    refuse("lay_again at a bad setting", &bad, b"xbb\ncc", 9, lines, edit, Refusal::SettingOutOfRange);
+    let bad = Settings { alignment: 4, ..EXAMPLE };
+    refuse("lay_again at an unknown alignment", &bad, b"xbb\ncc", 9, lines, edit, Refusal::UnknownAlignment(4));
+    refuse("lay_again with a part that is not UTF-8", &EXAMPLE, b"x\xffb\ncc", 9, lines, edit, Refusal::NotUtf8(1));
+    refuse("lay_again with a part that is too short", &EXAMPLE, b"xbb\nc", 9, lines, edit, Refusal::BadEdit);
+    refuse("lay_again with no line", &EXAMPLE, b"xbb\ncc", 9, 0, edit, Refusal::BadLine(0));
+    let turned = Edit { a: 4, ..edit };
+    refuse("lay_again with an edit turned round", &EXAMPLE, b"xbb\ncc", 9, lines, turned, Refusal::BadEdit);
+    // A line more, and no room for it.
+    refuse("lay_again in too small a table", &EXAMPLE, b"\nbb\ncc", 3, lines, edit, Refusal::TooSmall(4));
+}
+
+#[cfg(has_line_y)]
+fn places(claims: &mut Claims) {
+    let (table, lines) = table_of(&EXAMPLE, "aa\nbb\ncc");
+    let place = |line| bisquemop::line_y(&EXAMPLE, &table, lines, line);
+    let at = |y, shows| Ok(Some(bisquemop::Place { y, shows }));
+    claims.equal("line_y of the first line", place(0), at(-5, true));
+    claims.equal("line_y of the second line", place(1), at(8, true));
+    claims.equal("line_y of the third line", place(2), at(21, true));
+    claims.equal("line_y of no line", place(3), Ok(None));
+    let low = Settings { height: 33, ..EXAMPLE };
+    claims.equal("line_y of a line that is cut off", bisquemop::line_y(&low, &table, lines, 2), {
+        Ok(Some(bisquemop::Place { y: 21, shows: false }))
+    });
+    claims.equal("line_y in no table", bisquemop::line_y(&EXAMPLE, &[], 0, 0), Err(Refusal::BadLine(0)));
+    let bad = Settings { base: 0, ..EXAMPLE };
+    claims.equal("line_y at a bad setting", bisquemop::line_y(&bad, &table, lines, 0), Err(Refusal::SettingOutOfRange));
+}

@@ -1,0 +1,193 @@
+//! Edits by chance, where the library is linked: laying again is held to the layout of the new text, entry by entry.
+
+use crate::bisquemop::{self, Again, Edit, Refusal};
+use crate::runs::Progress;
+use crate::tally::Tally;
+use crate::{model, random, show};
+use shape::*;
+
+/// A line of a table.
+type Entry = [u32; 10];
+
+const START: usize = 0;
+const REST_END: usize = 1;
+const REST_COUNT: usize = 2;
+const REACH: usize = 9;
+
+/// What stands in a table past its lines.
+const UNTOUCHED: u32 = 0xA5A5_A5A5;
+
+/// A laid text, and the room that its table has.
+struct Page {
+    settings: Settings,
+    text: String,
+    table: Vec<u32>,
+    lines: u64,
+}
+
+impl Page {
+    fn lay(settings: Settings, text: String, room: usize) -> Self {
+        let mut table = vec![UNTOUCHED; 10 * room];
+        let lines = bisquemop::layout(&settings, text.as_bytes(), &mut table).expect("a good text, good settings and room");
+        Page { settings, text, table, lines }
+    }
+
+    fn entries(&self) -> Vec<Entry> {
+        let rows = self.table.chunks_exact(10).take(self.lines as usize);
+        rows.map(|row| row.try_into().expect("ten numbers")).collect()
+    }
+}
+
+/// An edit of a text, and what it puts in.
+struct Change {
+    edit: Edit,
+    new: String,
+}
+
+/// Any place between two characters, ends included.
+fn boundary(chance: &mut random::Chance, text: &str) -> usize {
+    let mut at = chance.below(text.len() as u32 + 1) as usize;
+    while !text.is_char_boundary(at) {
+        at -= 1;
+    }
+    at
+}
+
+/// A change by chance: mostly a character or two typed or deleted, sometimes a stretch replaced.
+fn change(chance: &mut random::Chance, old: &str) -> Change {
+    let from = boundary(chance, old);
+    let few = |chance: &mut random::Chance| old[from..].chars().take(chance.below(3) as usize).map(char::len_utf8).sum::<usize>();
+    let to = match chance.below(4) {
+        0 => from,
+        1 | 2 => from + few(chance),
+        _ => boundary(chance, old).max(from),
+    };
+    let mut inserted = String::new();
+    match chance.below(4) {
+        0 => {}
+        1 | 2 => random::text_upto(chance, 4, &mut inserted),
+        _ => random::text(chance, &mut inserted),
+    }
+    let new = [&old[..from], &inserted, &old[to..]].concat();
+    Change { edit: Edit { a: from as u32, b: to as u32, inserted: inserted.len() as u32 }, new }
+}
+
+/// "Laying again": how many lines are laid until the start and the rest of the next one are those of an old line with start >= b,
+/// all moved; or to the end.
+fn laid_until(old: &[Entry], new: &[Entry], first: usize, edit: Edit) -> u64 {
+    let moved = |offset: u32| offset - edit.b + edit.a + edit.inserted;
+    let meets = |line: &Entry| {
+        old.iter().filter(|entry| entry[START] >= edit.b).any(|entry| {
+            let rest_end = if entry[REST_END] == 0 { 0 } else { moved(entry[REST_END]) };
+            (line[START], line[REST_END], line[REST_COUNT]) == (moved(entry[START]), rest_end, entry[REST_COUNT])
+        })
+    };
+    new[first..].iter().position(meets).unwrap_or(new.len() - first) as u64
+}
+
+/// What was found over many edits.
+#[derive(Default)]
+struct Found {
+    edits: u64,
+    lines: u64,
+    laid: u64,
+    kept: u64,
+    moved: u64,
+    refused: u64,
+}
+
+/// Holds one edit to the layout of the new text. Says what is wrong, if anything is.
+fn hold(page: &mut Page, change: Change, found: &mut Found) -> Result<(), String> {
+    let Change { edit, new } = change;
+    let (old, lines) = (page.entries(), page.lines);
+    let fresh = Page::lay(page.settings, new, page.table.len() / 10);
+    let expected = fresh.entries();
+
+    let first = old.iter().position(|entry| entry[REACH] > edit.a).expect("the last reach is past every edit");
+    let affected = bisquemop::first_affected(&page.table, lines, edit);
+    if affected != Ok(first as u64) {
+        return Err(format!("the first affected line is {affected:?}, and not {first}"));
+    }
+    let part = &fresh.text.as_bytes()[old[first][START] as usize..];
+
+    // A refusal writes nothing: a part that ends too soon or too late, and a table without room for the last line.
+    let before = page.table.clone();
+    let short = if part.is_empty() { b"a" } else { &part[1..] };
+    let answer = bisquemop::lay_again(&page.settings, short, &mut page.table, lines, edit);
+    if !matches!(answer, Err(Refusal::BadEdit | Refusal::NotUtf8(_))) || page.table != before {
+        return Err(format!("a part of a wrong length is answered {answer:?}"));
+    }
+    if expected.len() > old.len() {
+        let room = 10 * (expected.len() - 1);
+        let answer = bisquemop::lay_again(&page.settings, part, &mut page.table[..room], lines, edit);
+        if answer != Err(Refusal::TooSmall(expected.len() as u64)) || page.table != before {
+            return Err(format!("too small a table is answered {answer:?}"));
+        }
+        found.refused += 1;
+    }
+
+    let laid = laid_until(&old, &expected, first, edit);
+    let answer = bisquemop::lay_again(&page.settings, part, &mut page.table, lines, edit);
+    if answer != Ok(Again { lines: fresh.lines, laid }) {
+        return Err(format!("laying again answers {answer:?}, and not {} lines, {laid} laid", fresh.lines));
+    }
+    let count = 10 * expected.len();
+    if page.table[..count] != fresh.table[..count] {
+        return Err(format!("laying again writes {:?}, and not {expected:?}", &page.table[..count]));
+    }
+    if page.table[count..] != before[count..] {
+        return Err("entries past the new count do not hold what they held".into());
+    }
+    found.edits += 1;
+    found.lines += fresh.lines;
+    found.laid += laid;
+    found.kept += first as u64;
+    found.moved += fresh.lines - first as u64 - laid;
+    page.text = fresh.text;
+    page.lines = fresh.lines;
+    Ok(())
+}
+
+/// How many edits each text goes through.
+const EDITS: u64 = 8;
+
+/// Texts and settings by chance, each text edited some times over. True if all that was laid again is the layout of the new text.
+pub fn run(count: u64, seed: u64) -> bool {
+    println!("{count} edits by chance, seed {seed}");
+    let mut chance = random::Chance(seed);
+    let (mut found, mut tally, mut progress) = (Found::default(), Tally::default(), Progress::new());
+    let mut text = String::new();
+    let mut apart = model::Text::default();
+    let (mut measure, mut rules) = (Vec::new(), Laid::default());
+    while found.edits < count && tally.unexplained.is_empty() {
+        random::text(&mut chance, &mut text);
+        let settings = random::settings(&mut chance);
+        // Room for the text and all that the edits can put in.
+        let mut page = Page::lay(settings, text.clone(), text.len() + 1 + EDITS as usize * 1600);
+        for _ in 0..EDITS {
+            let change = change(&mut chance, &page.text);
+            let (old, edit, new) = (page.text.clone(), change.edit, change.new.clone());
+            if let Err(words) = hold(&mut page, change, &mut found) {
+                let details = || format!("  {edit:?} to {}\n  {words}\n", show::text(&new));
+                Tally::note(&mut tally.unexplained, "laying again".into(), &settings, &old, details);
+                break;
+            }
+            tally.cases += 1;
+        }
+        // The text that all the edits came to, by the rules.
+        apart.take_apart(&page.text);
+        model::lay(&settings, model::Ways::default(), &apart, &mut measure, &mut rules);
+        let both = rules.lines.iter().zip(&rules.extents);
+        let by_rules = both.map(|(l, e)| {
+            [l.start, l.rest_end, l.rest_count, l.end, l.left as u32, l.space, l.extra, l.width, e.dropped, e.reach]
+        });
+        if tally.unexplained.is_empty() && !by_rules.eq(page.entries()) {
+            Tally::note(&mut tally.unexplained, "the edited text".into(), &settings, &page.text, || show::laid(&rules));
+        }
+        progress.tell(found.edits, count, &tally);
+    }
+    println!("edits laid again             {}  ({} lines of the new texts)", found.edits, found.lines);
+    println!("  lines kept, laid, moved    {} {} {}", found.kept, found.laid, found.moved);
+    println!("  also refused for no room   {}", found.refused);
+    tally.report_differences()
+}

@@ -1,0 +1,124 @@
+//! What was compared over many cases, and what was found.
+
+use crate::show;
+use shape::*;
+use std::collections::BTreeMap;
+
+pub const ALIGNMENTS: [&str; 4] = ["left", "centre", "right", "justified"];
+
+/// How often something was found, and the smallest case of it.
+pub struct Found {
+    pub count: u64,
+    chars: usize,
+    settings: Settings,
+    text: String,
+    details: String,
+}
+
+/// What was compared, and what was found.
+#[derive(Default)]
+pub struct Tally {
+    /// Layouts that were looked at, those of them in the domain and compared, and what they are made of.
+    pub cases: u64,
+    pub compared: u64,
+    pub lines: u64,
+    pub events: u64,
+    /// Texts whose tokens were compared, and the tokens.
+    pub token_texts: u64,
+    pub tokens: u64,
+    /// Layouts that the crate's whole text box drew too.
+    pub drawn: u64,
+    pub heights: u64,
+    /// Layouts outside the domain, and those of them that come out the same all the same.
+    pub overflow: u64,
+    pub overflow_same: u64,
+    pub cut: u64,
+    pub cut_same: u64,
+    /// Layouts of the library that were held to the rules, all ten numbers of a line and all events; and those that were also held
+    /// to the crate, in the domain.
+    pub library: u64,
+    pub library_crate: u64,
+    /// Layouts of the library whose height and y were held to the rules.
+    pub library_places: u64,
+    /// Layouts that were lent to the crate without the guard, to see that it stops where it is said to.
+    pub unguarded: u64,
+    /// By alignment and end type, lines; by kind of event, events. All in the domain.
+    pub ends: [[u64; 4]; 4],
+    pub kinds: [u64; 3],
+    pub rests: u64,
+    pub dropped: u64,
+    /// Differences that are explained, by their reason, and the others.
+    pub explained: BTreeMap<String, Found>,
+    pub unexplained: BTreeMap<String, Found>,
+}
+
+impl Tally {
+    pub fn note(
+        list: &mut BTreeMap<String, Found>,
+        key: String,
+        settings: &Settings,
+        text: &str,
+        details: impl FnOnce() -> String,
+    ) {
+        let chars = text.chars().count();
+        // Of two cases of as many characters, the first found stays.
+        match list.get_mut(&key) {
+            Some(found) if found.chars <= chars => found.count += 1,
+            before => {
+                let count = before.map_or(0, |found| found.count) + 1;
+                list.insert(key, Found { count, chars, settings: *settings, text: text.into(), details: details() });
+            }
+        }
+    }
+
+    /// Everything that was found, for people. True if nothing is unexplained.
+    pub fn report(&self) -> bool {
+        println!("layouts looked at            {}", self.cases);
+        println!("  in the domain, compared    {}  ({} lines, {} events)", self.compared, self.lines, self.events);
+        println!(
+            "  outside: overflow          {}  (with wrapping arithmetic the same all the same: {})",
+            self.overflow, self.overflow_same
+        );
+        println!("  outside: U+200B in a cut   {}  (by rule 9 as stand-in the same all the same: {})", self.cut, self.cut_same);
+        println!("token lists compared         {}  ({} tokens)", self.token_texts, self.tokens);
+        println!("drawn by the whole text box  {}  (heights compared: {})", self.drawn, self.heights);
+        println!("lent without the guard       {}", self.unguarded);
+        if cfg!(library) {
+            println!(
+                "the library's layouts        {} held to the rules, {} of them to the crate too",
+                self.library, self.library_crate
+            );
+            println!("  with height and y          {}", self.library_places);
+        } else {
+            println!("the library is not linked: the crate was held to the rules alone");
+        }
+        if self.lines > 0 {
+            for (name, ends) in ALIGNMENTS.iter().zip(&self.ends) {
+                println!(
+                    "lines {name:<9}  NewLine {} CarriageReturn {} EndOfText {} LineBreak {}",
+                    ends[0], ends[1], ends[2], ends[3]
+                );
+            }
+            println!("events  space {} printed {} move {}", self.kinds[0], self.kinds[1], self.kinds[2]);
+            println!("lines with a rest {}, with dropped characters {}", self.rests, self.dropped);
+        }
+        self.report_differences()
+    }
+
+    /// The differences alone. True if none is unexplained.
+    pub fn report_differences(&self) -> bool {
+        for (title, list) in [("explained", &self.explained), ("UNEXPLAINED", &self.unexplained)] {
+            println!("differences, {title}: {}", list.values().map(|found| found.count).sum::<u64>());
+            for (key, found) in list {
+                println!(
+                    "- {key}: {} times, smallest {} at {}",
+                    found.count,
+                    show::text(&found.text),
+                    show::settings(&found.settings, key.contains("height"))
+                );
+                print!("{}", found.details);
+            }
+        }
+        self.unexplained.is_empty()
+    }
+}
