@@ -110,11 +110,13 @@ impl Sides {
             Tally::note(&mut tally.unexplained, "the crate does not end".into(), settings, text, String::new);
         } else if outside.overflow {
             tally.overflow += 1;
+            Tally::note(&mut tally.outside, "a measured width above the box".into(), settings, text, String::new);
             self.beyond(settings, text, tally);
         } else {
             let differs = difference(&self.krate, &self.model);
             if outside.cut_zero_width {
                 tally.cut += 1;
+                Tally::note(&mut tally.outside, "U+200B in a cut run".into(), settings, text, String::new);
                 tally.cut_same += u64::from(differs.is_none());
             } else {
                 tally.compared += 1;

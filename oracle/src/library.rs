@@ -9,8 +9,8 @@ use shape::*;
 /// What a buffer holds before a call, so that what a call leaves alone can be seen.
 const UNTOUCHED: u32 = 0xA5A5_A5A5;
 
-/// How many numbers more than it needs each call is lent.
-const SPARE: usize = 8;
+/// How many numbers stand after those that a call is lent.
+const BEYOND: usize = 8;
 
 /// The buffers that are lent to the calls.
 #[derive(Default)]
@@ -21,14 +21,14 @@ pub struct Library {
     lines: u64,
 }
 
-/// A buffer that has room for some numbers and a few more, none of them written.
+/// Some numbers to lend, none of them written.
 fn fresh(buffer: &mut Vec<u32>, numbers: usize) -> &mut [u32] {
     buffer.clear();
-    buffer.resize(numbers + SPARE, UNTOUCHED);
-    buffer
+    buffer.resize(numbers + BEYOND, UNTOUCHED);
+    &mut buffer[..numbers]
 }
 
-/// The rows that a call wrote; nothing after them may have changed.
+/// The rows that a call wrote; nothing after them may have changed, lent or not.
 fn rows(buffer: &[u32], rows: u64, numbers: usize) -> std::slice::ChunksExact<'_, u32> {
     let (written, left) = buffer.split_at(rows as usize * numbers);
     assert!(left.iter().all(|&n| n == UNTOUCHED), "the library wrote past what it reports");
@@ -46,9 +46,9 @@ impl Library {
     /// A layout with all ten numbers of each line, and the events.
     pub fn lay(&mut self, settings: &Settings, text: &str, laid: &mut Laid) -> Result<(), Refusal> {
         laid.clear();
-        // A line takes a character, but the last; and a character makes at most two events.
+        // A line takes a byte, but the last; and a text has no more events than bytes.
         let table = fresh(&mut self.table, 10 * (text.len() + 1));
-        let events = fresh(&mut self.events, 6 * (2 * text.len() + 2));
+        let events = fresh(&mut self.events, 6 * text.len());
         let (lines, event_count) = bisquemop::layout_events(settings, text.as_bytes(), table, events)?;
         self.lines = lines;
         for n in rows(&self.table, lines, 10) {

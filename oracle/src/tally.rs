@@ -47,6 +47,8 @@ pub struct Tally {
     pub kinds: [u64; 3],
     pub rests: u64,
     pub dropped: u64,
+    /// The smallest layouts outside the domain, by their reason.
+    pub outside: BTreeMap<String, Found>,
     /// Differences that are explained, by their reason, and the others.
     pub explained: BTreeMap<String, Found>,
     pub unexplained: BTreeMap<String, Found>,
@@ -101,6 +103,10 @@ impl Tally {
             }
             println!("events  space {} printed {} move {}", self.kinds[0], self.kinds[1], self.kinds[2]);
             println!("lines with a rest {}, with dropped characters {}", self.rests, self.dropped);
+        }
+        for (reason, found) in &self.outside {
+            let (text, settings) = (show::text(&found.text), show::settings(&found.settings, false));
+            println!("outside the domain: {reason}: {} times, smallest {text} at {settings}", found.count);
         }
         self.report_differences()
     }
