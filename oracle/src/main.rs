@@ -51,6 +51,7 @@ usage: oracle examples SPECS            the scope's examples, and those of the d
        oracle longer LENGTH BOXES       every text of LENGTH characters, in some boxes of those where classes meet
        oracle dense LENGTH              every text of up to LENGTH of five kinds of character, in narrow boxes
        oracle random COUNT SEED         texts and settings by chance
+       oracle large COUNT SEED          the same with texts of up to 65,535 bytes
        oracle edits COUNT SEED          edits by chance, laid again by the library and laid afresh
        oracle definitions COUNT SEED    a module of cases by chance, for the prover to compute by the definitions
        oracle record CASES SEED         a sample of the crate's answers, a case a line, for a replay with no Rust at hand
@@ -74,6 +75,7 @@ fn main() {
             length.parse().ok().zip(boxes.parse().ok()).map(|(length, boxes)| runs::longer(length, boxes))
         }
         ["dense", length] => length.parse().ok().map(runs::dense),
+        ["large", count, seed] => count.parse().ok().zip(seed.parse().ok()).map(|(count, seed)| runs::large(count, seed)),
         ["random", count, seed] => count.parse().ok().zip(seed.parse().ok()).map(|(count, seed)| runs::random(count, seed)),
         ["definitions", count, seed] => {
             count.parse().ok().zip(seed.parse().ok()).map(|(count, seed)| definitions::write(count, seed))

@@ -139,6 +139,16 @@ pub fn text_upto(chance: &mut Chance, bytes: usize, text: &mut String) {
     }
 }
 
+/// A text of one of the mixtures, of any length that the scope allows.
+pub fn large_text(chance: &mut Chance, text: &mut String) {
+    let mix = chance.below(11) / 2;
+    let len = chance.below(66_000);
+    fill(chance, mix, len, text);
+    while text.len() > 65_535 {
+        text.pop();
+    }
+}
+
 fn fill(chance: &mut Chance, mix: u32, len: u32, text: &mut String) {
     text.clear();
     let mut left = len;

@@ -149,16 +149,26 @@ fn every(alphabet: &[char], lengths: RangeInclusive<u32>, settings: &[Settings],
 /// Texts and settings by chance. The slower checks see all of them; one in 8 where the library is compared, too.
 pub fn random(count: u64, seed: u64) -> bool {
     println!("{count} texts and settings by chance, seed {seed}");
+    by_chance(count, seed, random::text)
+}
+
+/// The same with texts of up to 65,535 bytes.
+pub fn large(count: u64, seed: u64) -> bool {
+    println!("{count} large texts and settings by chance, seed {seed}");
+    by_chance(count, seed, random::large_text)
+}
+
+fn by_chance(count: u64, seed: u64, draw: fn(&mut random::Chance, &mut String)) -> bool {
     let mut chance = random::Chance(seed);
     let (mut sides, mut tally, mut progress) = (Sides::default(), Tally::default(), Progress::new());
     let mut text = String::new();
     for done in 0..count {
-        random::text(&mut chance, &mut text);
+        draw(&mut chance, &mut text);
         let settings = random::settings(&mut chance);
         sides.tokens(&text, &mut tally);
         let deep = !cfg!(library) || done % 8 == 0;
         sides.layout(&settings, &text, deep, &mut tally);
-        if done % 256 == 0 {
+        if done % 256 == 0 || text.len() > 2000 {
             progress.tell(done, count, &tally);
         }
     }

@@ -15,6 +15,15 @@ pub struct Found {
     details: String,
 }
 
+impl Found {
+    /// Text and settings. Of a large text only the start is told: the seed gives the whole.
+    fn name(&self, all: bool) -> String {
+        let start: String = self.text.chars().take(500).collect();
+        let more = if start.len() < self.text.len() { format!(".. ({} characters)", self.chars) } else { String::new() };
+        format!("{}{more} at {}", show::text(&start), show::settings(&self.settings, all))
+    }
+}
+
 /// What was compared, and what was found.
 #[derive(Default)]
 pub struct Tally {
@@ -105,8 +114,7 @@ impl Tally {
             println!("lines with a rest {}, with dropped characters {}", self.rests, self.dropped);
         }
         for (reason, found) in &self.outside {
-            let (text, settings) = (show::text(&found.text), show::settings(&found.settings, false));
-            println!("outside the domain: {reason}: {} times, smallest {text} at {settings}", found.count);
+            println!("outside the domain: {reason}: {} times, smallest {}", found.count, found.name(false));
         }
         self.report_differences()
     }
@@ -116,13 +124,10 @@ impl Tally {
         for (title, list) in [("explained", &self.explained), ("UNEXPLAINED", &self.unexplained)] {
             println!("differences, {title}: {}", list.values().map(|found| found.count).sum::<u64>());
             for (key, found) in list {
-                println!(
-                    "- {key}: {} times, smallest {} at {}",
-                    found.count,
-                    show::text(&found.text),
-                    show::settings(&found.settings, key.contains("height"))
-                );
-                print!("{}", found.details);
+                println!("- {key}: {} times, smallest {}", found.count, found.name(key.contains("height")));
+                // What is unexplained is told whole, however long it is.
+                let most = if title == "explained" { 40 } else { usize::MAX };
+                found.details.lines().take(most).for_each(|line| println!("{line}"));
             }
         }
         self.unexplained.is_empty()
