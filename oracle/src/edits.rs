@@ -17,7 +17,7 @@ const REACH: usize = 9;
 /// What stands in a table past its lines.
 const UNTOUCHED: u32 = 0xA5A5_A5A5;
 
-/// A laid text, and the room that its table has.
+/// A laid text. Its table has room for all lines that the text can have, and a few more.
 struct Page {
     settings: Settings,
     text: String,
@@ -25,9 +25,13 @@ struct Page {
     lines: u64,
 }
 
+fn numbers(text: &str) -> usize {
+    10 * (text.len() + 3)
+}
+
 impl Page {
-    fn lay(settings: Settings, text: String, room: usize) -> Self {
-        let mut table = vec![UNTOUCHED; 10 * room];
+    fn lay(settings: Settings, text: String) -> Self {
+        let mut table = vec![UNTOUCHED; numbers(&text)];
         let lines = bisquemop::layout(&settings, text.as_bytes(), &mut table).expect("a good text, good settings and room");
         Page { settings, text, table, lines }
     }
@@ -100,7 +104,8 @@ struct Found {
 fn hold(page: &mut Page, change: Change, found: &mut Found) -> Result<(), String> {
     let Change { edit, new } = change;
     let (old, lines) = (page.entries(), page.lines);
-    let fresh = Page::lay(page.settings, new, page.table.len() / 10);
+    page.table.resize(page.table.len().max(numbers(&new)), UNTOUCHED);
+    let fresh = Page::lay(page.settings, new);
     let expected = fresh.entries();
 
     let first = old.iter().position(|entry| entry[REACH] > edit.a).expect("the last reach is past every edit");
@@ -162,8 +167,7 @@ pub fn run(count: u64, seed: u64) -> bool {
     while found.edits < count && tally.unexplained.is_empty() {
         random::text(&mut chance, &mut text);
         let settings = random::settings(&mut chance);
-        // Room for the text and all that the edits can put in.
-        let mut page = Page::lay(settings, text.clone(), text.len() + 1 + EDITS as usize * 1600);
+        let mut page = Page::lay(settings, text.clone());
         for _ in 0..EDITS {
             let change = change(&mut chance, &page.text);
             let (old, edit, new) = (page.text.clone(), change.edit, change.new.clone());
