@@ -4,6 +4,8 @@
 
 mod antt;
 #[cfg(library)]
+mod bench;
+#[cfg(library)]
 #[cfg_attr(not(all(has_lay_again, has_line_y)), allow(dead_code))]
 mod bisquemop;
 #[cfg(library)]
@@ -55,6 +57,8 @@ usage: oracle examples SPECS            the scope's examples, and those of the d
        oracle edits COUNT SEED          edits by chance, laid again by the library and laid afresh
        oracle definitions COUNT SEED    a module of cases by chance, for the prover to compute by the definitions
        oracle record CASES SEED         a sample of the crate's answers, a case a line, for a replay with no Rust at hand
+       oracle bench WORK NAME BYTES GLYPHS ALIGNMENT TIMES
+                                        a piece of work, done so often, for its instructions to be counted
        oracle show TEXT [NAME=NUMBER..] one layout, by the crate and by the rules; \\n, \\t, \\u{ad} and so on in TEXT
 ";
 
@@ -82,6 +86,15 @@ fn main() {
         }
         #[cfg(has_lay_again)]
         ["edits", count, seed] => count.parse().ok().zip(seed.parse().ok()).map(|(count, seed)| edits::run(count, seed)),
+        #[cfg(library)]
+        ["bench", work, name, bytes, glyphs, alignment, times] => bench::run(
+            work,
+            name,
+            bytes.parse().unwrap_or(0),
+            glyphs.parse().unwrap_or(0),
+            alignment.parse().unwrap_or(0),
+            times.parse().unwrap_or(0),
+        ),
         ["record", cases, seed] => cases.parse().ok().zip(seed.parse().ok()).map(|(cases, seed)| record::write(cases, seed)),
         ["show", text, settings @ ..] => settings_of(settings).map(|settings| show_one(&unescape(text), &settings)),
         _ => None,

@@ -17,7 +17,10 @@ use crate::{
     utils::{str_width, str_width_and_left_offset},
     TextBox,
 };
-use core::{cell::RefCell, convert::Infallible};
+use core::{
+    cell::{Cell, RefCell},
+    convert::Infallible,
+};
 use embedded_graphics::{
     draw_target::DrawTarget,
     geometry::{Point, Size},
@@ -340,4 +343,56 @@ pub fn draw(settings: &Settings, text: &str) -> (Vec<Drawn>, u32) {
     let undrawn = TextBox::with_textbox_style(text, bounds_of(settings), glyphs, style).draw(&mut Nowhere).unwrap();
     assert_eq!(undrawn, "");
     (record.into_inner(), height)
+}
+
+/// The same font, that only adds up what it draws.
+#[derive(Clone, Copy)]
+struct Adding<'s> {
+    glyphs: Glyphs<'s>,
+    sum: &'s Cell<u64>,
+}
+
+impl Adding<'_> {
+    fn add(&self, width: u32, at: Point) -> Point {
+        self.sum.set(self.sum.get() + u64::from(width) + at.x as u64);
+        at + Point::new(width as i32, 0)
+    }
+}
+
+impl TextRenderer for Adding<'_> {
+    type Color = Ink;
+
+    fn draw_string<D>(&self, text: &str, at: Point, _baseline: Baseline, _target: &mut D) -> Result<Point, D::Error>
+    where
+        D: DrawTarget<Color = Ink>,
+    {
+        Ok(self.add(self.glyphs.width(text), at))
+    }
+
+    fn draw_whitespace<D>(&self, width: u32, at: Point, _baseline: Baseline, _target: &mut D) -> Result<Point, D::Error>
+    where
+        D: DrawTarget<Color = Ink>,
+    {
+        Ok(self.add(width, at))
+    }
+
+    fn measure_string(&self, text: &str, at: Point, baseline: Baseline) -> TextMetrics {
+        self.glyphs.measure_string(text, at, baseline)
+    }
+
+    fn line_height(&self) -> u32 {
+        self.glyphs.line_height()
+    }
+}
+
+impl CharacterStyle for Adding<'_> {
+    type Color = Ink;
+}
+
+/// Draws a whole text box by the crate, every line of it, and only adds up what is drawn.
+pub fn sum(settings: &Settings, text: &str) -> u64 {
+    let sum = Cell::new(0);
+    let font = Adding { glyphs: Glyphs { glyph: settings.glyph, base: settings.base, record: None }, sum: &sum };
+    TextBox::with_textbox_style(text, bounds_of(settings), font, style_of(settings)).draw(&mut Nowhere).unwrap();
+    sum.get()
 }
