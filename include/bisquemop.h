@@ -1,8 +1,18 @@
 /*
  * Bisquemop lays text in a box where every character has the same width, and says for each line where it starts, where
- * it ends and where it is drawn. This version checks settings and texts, splits a text into tokens, lays a text into a
- * table of lines, lists what is drawn in each line, says from a table which line an edit affects first, how high the
- * lines stand, and where each of them stands. Laying again after an edit is still to come.
+ * it ends and where it is drawn, and how many characters it had to drop.
+ *
+ *   bisquemop_check_settings   are these settings good
+ *   bisquemop_check_text       is this a text
+ *   bisquemop_tokens           the words, spaces and breaks of a text
+ *   bisquemop_layout           lays a text: a table of its lines
+ *   bisquemop_layout_events    the same, and what is drawn in each line
+ *   bisquemop_first_affected   after an edit, the first line that it can change
+ *   bisquemop_lay_again        after an edit, lays what changed and moves the other lines of the table
+ *   bisquemop_height           how high a laid text is
+ *   bisquemop_line_y           where a line stands, and whether it shows
+ *
+ * Those that take twelve settings have a twin bisquemop_settings_.. that takes a struct of them.
  *
  * Link with libbisquemop.a (x86-64 Linux). The header is C99, and C++ can include it too.
  *
@@ -27,17 +37,17 @@
 extern "C" {
 #endif
 
-/* Why a call refused what it was given. The tests are made in the order of these numbers. */
+/* Why a call refused what it was given, and what *value then is. The tests are made in the order of these numbers. */
 enum bisquemop_refusal {
-    BISQUEMOP_OK = 0,
-    BISQUEMOP_SETTING_OUT_OF_RANGE = 1,
-    BISQUEMOP_UNKNOWN_ALIGNMENT = 2,
-    BISQUEMOP_TEXT_TOO_LONG = 3,
-    BISQUEMOP_NOT_UTF8 = 4,
-    BISQUEMOP_BAD_LINE = 5,
-    BISQUEMOP_BAD_EDIT = 6,
-    BISQUEMOP_LINE_TAKES_NOTHING = 7, /* proved never to be returned */
-    BISQUEMOP_TOO_SMALL = 8
+    BISQUEMOP_OK = 0,                   /* the call is done, and says what *value is */
+    BISQUEMOP_SETTING_OUT_OF_RANGE = 1, /* 0 */
+    BISQUEMOP_UNKNOWN_ALIGNMENT = 2,    /* the number that was given for it */
+    BISQUEMOP_TEXT_TOO_LONG = 3,        /* the text's length in bytes */
+    BISQUEMOP_NOT_UTF8 = 4,             /* the length in bytes of its longest prefix that is UTF-8 */
+    BISQUEMOP_BAD_LINE = 5,             /* the first bad line of the table */
+    BISQUEMOP_BAD_EDIT = 6,             /* 0 */
+    BISQUEMOP_LINE_TAKES_NOTHING = 7,   /* proved never to be returned */
+    BISQUEMOP_TOO_SMALL = 8             /* how many lines, tokens or events the buffer must have room for */
 };
 
 /* How a line stands between the sides of the box. */
@@ -56,8 +66,11 @@ enum bisquemop_vertical {
 };
 
 /* The limits, both ends included. A setting whose lower limit has no name here may be 0. */
-#define BISQUEMOP_TEXT_MAX 65535 /* bytes */
-#define BISQUEMOP_GLYPH_MIN 1    /* this and all below: pixels */
+#define BISQUEMOP_TEXT_MAX 65535   /* bytes */
+#define BISQUEMOP_LINES_MAX 65536  /* no text has more lines */
+#define BISQUEMOP_TOKENS_MAX 65535 /* no text has more tokens */
+#define BISQUEMOP_EVENTS_MAX 65535 /* no text has more events */
+#define BISQUEMOP_GLYPH_MIN 1      /* this and all below: pixels */
 #define BISQUEMOP_GLYPH_MAX 64
 #define BISQUEMOP_WIDTH_MAX 4096
 #define BISQUEMOP_TAB_MAX 4096
@@ -252,7 +265,7 @@ static inline uint32_t bisquemop_settings_layout_events(const struct bisquemop_s
 }
 
 /*
- * The next calls read a table that a layout wrote, and the caller says how many lines it holds. What they check is
+ * The next calls are lent a table that a layout wrote, and the caller says how many lines it holds. What they check is
  * this: the last reach, which is the text's length plus 1, is 1 to 65,536; starts rise strictly from 0, and none passes
  * the text's length or the reach before it; end types are known, and the last line and no other ends by the end of the
  * text; no reach passes the last one; a rest ends above its line's start, and at most at the text's length and the
@@ -274,6 +287,49 @@ static inline uint32_t bisquemop_settings_layout_events(const struct bisquemop_s
  */
 uint32_t bisquemop_first_affected(const uint32_t *table, size_t table_len, uint64_t lines, uint32_t a, uint32_t b,
                                   uint32_t inserted, uint64_t *value);
+
+/*
+ * Lays a text again after an edit. The `table_len` numbers at `table` hold the `lines` lines of the old text, and the
+ * edit has replaced the old text's bytes from `a` up to `b` by `inserted` new ones. Lent is a part of the new text, the
+ * `part_len` bytes at `part`: all from the start on that the table has for the first affected line, the line that
+ * bisquemop_first_affected answers. If the table is what bisquemop_layout wrote for the old text by these settings (the
+ * spacings, the heights, the top and the vertical alignment may differ), it is then exactly what bisquemop_layout would
+ * write for the whole new text.
+ *
+ * Lines before the first affected one are not touched. From there on lines are laid until one is to start, and with the
+ * same rest, where a line of the old text that began at `b` or later has come to stand: the old lines from that one on
+ * follow, with their offsets moved. Numbers past the new last line keep what they held. *laid, a uint64_t of the
+ * caller's that must not be NULL, is how many lines were laid, and keeps what it held if the call refuses. Returns
+ *   BISQUEMOP_OK                    done; *value is how many lines the table now holds
+ *   BISQUEMOP_SETTING_OUT_OF_RANGE  as by bisquemop_check_settings; *value is 0
+ *   BISQUEMOP_UNKNOWN_ALIGNMENT     as by bisquemop_check_settings; *value is the number that was given
+ *   BISQUEMOP_TEXT_TOO_LONG         `part` has more than 65,535 bytes; *value is `part_len`. Or the edited text has, as
+ *                                   by bisquemop_first_affected; *value is its length
+ *   BISQUEMOP_NOT_UTF8              `part` is not UTF-8; *value is the length of its longest valid prefix
+ *   BISQUEMOP_BAD_LINE              as by bisquemop_first_affected; *value is the first bad line. Or the first affected
+ *                                   line has a rest that ends within a character of `part` or past it, or that counts
+ *                                   more than the characters up to there; *value is that line
+ *   BISQUEMOP_BAD_EDIT              `a` is above `b`, or `b` above the old text's length; or `part_len` is not the new
+ *                                   text's length less the first affected line's start; or `a`, or `a` plus `inserted`,
+ *                                   lies within a character of the new text; *value is 0
+ *   BISQUEMOP_TOO_SMALL             `table` has no room for all; *value is how many lines there are
+ */
+uint32_t bisquemop_lay_again(uint32_t glyph, uint32_t width, uint32_t tab, uint32_t spacing, uint32_t paragraph,
+                             uint32_t base, uint32_t height, int32_t top, uint32_t alignment, uint32_t vertical,
+                             uint32_t leading, uint32_t trailing, const uint8_t *part, size_t part_len, uint32_t *table,
+                             size_t table_len, uint64_t lines, uint32_t a, uint32_t b, uint32_t inserted,
+                             uint64_t *value, uint64_t *laid);
+
+/* The same for settings in a struct, which must not be NULL. */
+static inline uint32_t bisquemop_settings_lay_again(const struct bisquemop_settings *s, const uint8_t *part,
+                                                    size_t part_len, uint32_t *table, size_t table_len, uint64_t lines,
+                                                    uint32_t a, uint32_t b, uint32_t inserted, uint64_t *value,
+                                                    uint64_t *laid)
+{
+    return bisquemop_lay_again(s->glyph, s->width, s->tab, s->spacing, s->paragraph, s->base, s->height, s->top,
+                               s->alignment, s->vertical, s->leading, s->trailing, part, part_len, table, table_len,
+                               lines, a, b, inserted, value, laid);
+}
 
 /*
  * The height of a text whose `lines` lines the `table_len` numbers at `table` hold: `base`, plus `spacing` for each

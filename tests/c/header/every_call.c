@@ -1,0 +1,85 @@
+/*
+ * Uses every call of the header, with the struct and with twelve numbers. It is only compiled, as C99 and as C++17, so it keeps to
+ * what both have.
+ */
+#include "bisquemop.h"
+#include "bisquemop.h" /* a second time does no harm */
+
+/* What an app lends. */
+struct lent {
+    struct bisquemop_settings settings;
+    const uint8_t *text;
+    size_t len;
+    uint32_t *tokens;
+    uint32_t *table;
+    size_t table_len;
+    uint32_t *events;
+    uint64_t lines, value, count;
+    int32_t y;
+};
+
+uint32_t checks(struct lent *l);
+uint32_t fresh(struct lent *l);
+uint32_t again(struct lent *l, uint32_t a, uint32_t b, uint32_t inserted);
+uint32_t heights(struct lent *l);
+uint32_t by_numbers(struct lent *l);
+
+uint32_t checks(struct lent *l)
+{
+    uint32_t refused = bisquemop_settings_check(&l->settings, &l->value);
+    if (refused == BISQUEMOP_OK) {
+        refused = bisquemop_check_text(l->text, l->len, &l->value);
+    }
+    return refused;
+}
+
+uint32_t fresh(struct lent *l)
+{
+    uint32_t refused = bisquemop_tokens(l->text, l->len, l->tokens, BISQUEMOP_TOKEN_NUMBERS * l->len, &l->value);
+    if (refused == BISQUEMOP_OK) {
+        refused = bisquemop_settings_layout(&l->settings, l->text, l->len, l->table, l->table_len, &l->lines);
+    }
+    if (refused == BISQUEMOP_OK) {
+        refused = bisquemop_settings_layout_events(&l->settings, l->text, l->len, l->table, l->table_len, l->events,
+                                                   BISQUEMOP_EVENT_NUMBERS * l->len, &l->lines, &l->count);
+    }
+    return refused;
+}
+
+/* `text` is the new text. */
+uint32_t again(struct lent *l, uint32_t a, uint32_t b, uint32_t inserted)
+{
+    uint32_t start, refused;
+    refused = bisquemop_first_affected(l->table, l->table_len, l->lines, a, b, inserted, &l->value);
+    if (refused != BISQUEMOP_OK) {
+        return refused;
+    }
+    start = l->table[BISQUEMOP_LINE_NUMBERS * l->value + BISQUEMOP_LINE_START];
+    return bisquemop_settings_lay_again(&l->settings, l->text + start, l->len - start, l->table, l->table_len, l->lines,
+                                        a, b, inserted, &l->lines, &l->count);
+}
+
+uint32_t heights(struct lent *l)
+{
+    uint32_t refused = bisquemop_settings_height(&l->settings, l->table, l->table_len, l->lines, &l->value);
+    if (refused == BISQUEMOP_OK) {
+        refused = bisquemop_settings_line_y(&l->settings, l->table, l->table_len, l->lines, 0, &l->value, &l->y);
+    }
+    return refused;
+}
+
+/* The same calls, without the struct. */
+#define SETTINGS 6, 30, 24, 10, 0, 8, 48, -2, BISQUEMOP_ALIGN_LEFT, BISQUEMOP_VERTICAL_TOP, 1, 0
+
+uint32_t by_numbers(struct lent *l)
+{
+    uint32_t refused = bisquemop_check_settings(SETTINGS, &l->value);
+    refused |= bisquemop_layout(SETTINGS, l->text, l->len, l->table, l->table_len, &l->lines);
+    refused |= bisquemop_layout_events(SETTINGS, l->text, l->len, l->table, l->table_len, l->events,
+                                       BISQUEMOP_EVENT_NUMBERS * l->len, &l->lines, &l->count);
+    refused |= bisquemop_lay_again(SETTINGS, l->text, l->len, l->table, l->table_len, l->lines, 0, 0, 0, &l->value,
+                                   &l->count);
+    refused |= bisquemop_height(SETTINGS, l->table, l->table_len, l->lines, &l->value);
+    refused |= bisquemop_line_y(SETTINGS, l->table, l->table_len, l->lines, 0, &l->value, &l->y);
+    return refused;
+}
