@@ -93,7 +93,8 @@ enum bisquemop_line_column {
     BISQUEMOP_LINE_SPACE = 5,      /* the width of a space */
     BISQUEMOP_LINE_EXTRA = 6,      /* so many of the line's first spaces are one pixel wider, each */
     BISQUEMOP_LINE_WIDTH = 7,      /* the width measured, with plain spaces */
-    BISQUEMOP_LINE_DROPPED = 8,    /* how many characters belong to words dropped here, which no line draws */
+    BISQUEMOP_LINE_DROPPED = 8,    /* how many characters belong to a word dropped here, which no line draws: the line's
+                                      last characters */
     BISQUEMOP_LINE_REACH = 9       /* the offset after the furthest character that the line depends on, and the text's
                                       length plus 1 if it depends on where the text ends */
 };

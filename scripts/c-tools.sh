@@ -3,8 +3,8 @@
 #   name   its own name, for what it says
 #   out    a folder for what it makes
 
-say() { printf '%s: %s\n' "$name" "$*"; }
-die() { printf '%s: %s\n' "$name" "$*" >&2; exit 2; }
+say() { printf '%s: %s\n' "$name" "$*" >&2; }
+die() { say "$*"; exit 2; }
 
 # Runs a command whose words matter only where it fails.
 quietly() { # LOG COMMAND..
@@ -12,7 +12,7 @@ quietly() { # LOG COMMAND..
     shift
     "$@" >"$log" 2>&1 && return 0
     cat "$log" >&2
-    say "failed: $*" >&2
+    say "failed: $*"
     exit 1
 }
 

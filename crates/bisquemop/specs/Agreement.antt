@@ -22,7 +22,7 @@ use Rattle.meaning.specs.declared.answers.Height.{Height}
 use Rattle.meaning.specs.declared.answers.LineY.{LineY}
 
 -- Two things that equal a third are equal.
-agree : {A : Type 0} → {x y z : A} → x ≡ z → y ≡ z → x ≡ y
+pub agree : {A : Type 0} → {x y z : A} → x ≡ z → y ≡ z → x ≡ y
 agree p q = p ∙ sym q
 
 -- ---- the calls in Rattle
