@@ -1,3 +1,4 @@
+# shellcheck shell=sh disable=SC2154
 # What the scripts that compile C have in common. It is for sh, read by `.`, and not run. The script that reads it stands in the
 # repository's folder and has set
 #   name   its own name, for what it says
