@@ -100,6 +100,22 @@ struct Found {
     refused: u64,
 }
 
+/// How a part of a wrong length is refused: it is no UTF-8; or the first affected line's rest does not stand in it, or counts more than
+/// the characters there; or else for its length.
+fn refused(part: &[u8], first: u64, entry: &Entry) -> Refusal {
+    let text = match std::str::from_utf8(part) {
+        Ok(text) => text,
+        Err(error) => return Refusal::NotUtf8(error.valid_up_to() as u64),
+    };
+    let rest = entry[REST_END].saturating_sub(entry[START]) as usize;
+    let stands = || text.is_char_boundary(rest) && entry[REST_COUNT] as usize <= text[..rest].chars().count();
+    if (entry[REST_END], entry[REST_COUNT]) == (0, 0) || stands() {
+        Refusal::BadEdit
+    } else {
+        Refusal::BadLine(first)
+    }
+}
+
 /// Holds one edit to the layout of the new text. Says what is wrong, if anything is.
 fn hold(page: &mut Page, change: Change, found: &mut Found) -> Result<(), String> {
     let Change { edit, new } = change;
@@ -119,7 +135,7 @@ fn hold(page: &mut Page, change: Change, found: &mut Found) -> Result<(), String
     let before = page.table.clone();
     let short = if part.is_empty() { b"a" } else { &part[1..] };
     let answer = bisquemop::lay_again(&page.settings, short, &mut page.table, lines, edit);
-    if !matches!(answer, Err(Refusal::BadEdit | Refusal::NotUtf8(_))) || page.table != before {
+    if answer != Err(refused(short, first as u64, &old[first])) || page.table != before {
         return Err(format!("a part of a wrong length is answered {answer:?}"));
     }
     if expected.len() > old.len() {
