@@ -1,8 +1,7 @@
 // The fresh layout of a text with what is drawn: a public call.
 use crate::checked::check_events;
 use crate::checked::check_layout;
-use crate::events::draw_lines;
-use crate::lines::write_lines;
+use crate::events::write_and_draw;
 use meaning::answers::LaidWithEvents;
 use meaning::refusals::Checked;
 use meaning::settings::Settings;
@@ -29,7 +28,6 @@ pub fn layout_with_events(
     if let Checked::Refused(refusal) = room {
         return LaidWithEvents::Refused(refusal);
     }
-    let lines = write_lines(text, s, table);
-    let drawn = draw_lines(text, s, events);
-    LaidWithEvents::Lines(lines as u64, drawn as u64)
+    let both = write_and_draw(text, s, table, events);
+    LaidWithEvents::Lines(both.lines as u64, both.events as u64)
 }

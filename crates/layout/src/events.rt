@@ -1,4 +1,4 @@
-// The events of a text's lines, one line after the other.
+// The events of a text's lines, one line after the other: counted, and drawn as each line is written.
 use crate::lines::is_last;
 use crate::lines::nothing;
 use drawing::pass::draw_pass;
@@ -8,12 +8,14 @@ use meaning::settings::Settings;
 use rendering::line::lay_line;
 use rendering::place::start_place;
 use rendering::step::Resumed;
-ghost use Prim.Native.Nat.{_+_};
+use table::entries::write_entry;
+ghost use Prim.Native.Nat.{_+_, _*_, _≤_};
 ghost use mathlib.Core.Path.{_≡_};
 ghost use lib.ListN.{length};
+ghost use Rattle.meaning.specs.Table.{ofEntry, ofAll, written};
 ghost use Rattle.table.specs.Numbers.{putEvents};
 ghost use Rattle.drawing.specs.PassDrawn.{DrawRoom};
-ghost use Rattle.layout.specs.RowsFrom.{TextReady};
+ghost use Rattle.layout.specs.RowsFrom.{TextReady, entriesOf};
 ghost use Rattle.layout.specs.EventsFrom.{eventsOf, placeIn, lineEvents};
 
 // The events of the line at an offset, after a rest that it resumes, from its entry: events number k and on. How many there are
@@ -72,4 +74,43 @@ pub fn count_events(text: &[u8], s: Settings) -> usize
 {
     let mut none = [0u32; 1];
     draw_lines(text, s, &mut none)
+}
+
+// How many lines a text has, and how many events.
+pub struct Both {
+    pub lines: usize,
+    pub events: usize,
+}
+
+// All lines of a text, each laid once: written to a table that has room for them, and their events put into a buffer as far as it has
+// room.
+pub fn write_and_draw(text: &[u8], s: Settings, table: &mut [u32], events: &mut [u32]) -> Both
+    requires { ⌜ TextReady s (now text) ⌝ }
+    requires { ⌜ 10 * length (entriesOf s (now text)) ≤ length (now table) ⌝ }
+    ensures { λ r. ⌜ r .lines ≡ length (entriesOf s (now (text .entry))) ⌝ }
+    ensures { λ r. ⌜ r .events ≡ length (eventsOf s (now (text .entry))) ⌝ }
+    ensures { λ r. ⌜ now (table .exit) ≡ written (now (table .entry)) (ofAll ofEntry (entriesOf s (now (text .entry)))) ⌝ }
+    ensures { λ r. ⌜ now (events .exit) ≡ putEvents (now (events .entry)) 0 (eventsOf s (now (text .entry))) ⌝ }
+{
+    let mut lines: usize = 0;
+    let mut drawn: usize = 0;
+    let mut at: usize = 0;
+    let mut rest = nothing();
+    loop {
+        let line = lay_line(text, s, at, rest);
+        let entry = line.entry;
+        write_entry(table, lines, entry);
+        lines += 1;
+        drawn = draw_line(text, s, at, rest, entry, events, drawn);
+        let ended = line.ended;
+        if is_last(ended) {
+            return Both {
+                lines,
+                events: drawn,
+            };
+        }
+        at = line.next.0 as usize;
+        let held = line.rest;
+        rest = held;
+    }
 }

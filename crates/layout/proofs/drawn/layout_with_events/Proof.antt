@@ -48,19 +48,12 @@ returns-2 c =
 enum-told-2 : tie.Need-enum-told-2
 enum-told-2 c = search needs
 
-write-lines-requires : tie.Need-write-lines-requires
-write-lines-requires c κs =
-    let x = c .before .before .before in
+write-and-draw-requires : tie.Need-write-and-draw-requires
+write-and-draw-requires c κs =
+    let x = c .before .before .before .before in
     let g = x .before .before in
     let good = sym (g .before .before .check-layout .ensures) ∙ g .enum-told .given .1 in
     (good-ready _ _ _ good, good-room _ _ _ good)
-
-draw-lines-requires : tie.Need-draw-lines-requires
-draw-lines-requires c κs =
-    let w = c .before .before .before in
-    let x = w .before .before .before .before in
-    let g = x .before .before in
-    good-ready _ _ _ (sym (g .before .before .check-layout .ensures) ∙ g .enum-told .given .1)
 
 same-length-4 : tie.Need-same-length-4
 same-length-4 c = search needs
@@ -70,13 +63,13 @@ same-length-5 c = search needs
 
 returns-3 : tie.Need-returns-3
 returns-3 c =
-    let d = c .before .before in
-    let w = d .before .before .before .before in
-    let e = w .before .before in
+    let w = c .before .before .before .before in
+    let e = w .before .before .before in
     let x = e .before .before in
     let g = x .before .before in
+    let wrote = w .write-and-draw .ensures in
     drawing-done _ _ _ _ (sym (g .before .before .check-layout .ensures) ∙ g .enum-told .given .1) (sym (x .check-events .ensures) ∙ e .enum-told2 .given .1)
-    _ _ (w .write-lines .ensures .0) (d .draw-lines .ensures .0) _ (w .write-lines .ensures .1) _ (d .draw-lines .ensures .1)
+    _ _ (wrote .0) (wrote .1 .0) _ (wrote .1 .1 .0) _ (wrote .1 .1 .1)
 
 pub layout-with-events-spec : {M : Type 1} → statement M
 layout-with-events-spec =
@@ -93,8 +86,7 @@ layout-with-events-spec =
     same-length-3
     returns-2
     enum-told-2
-    write-lines-requires
-    draw-lines-requires
+    write-and-draw-requires
     same-length-4
     same-length-5
     returns-3)
