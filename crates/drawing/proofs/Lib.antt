@@ -3,5 +3,6 @@ pub mod WordLoop
 pub mod RunEvents
 pub mod TabEvents
 pub mod WordEvents
+pub mod PrintEvents
 pub mod TokenEvents
 pub mod PassLoop

@@ -1,4 +1,4 @@
--- The events of a space run and of a soft hyphen, by what they added to the measure.
+-- The events of a space run and of one print, by what they added to the measure.
 -- Assumes nothing.
 use Prim.Native.Nat.{ℕ, _+_, _≤_, min}
 use mathlib.Core.Path.{_≡_, sym, ap}
@@ -25,7 +25,7 @@ use Rattle.rendering.specs.declared.step.Ended.{Ended}
 use Rattle.rendering.specs.declared.step.Stepped.{Stepped}
 use Rattle.rendering.specs.declared.step.Stepped.the-variants.{Go, Stop}
 use Rattle.drawing.specs.Sheet.{Sheet, drawnOn}
-use Rattle.drawing.specs.TokenDrawn.{measureOf, Grows, runDrawn, hyphenDrawn}
+use Rattle.drawing.specs.TokenDrawn.{measureOf, Grows, runDrawn, printDrawn}
 use Rattle.drawing.specs.declared.grown.Grown.{Grown}
 
 -- ---- what was added
@@ -71,13 +71,13 @@ module _ (s : Sheet) (t : List ℕ) (at : ℕ) (x : Lexeme) (g : Grown) where
   run-part e f k part m h =
       rw (e, ne-eqb (g .count .0) 0 f, h, m, take-min (g .count .0) (x .chars .0) (charsFrom t at))
 
--- ---- a soft hyphen
+-- ---- one print
 
-module _ (s : Sheet) (at : ℕ) (g : Grown) where
-  pub hyphen-hides : g .width .0 ≡ 0 → s ≡ drawnOn s (hyphenDrawn at g)
-  unfolding hyphenDrawn pick drawnOn
-  hyphen-hides e = rw (eq-eqb (g .width .0) 0 e)
+module _ (s : Sheet) (at to : ℕ) (g : Grown) where
+  pub print-hides : g .width .0 ≡ 0 → s ≡ drawnOn s (printDrawn at to g)
+  unfolding printDrawn pick drawnOn
+  print-hides e = rw (eq-eqb (g .width .0) 0 e)
 
-  pub hyphen-shows : (g .width .0 ≡ 0 → ⊥) → drawnOn s (drawn Printed at (at + 2) 0 (g .width .0) ∷ []) ≡ drawnOn s (hyphenDrawn at g)
-  unfolding hyphenDrawn pick
-  hyphen-shows e = rw (ne-eqb (g .width .0) 0 e)
+  pub print-shows : (g .width .0 ≡ 0 → ⊥) → drawnOn s (drawn Printed at to 0 (g .width .0) ∷ []) ≡ drawnOn s (printDrawn at to g)
+  unfolding printDrawn pick
+  print-shows e = rw (ne-eqb (g .width .0) 0 e)

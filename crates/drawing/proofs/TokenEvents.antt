@@ -35,7 +35,7 @@ use Rattle.rendering.specs.Ready.{Standing, Ready, stepFrom}
 use Rattle.rendering.specs.declared.step.Stepped.{Stepped}
 use Rattle.rendering.proofs.RunLaws.{run-tok, run-end}
 use Rattle.drawing.specs.Sheet.{Sheet, drawnOn, measured-pen, measured-spaces}
-use Rattle.drawing.specs.TokenDrawn.{drawnOf, tokDrawn, measureOf, grownBy, Grows, runDrawn, hyphenDrawn}
+use Rattle.drawing.specs.TokenDrawn.{drawnOf, tokDrawn, measureOf, grownBy, Grows, runDrawn, printDrawn}
 use Rattle.drawing.specs.declared.grown.Grown.{Grown}
 
 -- ---- a space run
@@ -81,14 +81,14 @@ module _ (s : Settings) (p : Place) (t : List ℕ) (at : ℕ) (x : Lexeme) (m : 
 
 module _ (at : ℕ) (m : Measure) (u : Tok) (s : Settings) (p : Place) (glyph : 1 ≤ s .glyph .0) where
   abbrev HyphenOf : Step → Type 0
-  HyphenOf y = drawnOf y ≡ hyphenDrawn at (grownBy m (steppedAt m at u y))
+  HyphenOf y = drawnOf y ≡ printDrawn at (at + 2) (grownBy m (steppedAt m at u y))
 
   goes-none : (q : Place) (r : ℕ) → HyphenOf (go q [] r)
-  unfolding steppedAt measured grownBy hyphenDrawn pick
+  unfolding steppedAt measured grownBy printDrawn pick
   goes-none q r = rw (eq-eqb (m .pen .0 - m .pen .0) 0 (omega arith))
 
   stops-none : (e : LineEnd) (n : ℕ) (h : Held) (d r : ℕ) → HyphenOf (stop e [] n h d r)
-  unfolding steppedAt measured grownBy hyphenDrawn pick
+  unfolding steppedAt measured grownBy printDrawn pick
   stops-none e n h d r = rw (eq-eqb (m .pen .0 - m .pen .0) 0 (omega arith))
 
   wider : m .pen .0 + s .glyph .0 - m .pen .0 ≡ s .glyph .0
@@ -98,11 +98,11 @@ module _ (at : ℕ) (m : Measure) (u : Tok) (s : Settings) (p : Place) (glyph : 
   some e = omega arith
 
   goes-printed : (q : Place) (r : ℕ) → HyphenOf (go q (drawn Printed at (at + 2) 0 (s .glyph .0) ∷ []) r)
-  unfolding steppedAt measured grownBy hyphenDrawn pick
+  unfolding steppedAt measured grownBy printDrawn pick
   goes-printed q r = rw (wider, ne-eqb (s .glyph .0) 0 some)
 
   stops-printed : (e : LineEnd) (n : ℕ) (h : Held) (d r : ℕ) → HyphenOf (stop e (drawn Printed at (at + 2) 0 (s .glyph .0) ∷ []) n h d r)
-  unfolding steppedAt measured grownBy hyphenDrawn pick
+  unfolding steppedAt measured grownBy printDrawn pick
   stops-printed e n h d r = rw (wider, ne-eqb (s .glyph .0) 0 some)
 
   hyphen-of : (r : ℕ) → HyphenOf (hyphenated s p at r)
@@ -131,7 +131,7 @@ module _ (t : List ℕ) (at : ℕ) (x : Lexeme) where
   tok-return k = rw k
 
 module _ (s : Settings) (p : Place) (t : List ℕ) (at : ℕ) (x : Lexeme) where
-  pub break-drawn : (m : Measure) → 1 ≤ s .glyph .0 → x .kind ≡ Break → tokDrawn s p t at x ≡ hyphenDrawn at (grownBy m (stepFrom s p t at x m))
+  pub break-drawn : (m : Measure) → 1 ≤ s .glyph .0 → x .kind ≡ Break → tokDrawn s p t at x ≡ printDrawn at (at + 2) (grownBy m (stepFrom s p t at x m))
   unfolding tokDrawn stepFrom step
   break-drawn m g k = rw (tok-break t at x k) (break-of at m softHyphen s p g _ _)
 
@@ -192,5 +192,5 @@ module _ (s : Settings) (p : Place) (t : List ℕ) (at : ℕ) (x : Lexeme) (m : 
       pub run-events : (sh : Sheet) → x .kind ≡ Whitespace → drawnOn sh (runDrawn t at x g) ≡ drawnOn sh (tokDrawn s p t at x)
       run-events sh k = rw (e, is, run-drawn s p t at x m (h .stands) k)
 
-      pub hyphen-events : (sh : Sheet) → x .kind ≡ Break → drawnOn sh (hyphenDrawn at g) ≡ drawnOn sh (tokDrawn s p t at x)
+      pub hyphen-events : (sh : Sheet) → x .kind ≡ Break → drawnOn sh (printDrawn at (at + 2) g) ≡ drawnOn sh (tokDrawn s p t at x)
       hyphen-events sh k = rw (e, is, break-drawn s p t at x m (h .settings .0) k)

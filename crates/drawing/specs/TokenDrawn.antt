@@ -66,9 +66,14 @@ runDrawn t at x g =
     pick (g .whole) (drawn Space at (x .end .0) (g .count .0) (g .width .0) ∷ [])
     (pick (eqb (g .count .0) 0) [] (drawn Space at part (g .count .0) (g .width .0) ∷ []))
 
--- A hyphen is drawn if it has a width.
-unfoldable pub hyphenDrawn : (at : ℕ) → Grown → List Drawn
-hyphenDrawn at g = pick (eqb (g .width .0) 0) [] (drawn Printed at (at + 2) 0 (g .width .0) ∷ [])
+-- What was taken of a token ends there, if the whole of it ends at an offset.
+unfoldable pub takenEnd : (end : ℕ) → Stepped → ℕ
+takenEnd end (Go q n o) = end
+takenEnd end (Stop e) = e .next .0
+
+-- A hyphen, or a word in which nothing glues, is one print as far as it was taken, if it has a width.
+unfoldable pub printDrawn : (at to : ℕ) → Grown → List Drawn
+printDrawn at to g = pick (eqb (g .width .0) 0) [] (drawn Printed at to 0 (g .width .0) ∷ [])
 
 -- ---- what drawing a token takes for granted
 

@@ -1,6 +1,7 @@
 // The events of one token (rules 7 to 9).
 use crate::grown::Grown;
 use crate::grown::growth;
+use crate::grown::taken_end;
 use crate::pen::Pen;
 use crate::pen::put_one;
 use crate::words::draw_word;
@@ -26,7 +27,7 @@ ghost use Rattle.basis.specs.Choice.{pick};
 ghost use Rattle.meaning.specs.declared.tokens.TokenKind.the-variants.{Word, Tab};
 ghost use Rattle.meaning.specs.declared.line.EventKind.the-variants.{Space, Move};
 ghost use Rattle.drawing.specs.Sheet.{sheet, drawnOn};
-ghost use Rattle.drawing.specs.TokenDrawn.{tokDrawn, runDrawn, hyphenDrawn, PenRoom, DrawReady, TokenReady};
+ghost use Rattle.drawing.specs.TokenDrawn.{tokDrawn, runDrawn, printDrawn, PenRoom, DrawReady, TokenReady};
 
 // A word that fits; of one too wide for an empty line its longest fitting part; else nothing.
 fn draw_if_taken(
@@ -90,16 +91,38 @@ fn draw_run(text: &[u8], at: usize, x: Lexeme, g: Grown, pen: Pen, events: &mut 
     )
 }
 
-// A soft hyphen shows if it added a width.
-fn draw_hyphen(at: usize, g: Grown, pen: Pen, events: &mut [u32]) -> Pen
-    requires { ⌜ PenRoom pen × (g .width .0 ≤ 8192 * 65535) × (at + 2 ≤ 65535) ⌝ }
-    ensures { λ r. ⌜ sheet (now (events .exit)) r ≡ drawnOn (sheet (now (events .entry)) pen) (hyphenDrawn at g) ⌝ }
+// One print from an offset to another, if it added a width.
+fn draw_print(at: usize, to: usize, g: Grown, pen: Pen, events: &mut [u32]) -> Pen
+    requires { ⌜ PenRoom pen × (g .width .0 ≤ 8192 * 65535) × (at ≤ 65535) × (to ≤ 65535) ⌝ }
+    ensures { λ r. ⌜ sheet (now (events .exit)) r ≡ drawnOn (sheet (now (events .entry)) pen) (printDrawn at to g) ⌝ }
 {
     let width = g.width.0;
     if width == 0 {
         return pen;
     }
-    put_one(events, pen, EventKind::Printed, at, at + 2, 0, width)
+    put_one(events, pen, EventKind::Printed, at, to, 0, width)
+}
+
+// A word: one print of what its step took, unless there are gluing characters in it.
+fn draw_letters(
+    text: &[u8],
+    s: Settings,
+    p: Place,
+    at: usize,
+    x: Lexeme,
+    m: Measure,
+    stepped: Stepped,
+    pen: Pen,
+    events: &mut [u32],
+) -> Pen
+    requires { ⌜ TokenReady s p (now text) at x m stepped pen × (x .kind ≡ Word) ⌝ }
+    ensures { λ r. ⌜ sheet (now (events .exit)) r ≡ drawnOn (sheet (now (events .entry)) pen) (tokDrawn s p (now (text .entry)) at x) ⌝ }
+{
+    if x.glues.0 != 0 {
+        return draw_if_taken(text, s, p, at, x, pen, events);
+    }
+    let to = taken_end(x.end.0, stepped) as usize;
+    draw_print(at, to, growth(m, stepped), pen, events)
 }
 
 // A tab before a word that does not fit is a move.
@@ -157,10 +180,10 @@ pub fn draw_token(
 {
     let kind = x.kind;
     match kind {
-        TokenKind::Word => draw_if_taken(text, s, p, at, x, pen, events),
+        TokenKind::Word => draw_letters(text, s, p, at, x, m, stepped, pen, events),
         TokenKind::Whitespace => draw_run(text, at, x, growth(m, stepped), pen, events),
         TokenKind::Tab => draw_tab(text, s, p, at, x, pen, events),
-        TokenKind::Break => draw_hyphen(at, growth(m, stepped), pen, events),
+        TokenKind::Break => draw_print(at, at + 2, growth(m, stepped), pen, events),
         TokenKind::NewLine => put_one(events, pen, EventKind::Space, at, at + 1, 0, 0),
         TokenKind::CarriageReturn => put_one(events, pen, EventKind::Space, at, at + 1, 0, 0),
     }

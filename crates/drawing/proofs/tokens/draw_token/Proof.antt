@@ -12,8 +12,8 @@ use Rattle.drawing.proofs.tokens.draw_token.Tie as tie
 enum-told : tie.Need-enum-told
 enum-told c = search needs
 
-draw-if-taken-requires : tie.Need-draw-if-taken-requires
-draw-if-taken-requires c κs = search needs
+draw-letters-requires : tie.Need-draw-letters-requires
+draw-letters-requires c κs = search needs
 
 enum-told-2 : tie.Need-enum-told-2
 enum-told-2 c = search needs
@@ -42,20 +42,24 @@ draw-tab-requires c κs = search needs
 enum-told-4 : tie.Need-enum-told-4
 enum-told-4 c = search needs
 
+add-draw-print : tie.Need-add-draw-print
+add-draw-print c = search needs
+
 growth-requires-2 : tie.Need-growth-requires-2
 growth-requires-2 c κs =
     let s = c .before .before .before .before in
     let a = s .args in
     step-grew (a .s) (a .p) _ (a .at) (a .x) (a .m) (a .stepped) (s .pre .ready) (s .pre .stepped)
 
-draw-hyphen-requires : tie.Need-draw-hyphen-requires
-draw-hyphen-requires c κs =
+draw-print-requires : tie.Need-draw-print-requires
+draw-print-requires c κs =
     let g = c .before in
     let s = g .before .before .before .before .before in
     let a = s .args in
     let h = s .pre .ready in
     let w = grown-narrow (a .s) (a .p) _ (a .at) (a .x) (a .m) (a .stepped) h (s .pre .stepped) (g .growth2 .result) (g .growth2 .ensures) in
-    (s .pre .pen, w, omega (arith, break-end (a .text .now) (a .at) (a .x) (h .stands) (g .before .enum-told4 .given .1), h .stands .within, h .short))
+    let e = break-end (a .text .now) (a .at) (a .x) (h .stands) (g .before .enum-told4 .given .1) in
+    (s .pre .pen, w, omega (arith, e, h .stands .within, h .short), omega (arith, e, h .stands .within, h .short))
 
 enum-told-5 : tie.Need-enum-told-5
 enum-told-5 c = search needs
@@ -108,7 +112,7 @@ returns-4 c =
     let g = f .before .before in
     let s = g .before .before .before .before .before in
     let a = s .args in
-    f .draw-hyphen .ensures
+    f .draw-print .ensures
     ∙ hyphen-events (a .s) (a .p) (a .text .now) (a .at) (a .x) (a .m) (a .stepped) (s .pre .ready) (s .pre .stepped) (g .growth2 .result) (g .growth2 .ensures) (sheet (a .events .now) (a .pen)) (g .before .enum-told4 .given .1)
 
 same-length-5 : tie.Need-same-length-5
@@ -138,15 +142,16 @@ draw-token-spec =
     tie.close
     (tie.spec
     enum-told
-    draw-if-taken-requires
+    draw-letters-requires
     enum-told-2
     growth-requires
     draw-run-requires
     enum-told-3
     draw-tab-requires
     enum-told-4
+    add-draw-print
     growth-requires-2
-    draw-hyphen-requires
+    draw-print-requires
     enum-told-5
     add-put-one
     put-one-requires
