@@ -4,5 +4,7 @@ pub mod RunEvents
 pub mod TabEvents
 pub mod WordEvents
 pub mod PrintEvents
+pub mod StrideEvents
+pub mod OnwardEvents
 pub mod TokenEvents
 pub mod PassLoop

@@ -4,4 +4,5 @@ pub mod WordDrawn
 pub mod Stretching
 pub mod TokenDrawn
 pub mod PassDrawn
+pub mod DrawingOn
 pub mod DrawnBounds

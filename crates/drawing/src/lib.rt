@@ -2,5 +2,6 @@
 pub mod grown;
 pub mod pass;
 pub mod pen;
+pub mod strides;
 pub mod tokens;
 pub mod words;

@@ -106,7 +106,7 @@ module _ {s : Settings} {p : Place} {t : List ℕ} {at : ℕ} {m : Measure} (r :
 
 -- ---- both
 
-fits-in : (c : LineCursor) (w : ℕ) → w ≤ c .width .0 - c .position .0 → fitsIn c w ≡ true
+pub fits-in : (c : LineCursor) (w : ℕ) → w ≤ c .width .0 - c .position .0 → fitsIn c w ≡ true
 unfolding fitsIn roomOf
 fits-in c w h = le-leb w _ h
 

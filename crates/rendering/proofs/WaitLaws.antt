@@ -48,7 +48,7 @@ module _ {s : Settings} {p : Place} {t : List ℕ} {at : ℕ} {m : Measure} (r :
     abbrev after : Place
     after = behind r (w .empty) end (w .stride) wide is f
 
-    over-full : fitsIn (after .cursor) ((end - (at + 1)) * s .glyph .0) ≡ false
+    pub over-full : fitsIn (after .cursor) ((end - (at + 1)) * s .glyph .0) ≡ false
     unfolding fitsIn roomOf advance
     over-full = lt-leb ((end - (at + 1)) * s .glyph .0) (p .cursor .width .0 - (p .cursor .position .0 + wide)) (omega (arith, fits-room (p .cursor) wide f))
 

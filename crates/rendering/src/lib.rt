@@ -12,7 +12,7 @@ pub mod measure;
 pub mod pass;
 pub mod pending;
 pub mod place;
-mod plain_words;
+pub mod plain_words;
 pub mod space_config;
 pub mod spaces;
 pub mod step;

@@ -49,7 +49,7 @@ fn stands_at(p: Place, m: Measure, at: usize, waits: usize) -> Going
 }
 
 // The same place after a word, with its cursor and its extra pixels elsewhere.
-fn strode(p: Place, position: u32, extra: u32) -> Place
+pub fn strode(p: Place, position: u32, extra: u32) -> Place
     ensures { λ r. ⌜ r ≡ strodePlace p position extra ⌝ }
 {
     let before = p.cursor;
