@@ -16,77 +16,104 @@ use Rattle.parser.specs.declared.lexeme.Lexeme.{Lexeme}
 use Rattle.rendering.specs.Ready.{Ready, stepFrom}
 use Rattle.rendering.specs.Pending.{Pending}
 use Rattle.rendering.specs.Running.{PassReady, none-fits, step-keeps}
+use Rattle.rendering.specs.Strides.{Waits}
 use Rattle.rendering.specs.Unrolled.{nothingResumed}
 use Rattle.rendering.specs.declared.step.Resumed.{Resumed}
 use Rattle.rendering.specs.declared.step.Ended.{Ended}
 use Rattle.rendering.specs.declared.step.Stepped.the-variants.{Go, Stop}
 use Rattle.table.specs.Numbers.{putEvents}
 use Rattle.drawing.specs.Drawn.{drawnFrom, eventsFrom}
-use Rattle.drawing.specs.Sheet.{Sheet, sheet, drawnOn, on-append, on-none, on-is, widths, measured-pen, pen-after}
+use Rattle.drawing.specs.Sheet.{Sheet, sheet, drawnOn, on-append, on-none, on-is, pen-after}
 use Rattle.drawing.specs.TokenDrawn.{tokDrawn, PenRoom}
 use Rattle.drawing.specs.PassDrawn.{DrawRoom, none-drawn, go-drawn, stop-drawn}
 use Rattle.drawing.specs.DrawnBounds.{tok-few}
+use Rattle.drawing.specs.DrawingOn.{PenReady, Strode}
 use Rattle.drawing.specs.declared.pen.Pen.{Pen}
+use Rattle.drawing.specs.declared.strides.Going.{Going}
+use Rattle.drawing.proofs.TokenEvents.{tok-narrow}
+use Rattle.drawing.proofs.OnwardEvents.{pen-rest}
 
 -- Between two tokens, the sheet at the end being known.
-pub record Drawing (t : List ℕ) (s : Settings) (goal : Sheet) (ev : List ℕ) (p : Place) (at : ℕ) (held : Resumed) (sum : Measure) (o : Pen) : Type 0 where
+pub record Drawing (t : List ℕ) (s : Settings) (goal : Sheet) (ev : List ℕ) (p : Place) (at : ℕ) (held : Resumed) (o : Pen) : Type 0 where
   pub draws : drawnOn (sheet ev o) (drawnFrom s p t at (held .chars .0) (held .count .0)) ≡ goal
-  pub ready : PassReady s p t at held sum
-  pub few : o .next ≤ 500000000 + at
-  pub narrow : o .x .0 ≤ 100000000 + sum .pen .0
+  pub ready : PenReady s p t at held o
 
 abbrev pub penAt : (k x : ℕ) → Pen
 penAt k x = record { next = k; x = record { 0 = x } }
 
-pub drawing-first : (t : List ℕ) (s : Settings) (ev : List ℕ) (p : Place) (at : ℕ) (r : Resumed) (x k : ℕ) (sum : Measure)
-    → DrawRoom s p t at r x k → sum ≡ printedAt 0 0
-    → Drawing t s (drawnOn (sheet ev (penAt k x)) (drawnFrom s p t at (r .chars .0) (r .count .0))) ev p at r sum (penAt k x)
-drawing-first t s ev p at r x k sum h e =
-    rw e (record { draws = refl; ready = h .pass; few = omega (arith, h .few); narrow = omega (arith, h .narrow) })
+pub drawing-first : (t : List ℕ) (s : Settings) (ev : List ℕ) (p : Place) (at : ℕ) (r : Resumed) (x k : ℕ) → DrawRoom s p t at r x k
+    → Drawing t s (drawnOn (sheet ev (penAt k x)) (drawnFrom s p t at (r .chars .0) (r .count .0))) ev p at r (penAt k x)
+drawing-first t s ev p at r x k h =
+    record { draws = refl; ready = record { pass = h .pass; few = omega (arith, h .few); narrow = omega (arith, h .narrow) } }
 
-module _ (t : List ℕ) (s : Settings) (goal : Sheet) (ev : List ℕ) (p : Place) (at : ℕ) (held : Resumed) (sum : Measure) (o : Pen)
-    (d : Drawing t s goal ev p at held sum o)
+-- ---- strides
+
+module _ {t : List ℕ} {s : Settings} {goal : Sheet} {ev : List ℕ} {p : Place} {at : ℕ} {held : Resumed} {o : Pen} (d : Drawing t s goal ev p at held o)
+    {u : List ℕ} {g : Going} (f : Strode s t held ev p at o u g)
   where
-    pub pen-room : PenRoom o
-    pen-room =
-        let r = d .ready in
-        record {
-          few = omega (arith, d .few, r .inside, r .short);
-          narrow = omega (arith, d .narrow, r .small .0, r .inside, r .short);
-        }
+    pub drawing-strode : Drawing t s goal u (g .place) (g .at) held (g .pen)
+    drawing-strode = record { draws = f .onward .same ∙ d .draws; ready = f .onward .ready }
 
-    pub drawing-ends : heldTokens (held .chars .0) (held .count .0) (charsFrom t at) ≡ [] → sheet ev o ≡ goal
-    drawing-ends e =
-        sym (on-none (sheet ev o)) ∙ ap (drawnOn (sheet ev o)) (sym (none-drawn s p t at (held .chars .0) (held .count .0) e)) ∙ d .draws
+    module _ (w : g .waits ≡ 0 → ⊥) where
+      pub waits-ready : PenReady s (g .place) t (g .at) nothingResumed (g .pen) × Waits s (g .place) t (g .at) (g .waits)
+      waits-ready = (pen-rest (f .onward .ready) (f .waits w .1), f .waits w .0)
 
-    module _ (x : Lexeme) (y : Pending t at (held .chars .0) (held .count .0) x) where
-      pub token-ready : Ready s p t at x sum
-      token-ready =
-          let r = d .ready in
-          record { settings = r .settings; place = r .place; short = r .short; stands = y .stands; small = r .small }
+      pub drawing-waits : (z : Sheet) → z ≡ drawnOn (sheet u (g .pen)) (drawnFrom s (g .place) t (g .at) 0 0) → z ≡ goal
+      drawing-waits z e =
+          let k = f .waits w in
+          e ∙ (λ i. drawnOn (sheet u (g .pen)) (drawnFrom s (g .place) t (g .at) (sym (k .1) i) (sym (k .2) i))) ∙ drawing-strode .draws
 
-      module _ (u : List ℕ) (r : Pen) (e : sheet u r ≡ drawnOn (sheet ev o) (tokDrawn s p t at x)) where
-        pub drawing-stops : (z : Ended) → stepFrom s p t at x sum ≡ Stop z → sheet u r ≡ goal
-        drawing-stops z f =
-            e ∙ ap (drawnOn (sheet ev o)) (sym (stop-drawn s p t at (held .chars .0) (held .count .0) x sum y z f)) ∙ d .draws
+-- ---- a token
 
-        pub drawing-goes : (q : Place) (n : Measure) (l : Offset) → stepFrom s p t at x sum ≡ Go q n l
-            → (z : Resumed) → z ≡ nothingResumed → Drawing t s goal u q (x .end .0) z n r
-        drawing-goes q n l f z b =
-            let i = d .ready in
-            let ds = tokDrawn s p t at x in
-            let g = go-drawn s p t at (held .chars .0) (held .count .0) x sum y q n l f in
-            let k = step-keeps s p t at (held .chars .0) (held .count .0) x sum (i .settings) (i .place) (i .small) y q n l f in
-            let a = pen-after ev u o r ds e in
-            let w : n .pen .0 ≡ sum .pen .0 + widths ds = ap (λ (m : Measure). m .pen .0) (g .1) ∙ measured-pen sum ds in
-            rw b
-            (record {
-              draws = ap (λ (z : Sheet). drawnOn z (drawnFrom s q t (x .end .0) 0 0)) e ∙ sym (on-append (sheet ev o) ds (drawnFrom s q t (x .end .0) 0 0))
-                  ∙ ap (drawnOn (sheet ev o)) (sym (g .0)) ∙ d .draws;
-              ready = record { settings = i .settings; place = k .0; short = i .short; inside = y .stands .within; rest = none-fits t (x .end .0) nothingResumed refl; small = k .1 };
-              few = omega (arith, a .0, d .few, tok-few s p t at (held .chars .0) (held .count .0) x y);
-              narrow = omega (arith, a .1, d .narrow, w);
-            })
+module _ {t : List ℕ} {s : Settings} {goal : Sheet} {ev : List ℕ} {p : Place} {at : ℕ} {held : Resumed} {o : Pen} (d : Drawing t s goal ev p at held o) where
+  pub pen-room : PenRoom o
+  pen-room =
+      let r = d .ready in
+      record {
+        few = omega (arith, r .few, r .pass .inside, r .pass .short);
+        narrow = omega (arith, r .narrow, r .pass .inside, r .pass .short);
+      }
+
+  pub drawing-ends : heldTokens (held .chars .0) (held .count .0) (charsFrom t at) ≡ [] → sheet ev o ≡ goal
+  drawing-ends e =
+      sym (on-none (sheet ev o)) ∙ ap (drawnOn (sheet ev o)) (sym (none-drawn s p t at (held .chars .0) (held .count .0) e)) ∙ d .draws
+
+  module _ (x : Lexeme) (y : Pending t at (held .chars .0) (held .count .0) x) (none : Measure) (n : none ≡ printedAt 0 0) where
+    pub token-ready : Ready s p t at x none
+    token-ready =
+        let r = d .ready .pass in
+        rw n (record { settings = r .settings; place = r .place; short = r .short; stands = y .stands; small = r .small })
+
+    module _ (u : List ℕ) (r : Pen) (e : sheet u r ≡ drawnOn (sheet ev o) (tokDrawn s p t at x)) where
+      pub drawing-stops : (z : Ended) → stepFrom s p t at x none ≡ Stop z → sheet u r ≡ goal
+      drawing-stops z f =
+          e ∙ ap (drawnOn (sheet ev o)) (sym (stop-drawn s p t at (held .chars .0) (held .count .0) x none y z f)) ∙ d .draws
+
+      pub drawing-goes : (q : Place) (m : Measure) (l : Offset) → stepFrom s p t at x none ≡ Go q m l
+          → (z : Resumed) → z ≡ nothingResumed → Drawing t s goal u q (x .end .0) z r
+      drawing-goes q m l f z b =
+          let h = token-ready in
+          let ds = tokDrawn s p t at x in
+          let g = go-drawn s p t at (held .chars .0) (held .count .0) x none y q m l f in
+          let k = step-keeps s p t at (held .chars .0) (held .count .0) x none (h .settings) (h .place) (h .small) y q m l f in
+          let a = pen-after ev u o r ds e in
+          rw b
+          (record {
+            draws = ap (λ (z : Sheet). drawnOn z (drawnFrom s q t (x .end .0) 0 0)) e ∙ sym (on-append (sheet ev o) ds (drawnFrom s q t (x .end .0) 0 0))
+                ∙ ap (drawnOn (sheet ev o)) (sym (g .0)) ∙ d .draws;
+            ready = record {
+              pass = record {
+                settings = h .settings;
+                place = k .0;
+                short = h .short;
+                inside = y .stands .within;
+                rest = none-fits t (x .end .0) nothingResumed refl;
+                small = omega arith;
+              };
+              few = omega (arith, a .0, d .ready .few, tok-few s p t at (held .chars .0) (held .count .0) x y);
+              narrow = omega (arith, a .1, d .ready .narrow, tok-narrow s p t at x none h);
+            };
+          })
 
 -- The sheet at the end has all events.
 pub goal-is : (s : Settings) (p : Place) (t : List ℕ) (at chars count : ℕ) (ev u : List ℕ) (k x : ℕ) (r : Pen)

@@ -34,7 +34,7 @@ use Rattle.rendering.specs.Stepping.{steppedAt, tokOf}
 use Rattle.rendering.specs.Ready.{Standing, Ready, stepFrom}
 use Rattle.rendering.specs.declared.step.Stepped.{Stepped}
 use Rattle.rendering.proofs.RunLaws.{run-tok, run-end}
-use Rattle.drawing.specs.Sheet.{Sheet, drawnOn, measured-pen, measured-spaces}
+use Rattle.drawing.specs.Sheet.{Sheet, drawnOn, widths, measured-pen, measured-spaces}
 use Rattle.drawing.specs.TokenDrawn.{drawnOf, tokDrawn, measureOf, grownBy, Grows, runDrawn, printDrawn}
 use Rattle.drawing.specs.declared.grown.Grown.{Grown}
 
@@ -175,6 +175,18 @@ step-grows s p t at x m h =
       spaces = measured-spaces m (drawnOf y);
       narrow = omega (arith, f, tok-size t at x (h .stands), h .stands .within, h .short);
     })
+
+-- What a token draws is no wider than its bytes allow.
+pub tok-narrow : (s : Settings) (p : Place) (t : List ℕ) (at : ℕ) (x : Lexeme) (m : Measure) → Ready s p t at x m
+    → widths (tokDrawn s p t at x) + 8192 * at ≤ 8192 * x .end .0
+unfolding tokDrawn
+tok-narrow s p t at x m h =
+    let u = tokOf t at x in
+    let ts = tokens (charsFrom t (x .end .0)) in
+    let y = step s p at u ts in
+    let g : SoundTok u (spell ts) = rw tokens-cover (h .stands .sound) in
+    let f = fine-pen p m (sizeOf u) (charsOf u) y (fine.step-fine s p at m u ts (h .settings) (h .place) g) in
+    omega (arith, f, measured-pen m (drawnOf y), tok-size t at x (h .stands))
 
 -- ---- the same, of a step that was taken and its growth
 

@@ -1,5 +1,7 @@
-// The events of a line: the running pass again, token by token, each drawn (rules 7 to 9, and 13).
+// The events of a line: the running pass again, token by token or in strides, each drawn (rules 7 to 9, and 13).
 use crate::pen::Pen;
+use crate::strides::draw_on;
+use crate::strides::draw_waiting;
 use crate::tokens::draw_token;
 use meaning::counts::Chars;
 use meaning::counts::Offset;
@@ -47,26 +49,33 @@ pub fn draw_pass(
     ensures { λ r. ⌜ now (events .exit) ≡ putEvents (now (events .entry)) k (eventsFrom s start (now (text .entry)) from (rest .chars .0) (rest .count .0) x) ⌝ }
     ensures { λ r. ⌜ r ≡ k + length (drawnFrom s start (now (text .entry)) from (rest .chars .0) (rest .count .0)) ⌝ }
 {
+    let none = nothing_measured();
     let mut p = start;
     let mut at = from;
     let mut held = rest;
-    let mut sum = nothing_measured();
     let mut pen = Pen {
         next: k,
         x: Pixels(x),
     };
     loop {
-        let token = pending(text, at, held);
+        let g = draw_on(text, s, p, at, held, pen, events);
+        if g.waits != 0 {
+            let last = draw_waiting(text, s, g, events);
+            return last.next;
+        }
+        let here = g.place;
+        let to = g.at;
+        let drawn = g.pen;
+        let token = pending(text, to, held);
         let Lexed::Token(t) = token else {
-            return pen.next;
+            return drawn.next;
         };
-        let stepped = step_token(text, s, p, at, t, sum);
-        pen = draw_token(text, s, p, at, t, sum, stepped, pen, events);
-        let Stepped::Go(q, n, _) = stepped else {
+        let stepped = step_token(text, s, here, to, t, none);
+        pen = draw_token(text, s, here, to, t, none, stepped, drawn, events);
+        let Stepped::Go(q, _, _) = stepped else {
             return pen.next;
         };
         p = q;
-        sum = n;
         at = t.end.0 as usize;
         held = no_rest();
     }

@@ -35,14 +35,7 @@ pub struct Going {
 }
 
 // One space, and the word behind it.
-fn put_stride(
-    events: &mut [u32],
-    pen: Pen,
-    at: usize,
-    end: usize,
-    space: u32,
-    letters: u32,
-) -> Pen
+fn put_stride(events: &mut [u32], pen: Pen, at: usize, end: usize, space: u32, letters: u32) -> Pen
     requires { ⌜ (pen .next ≤ 900000000) × (pen .x .0 + space + letters ≤ 4000000000) × (at + 1 ≤ end) × (end ≤ 65535) ⌝ }
     ensures { λ r. ⌜ sheet (now (events .exit)) r ≡ drawnOn (sheet (now (events .entry)) pen) (drawn Space at (at + 1) 1 space ∷ drawn Printed (at + 1) end 0 letters ∷ []) ⌝ }
 {
@@ -100,14 +93,7 @@ fn draw_strides(
 }
 
 // The plain word that a line may stand at, if it fits.
-fn draw_first(
-    text: &[u8],
-    s: Settings,
-    p: Place,
-    at: usize,
-    pen: Pen,
-    events: &mut [u32],
-) -> Going
+fn draw_first(text: &[u8], s: Settings, p: Place, at: usize, pen: Pen, events: &mut [u32]) -> Going
     requires { ⌜ PenReady s p (now text) at nothingResumed pen ⌝ }
     ensures { λ r. ⌜ Strode s (now (text .entry)) nothingResumed (now (events .entry)) p at pen (now (events .exit)) r ⌝ }
 {
@@ -136,14 +122,7 @@ fn draw_first(
 }
 
 // Plain words as far as they fit.
-fn draw_words(
-    text: &[u8],
-    s: Settings,
-    p: Place,
-    at: usize,
-    pen: Pen,
-    events: &mut [u32],
-) -> Going
+fn draw_words(text: &[u8], s: Settings, p: Place, at: usize, pen: Pen, events: &mut [u32]) -> Going
     requires { ⌜ PenReady s p (now text) at nothingResumed pen ⌝ }
     ensures { λ r. ⌜ Strode s (now (text .entry)) nothingResumed (now (events .entry)) p at pen (now (events .exit)) r ⌝ }
 {
