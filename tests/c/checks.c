@@ -1,10 +1,40 @@
-/* The tests of the calls for C. Prints each case that fails, and at the end how many passed and failed. */
+/*
+ * The tests of the calls for C. Prints each case that fails, and at the end how many passed and failed.
+ *
+ * usage: checks [--edits N] [--seed N]
+ *
+ * N random edits are made, and as many tables spoiled at random, by default 20,000. They follow from the seed, by
+ * default 1.
+ */
 #include "harness.h"
 
 #include <stdio.h>
+#include <stdlib.h>
+#include <string.h>
 
-int main(void)
+static int usage(void)
 {
+    fprintf(stderr, "usage: checks [--edits N] [--seed N]\n");
+    return 2;
+}
+
+/* Is it a number, which is put at `n`. */
+static int read_number(const char *word, unsigned long *n)
+{
+    char *end;
+    *n = strtoul(word, &end, 10);
+    return end != word && *end == '\0';
+}
+
+int main(int count, char **words)
+{
+    unsigned long edits = 20000, seed = 1;
+    for (int i = 1; i < count; i += 2) {
+        unsigned long *n = strcmp(words[i], "--edits") == 0 ? &edits : strcmp(words[i], "--seed") == 0 ? &seed : NULL;
+        if (n == NULL || i + 1 == count || !read_number(words[i + 1], n)) {
+            return usage();
+        }
+    }
     printf("settings\n");
     test_settings();
     printf("texts by length\n");
@@ -23,7 +53,13 @@ int main(void)
     test_tables();
     printf("heights\n");
     test_heights();
-    printf("random edits\n");
-    test_edits();
+    printf("laying again\n");
+    test_again();
+    printf("laying again, refused\n");
+    test_refused();
+    printf("%lu spoiled tables, seed %lu\n", edits, seed);
+    test_spoiled(edits, seed);
+    printf("%lu random edits, seed %lu\n", edits, seed);
+    test_edits(edits, seed);
     return finish();
 }

@@ -1,98 +1,163 @@
 /*
- * Random texts and edits: a layout's table is one that the other calls take, no line before the first affected one
- * changes, and that one starts where it did, with the same rest. The seed is fixed.
+ * Random texts, each with a chain of random edits on one table. After each edit the first affected line is looked for
+ * and the text laid again, lent from that line's start on, and the table is compared with a fresh layout of the whole
+ * new text. How many lines were laid is computed a second time, from the old and the new table.
  */
+#include "chance.h"
 #include "harness.h"
-#include "utf8.h"
+#include "rules.h"
 
 #include <stdio.h>
 #include <string.h>
 
 #define NUMBERS BISQUEMOP_LINE_NUMBERS
-#define TEXTS 20000
-#define CHARACTERS 40
-#define LONGEST (4 * CHARACTERS)
-#define ROOM (NUMBERS * (2 * LONGEST + 1))
+#define ROOM (NUMBERS * (BISQUEMOP_LINES_MAX + 3))
+#define CHAIN 12 /* edits of one text */
 
-/* Up to n characters of every class, letters and spaces the most often. `places` has where each ends. */
-static size_t random_text(uint8_t *text, uint32_t n, size_t *places, size_t *characters)
-{
-    static const uint32_t some[] = {'a',  'b',  'c',  'd',  ' ',  ' ',    ' ',    '\n',
-                                    '\r', '\t', 0xA0, 0xAD, 0xE9, 0x200B, 0x3000, 0x1F600};
-    size_t len = 0;
-    *characters = below(n + 1);
-    for (size_t i = 0; i < *characters; i++) {
-        places[i] = len;
-        len += encode(some[below(sizeof some / sizeof some[0])], text + len);
-    }
-    places[*characters] = len;
-    return len;
-}
+/* A text with its lines. Numbers past the last line are what edits and other texts have left there. */
+static uint8_t text[BISQUEMOP_TEXT_MAX], edited[BISQUEMOP_TEXT_MAX], inserted[BISQUEMOP_TEXT_MAX];
+static size_t len;
+static uint32_t table[ROOM];
+static uint64_t lines;
 
-static struct bisquemop_settings random_settings(void)
-{
-    uint32_t glyph = 1 + below(8);
-    struct bisquemop_settings s = {glyph,      below(12 * glyph), below(6 * glyph), below(20), below(20), 1 + below(64),
-                                   below(200), (int32_t)below(100) - 50, below(4), below(3), below(2), below(2)};
-    return s;
-}
+/* How many edits were of a kind that matters. */
+static unsigned long behind, kept, moved, resumed, none_laid, grown, shrunk, too_small, empty, replaced;
 
 /* The sum that the height is (rule 11). */
-static uint64_t height_of(struct bisquemop_settings s, const uint32_t *table, uint64_t lines)
+static uint64_t height_of(struct bisquemop_settings s)
 {
     uint64_t height = s.base;
     for (uint64_t k = 0; k + 1 < lines; k++) {
-        const uint32_t *line = table + NUMBERS * k, *next = line + NUMBERS;
-        int last_and_empty = k + 2 == lines && next[BISQUEMOP_LINE_START] + 1 == next[BISQUEMOP_LINE_REACH];
-        if (line[BISQUEMOP_LINE_END] == BISQUEMOP_END_NEW_LINE) {
+        uint32_t end = line_number(table, k, BISQUEMOP_LINE_END);
+        int last_and_empty = k + 2 == lines && line_number(table, k + 1, BISQUEMOP_LINE_START) == len;
+        if (end == BISQUEMOP_END_NEW_LINE) {
             height += s.spacing + s.paragraph;
-        } else if (line[BISQUEMOP_LINE_END] == BISQUEMOP_END_LINE_BREAK && !last_and_empty) {
+        } else if (end == BISQUEMOP_END_LINE_BREAK && !last_and_empty) {
             height += s.spacing;
         }
     }
     return height;
 }
 
-static uint64_t lay(const char *what, struct bisquemop_settings s, const uint8_t *text, size_t len, uint32_t *table)
+/* Counts an edit by its kinds. */
+static void count_kinds(struct edit e, uint64_t first, uint64_t laid, uint64_t met, uint64_t new_lines)
 {
-    uint64_t lines = 0;
-    int done = bisquemop_settings_layout(&s, text, len, table, NUMBERS * (len + 1), &lines) == BISQUEMOP_OK;
-    expect(what, done && 1 <= lines && lines <= len + 1 &&
-                     table[NUMBERS * (lines - 1) + BISQUEMOP_LINE_REACH] == len + 1);
-    return lines;
+    behind += first > 0;
+    kept += met < lines;
+    moved += met < lines && length_change(e) != 0;
+    resumed += line_number(table, first, BISQUEMOP_LINE_REST_END) != 0;
+    none_laid += laid == 0;
+    grown += new_lines > lines;
+    shrunk += new_lines < lines;
+    replaced += e.a == 0 && e.b == len;
+    empty += len == 0 || len == e.b - e.a;
 }
 
-void test_edits(void)
+/* Lays the text again into tables that are large enough, and one that is not. */
+static void lay_again(const char *what, struct bisquemop_settings s, struct relay *given, uint64_t first,
+                      const uint32_t *fresh, uint64_t new_lines)
 {
-    static uint32_t old_table[ROOM], new_table[ROOM];
-    unsigned long later = 0;
-    for (unsigned long i = 0; i < TEXTS; i++) {
-        char what[64];
-        uint8_t old[LONGEST], inserted[LONGEST], edited[2 * LONGEST];
-        size_t places[CHARACTERS + 1], others[CHARACTERS + 1], characters, ignored;
-        struct bisquemop_settings s = random_settings();
-        size_t len = random_text(old, CHARACTERS, places, &characters);
-        size_t more = random_text(inserted, below(2) * 5, others, &ignored);
-        size_t from = below((uint32_t)characters + 1);
-        size_t a = places[from], b = places[from + below((uint32_t)(characters - from) + 1)];
-        memcpy(edited, old, a);
-        memcpy(edited + a, inserted, more);
-        memcpy(edited + a + more, old + b, len - b);
-
-        snprintf(what, sizeof what, "random edit %lu", i);
-        uint64_t lines = lay(what, s, old, len, old_table);
-        lay(what, s, edited, len - (b - a) + more, new_table);
-        uint64_t first = 0;
-        while (first + 1 < lines && old_table[NUMBERS * first + BISQUEMOP_LINE_REACH] <= a) {
-            first++;
-        }
-        expect_affected(what, old_table, NUMBERS * (size_t)lines, lines, (uint32_t)a, (uint32_t)b, (uint32_t)more,
-                        BISQUEMOP_OK, first);
-        expect_height(what, s, old_table, NUMBERS * (size_t)lines, lines, BISQUEMOP_OK, height_of(s, old_table, lines));
-        /* the lines before it, and the start and the rest of the line itself */
-        size_t same = NUMBERS * (size_t)first + BISQUEMOP_LINE_REST_COUNT + 1;
-        expect(what, memcmp(old_table, new_table, same * sizeof old_table[0]) == 0);
-        later += first > 0;
+    static uint32_t after[ROOM];
+    uint64_t most = new_lines > lines ? new_lines : lines, met;
+    uint64_t laid = lines_laid(given, first, fresh, new_lines, &met);
+    count_kinds(given->edit, first, laid, met, new_lines);
+    if (new_lines > lines && below(4) == 0) {
+        given->table_len = NUMBERS * lines + below((uint32_t)(NUMBERS * (new_lines - lines)));
+        expect_refused(what, s, given, BISQUEMOP_TOO_SMALL, new_lines);
+        too_small++;
     }
-    expect("a quarter of the random edits or more leave lines as they were", later >= TEXTS / 4);
+    given->table_len = NUMBERS * most + (below(2) ? 0 : below(3 * NUMBERS));
+    memcpy(after, table, given->table_len * sizeof *table);
+    memcpy(after, fresh, NUMBERS * new_lines * sizeof *table);
+    expect_again(what, s, given, BISQUEMOP_OK, new_lines, laid, after);
+    memcpy(table, after, NUMBERS * most * sizeof *table);
+}
+
+static void one_edit(const char *what, struct bisquemop_settings s, size_t most)
+{
+    static uint32_t fresh[ROOM];
+    struct edit e = random_edit(text, len, most, inserted);
+    size_t new_len = put_edited(edited, text, len, e, inserted);
+    uint64_t new_lines = lay_text(what, s, edited, new_len, fresh, NUMBERS * (new_len + 1));
+    uint64_t first = affected_line(table, lines, e.a);
+    expect_affected(what, table, NUMBERS * lines, lines, e.a, e.b, e.inserted, BISQUEMOP_OK, first);
+    expect_height(what, s, table, NUMBERS * lines, lines, BISQUEMOP_OK, height_of(s));
+    /* the lines before it, and the start and the rest of the line itself */
+    size_t same = NUMBERS * first + BISQUEMOP_LINE_REST_COUNT + 1;
+    expect(what, memcmp(table, fresh, same * sizeof *table) == 0);
+
+    size_t start = line_number(table, first, BISQUEMOP_LINE_START);
+    struct relay given = {edited + start, new_len - start, table, 0, lines, e};
+    lay_again(what, s, &given, first, fresh, new_lines);
+    memcpy(text, edited, new_len);
+    len = new_len;
+    lines = new_lines;
+}
+
+/* A new text of at most so many bytes, and its lines. One in four texts is as long as it may be. */
+static void new_text(const char *what, struct bisquemop_settings s, size_t most)
+{
+    int full = below(4) == 0;
+    len = random_text(text, below((uint32_t)most / 4 + 1));
+    while (full && most - len >= 4) {
+        len += random_text(text + len, (most - len) / 4);
+    }
+    lines = lay_text(what, s, text, len, table, NUMBERS * (len + 1));
+}
+
+/* How many bytes a text may have: mostly some, at times many, seldom as many as a text can have. */
+static size_t random_most(void)
+{
+    if (below(400) == 0) {
+        return BISQUEMOP_TEXT_MAX;
+    }
+    return below(50) == 0 ? 2000 : 160;
+}
+
+/* Of `of` edits, how many hundredths are of a kind. */
+static unsigned long part_of(unsigned long kind, unsigned long of)
+{
+    return of == 0 ? 0 : 100 * kind / of;
+}
+
+static void expect_kinds(unsigned long of)
+{
+    printf("%lu edits: first affected line not line 0 %lu %%, with a rest %lu %%; old lines follow %lu %%, "
+           "moved %lu %%; no line laid %lu %%; more lines %lu %%, fewer %lu %%; table too small %lu %%\n",
+           of, part_of(behind, of), part_of(resumed, of), part_of(kept, of), part_of(moved, of),
+           part_of(none_laid, of), part_of(grown, of), part_of(shrunk, of), part_of(too_small, of));
+    if (of < 10000) {
+        return;
+    }
+    expect("a quarter of the edits or more leave lines as they were", behind >= of / 4);
+    expect("a quarter or more end at an old line that is moved", moved >= of / 4);
+    expect("edits at lines with a rest, and such that lay nothing", resumed >= of / 50 && none_laid >= of / 50);
+    expect("edits to more and to fewer lines", grown >= of / 10 && shrunk >= of / 10);
+    expect("edits of whole texts, of the empty text and to it", replaced >= of / 50 && empty >= of / 50);
+    expect("tables that are too small", too_small >= of / 50);
+}
+
+/* A text, and so many edits of it: those from edit `from` on. */
+static void one_chain(unsigned long from, unsigned long edits, unsigned long seed)
+{
+    struct bisquemop_settings s = random_settings();
+    size_t most = random_most();
+    char what[64];
+    snprintf(what, sizeof what, "the text of edit %lu, seed %lu", from, seed);
+    new_text(what, s, most);
+    for (unsigned long i = from; i < from + edits; i++) {
+        snprintf(what, sizeof what, "edit %lu, seed %lu", i, seed);
+        redraw_heights(&s);
+        one_edit(what, s, most);
+        tell_progress(i + 1);
+    }
+}
+
+void test_edits(unsigned long edits, unsigned long seed)
+{
+    seed_with(seed);
+    for (unsigned long i = 0; i < edits; i += CHAIN) {
+        one_chain(i, edits - i < CHAIN ? edits - i : CHAIN, seed);
+    }
+    expect_kinds(edits);
 }

@@ -195,8 +195,8 @@ void expect_drawing(const char *what, struct bisquemop_settings s, const uint8_t
     }
 }
 
-/* A copy of the table a call is to read, between the guards. */
-static const uint32_t *lend_table(const uint32_t *table, size_t table_len)
+/* A copy of a table that a call is lent, between the guards. */
+static uint32_t *lend_table(const uint32_t *table, size_t table_len)
 {
     uint32_t *copy = lend(table_len);
     if (copy != NULL) {
@@ -267,6 +267,108 @@ void expect_y(const char *what, struct bisquemop_settings s, const uint32_t *tab
     }
     compare_y(what, spread_y, line, y);
     compare_lent(what, table_len, table, table_len);
+}
+
+/* A copy of the part that is lent, between letters that would make a word longer. */
+#define PART_ROOM (2 * BISQUEMOP_TEXT_MAX)
+
+static uint8_t lent_part[GUARD + PART_ROOM + GUARD];
+
+static const uint8_t *lend_part(const struct relay *given)
+{
+    if (given->part_len > PART_ROOM) {
+        expect("the tests' own copy of a part is large enough", 0);
+        return NULL;
+    }
+    memset(lent_part, 'x', GUARD + given->part_len + GUARD);
+    if (given->part == NULL) {
+        return NULL;
+    }
+    memcpy(lent_part + GUARD, given->part, given->part_len);
+    return lent_part + GUARD;
+}
+
+static int part_is_kept(const struct relay *given)
+{
+    return given->part_len == 0 || memcmp(lent_part + GUARD, given->part, given->part_len) == 0;
+}
+
+/* Ends the line of a case that failed with what laying again was lent. */
+static void show_relay(const struct relay *given, int spread)
+{
+    printf(spread ? ", from a struct" : ", from twelve numbers");
+    printf(", for %" PRIu64 " lines, %" PRIu32 " %" PRIu32 " %" PRIu32, given->lines, given->edit.a, given->edit.b,
+           given->edit.inserted);
+    show_text(given->part, given->part_len);
+}
+
+static void call_again(struct bisquemop_settings s, const struct relay *given, int spread, struct answer *a,
+                       struct answer *laid)
+{
+    uint32_t *table = lend_table(given->table, given->table_len);
+    const uint8_t *part = lend_part(given);
+    struct edit e = given->edit;
+    *a = *laid = no_answer();
+    a->number = spread ? bisquemop_settings_lay_again(&s, part, given->part_len, table, given->table_len, given->lines,
+                                                      e.a, e.b, e.inserted, &a->value, &laid->value)
+                       : bisquemop_lay_again(s.glyph, s.width, s.tab, s.spacing, s.paragraph, s.base, s.height, s.top,
+                                             s.alignment, s.vertical, s.leading, s.trailing, part, given->part_len,
+                                             table, given->table_len, given->lines, e.a, e.b, e.inserted, &a->value,
+                                             &laid->value);
+    laid->number = a->number;
+}
+
+void expect_again(const char *what, struct bisquemop_settings s, const struct relay *given, uint32_t number,
+                  uint64_t value, uint64_t laid, const uint32_t *after)
+{
+    int done = number == BISQUEMOP_OK;
+    for (int spread = 0; spread < 2; spread++) {
+        struct answer a, counted;
+        call_again(s, given, spread, &a, &counted);
+        if (!compare(what, &a, number, value)) {
+            show_relay(given, spread);
+        }
+        if (!compare(what, &counted, number, done ? laid : UNWRITTEN)) {
+            printf(", the count of lines laid");
+            show_relay(given, spread);
+        }
+        compare_lent(what, given->table_len, done ? after : given->table, given->table_len);
+        if (!part_is_kept(given)) {
+            expect("the part is only read", 0);
+        }
+    }
+}
+
+void expect_refused(const char *what, struct bisquemop_settings s, const struct relay *given, uint32_t number,
+                    uint64_t value)
+{
+    expect_again(what, s, given, number, value, 0, NULL);
+}
+
+size_t put_edited(uint8_t *to, const uint8_t *text, size_t len, struct edit e, const uint8_t *inserted)
+{
+    memcpy(to, text, e.a);
+    memcpy(to + e.a, inserted, e.inserted);
+    memcpy(to + e.a + e.inserted, text + e.b, len - e.b);
+    return e.a + e.inserted + (len - e.b);
+}
+
+uint64_t lay_text(const char *what, struct bisquemop_settings s, const uint8_t *text, size_t len, uint32_t *table,
+                  size_t table_len)
+{
+    uint64_t lines = 0;
+    int done = bisquemop_settings_layout(&s, text, len, table, table_len, &lines) == BISQUEMOP_OK;
+    expect(what, done && 1 <= lines && lines <= len + 1 &&
+                     table[BISQUEMOP_LINE_NUMBERS * (lines - 1) + BISQUEMOP_LINE_REACH] == len + 1);
+    return lines;
+}
+
+void tell_progress(unsigned long done)
+{
+    if (done % 100000 == 0) {
+        printf("%lu\n", done);
+        fflush(stdout);
+    }
 }
 
 int finish(void)

@@ -40,8 +40,40 @@ void expect_height(const char *what, struct bisquemop_settings s, const uint32_t
 void expect_y(const char *what, struct bisquemop_settings s, const uint32_t *table, size_t table_len, uint64_t lines,
               uint64_t line, uint32_t number, uint64_t value, int32_t y);
 
-/* A number below n, from a fixed seed. */
-uint32_t below(uint32_t n);
+/* An edit: the old bytes from a up to b are replaced by so many others. */
+struct edit {
+    uint32_t a, b, inserted;
+};
+
+/* Puts the edited text at `to`, and answers its length. */
+size_t put_edited(uint8_t *to, const uint8_t *text, size_t len, struct edit e, const uint8_t *inserted);
+
+/* What laying again is lent besides the settings. */
+struct relay {
+    const uint8_t *part;
+    size_t part_len;
+    const uint32_t *table;
+    size_t table_len;
+    uint64_t lines;
+    struct edit edit;
+};
+
+/*
+ * The same with a table to write. Where the call is done, the table must be what stands at `after`, all `table_len`
+ * numbers, and `laid` must be written as the count of lines laid; else both must stay as they were. The part is lent as
+ * a copy of its own: nothing of the text stands beside it.
+ */
+void expect_again(const char *what, struct bisquemop_settings s, const struct relay *given, uint32_t number,
+                  uint64_t value, uint64_t laid, const uint32_t *after);
+void expect_refused(const char *what, struct bisquemop_settings s, const struct relay *given, uint32_t number,
+                    uint64_t value);
+
+/* Lays a text into a table, which must have room for it, and answers how many lines there are. */
+uint64_t lay_text(const char *what, struct bisquemop_settings s, const uint8_t *text, size_t len, uint32_t *table,
+                  size_t table_len);
+
+/* Prints how many cases of a long run are done, at every 100,000. */
+void tell_progress(unsigned long done);
 
 /* Prints 'N passed, M failed' and answers the program's exit status. */
 int finish(void);
@@ -56,6 +88,9 @@ void test_layout(void);
 void test_events(void);
 void test_tables(void);
 void test_heights(void);
-void test_edits(void);
+void test_again(void);
+void test_refused(void);
+void test_spoiled(unsigned long tables, unsigned long seed);
+void test_edits(unsigned long edits, unsigned long seed);
 
 #endif

@@ -1,4 +1,5 @@
 /* bisquemop_check_text on random texts that are UTF-8 or nearly so, held to Table 3-7. The seed is fixed. */
+#include "chance.h"
 #include "harness.h"
 #include "utf8.h"
 
@@ -7,17 +8,6 @@
 
 #define TEXTS 100000
 #define LONGEST 300
-
-/* xorshift64: the same numbers in every run. */
-static uint64_t state = UINT64_C(0x9E3779B97F4A7C15);
-
-uint32_t below(uint32_t n)
-{
-    state ^= state << 13;
-    state ^= state >> 7;
-    state ^= state << 17;
-    return (uint32_t)((state >> 32) % n);
-}
 
 /* A scalar value: any, or one near an end of a row of Table 3-7. */
 static uint32_t scalar(void)

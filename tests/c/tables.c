@@ -84,20 +84,39 @@ static void no_height(const char *what, struct bisquemop_settings s, const uint3
     expect_y(what, s, numbers, len, lines, lines, number, value, KEPT);
 }
 
-/* A bad table comes before a bad edit and an edited text that is too long, and after the settings. */
+/* Laying again is refused by the same tests, whatever the edit is. */
+static void not_again(const char *what, struct bisquemop_settings s, const char *part, size_t part_len,
+                      const uint32_t *numbers, size_t len, uint64_t lines, uint32_t number, uint64_t value)
+{
+    static const struct edit edits[] = {{0, 0, 0}, {1, 0, 0}, {0, 0, UINT32_MAX}, {UINT32_MAX, UINT32_MAX, 0}};
+    for (size_t i = 0; i < sizeof edits / sizeof edits[0]; i++) {
+        struct relay given = {(const uint8_t *)part, part_len, numbers, len, lines, edits[i]};
+        expect_refused(what, s, &given, number, value);
+    }
+}
+
+/* A bad table comes before a bad edit and an edited text that is too long, and after the settings and a lent text. */
 static void bad_table(const char *what, const uint32_t *numbers, size_t len, uint64_t lines, uint64_t bad)
 {
+    static char too_long[BISQUEMOP_TEXT_MAX + 1];
     struct bisquemop_settings s = standing(30, 40, 0);
     expect_affected(what, numbers, len, lines, 0, 0, 0, BISQUEMOP_BAD_LINE, bad);
     expect_affected(what, numbers, len, lines, 1, 0, 0, BISQUEMOP_BAD_LINE, bad);
     expect_affected(what, numbers, len, lines, 0, 0, UINT32_MAX, BISQUEMOP_BAD_LINE, bad);
     no_height(what, s, numbers, len, lines, BISQUEMOP_BAD_LINE, bad);
+    not_again(what, s, NULL, 0, numbers, len, lines, BISQUEMOP_BAD_LINE, bad);
+    not_again(what, s, "ab cde", 6, numbers, len, lines, BISQUEMOP_BAD_LINE, bad);
+    not_again(what, s, "ab\xFF", 3, numbers, len, lines, BISQUEMOP_NOT_UTF8, 2);
+    not_again(what, s, too_long, sizeof too_long, numbers, len, lines, BISQUEMOP_TEXT_TOO_LONG, 65536);
     s.vertical = 3;
     no_height(what, s, numbers, len, lines, BISQUEMOP_UNKNOWN_ALIGNMENT, 3);
+    not_again(what, s, too_long, sizeof too_long, numbers, len, lines, BISQUEMOP_UNKNOWN_ALIGNMENT, 3);
     s.alignment = 4;
     no_height(what, s, numbers, len, lines, BISQUEMOP_UNKNOWN_ALIGNMENT, 4);
+    not_again(what, s, too_long, sizeof too_long, numbers, len, lines, BISQUEMOP_UNKNOWN_ALIGNMENT, 4);
     s.base = 0;
     no_height(what, s, numbers, len, lines, BISQUEMOP_SETTING_OUT_OF_RANGE, 0);
+    not_again(what, s, too_long, sizeof too_long, numbers, len, lines, BISQUEMOP_SETTING_OUT_OF_RANGE, 0);
 }
 
 static void test_table_examples(void)
