@@ -1,6 +1,6 @@
 -- The loop over a line's tokens: what is drawn when the rest is drawn stays the same.
 -- Assumes nothing.
-use Prim.Native.Nat.{ℕ, _+_, _≤_}
+use Prim.Native.Nat.{ℕ, _+_}
 use mathlib.Core.Path.{_≡_, refl, sym, ap, _∙_}
 use mathlib.Core.List.{List, []}
 use native.Mathlib.Omega.{arith}
@@ -15,7 +15,7 @@ use Rattle.parser.specs.Lexing.{charsFrom}
 use Rattle.parser.specs.declared.lexeme.Lexeme.{Lexeme}
 use Rattle.rendering.specs.Ready.{Ready, stepFrom}
 use Rattle.rendering.specs.Pending.{Pending}
-use Rattle.rendering.specs.Running.{PassReady, none-fits, step-keeps}
+use Rattle.rendering.specs.Running.{none-fits, step-keeps}
 use Rattle.rendering.specs.Strides.{Waits}
 use Rattle.rendering.specs.Unrolled.{nothingResumed}
 use Rattle.rendering.specs.declared.step.Resumed.{Resumed}

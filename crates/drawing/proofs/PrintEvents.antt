@@ -2,7 +2,6 @@
 -- Assumes nothing.
 use Prim.Native.Nat.{ℕ, _+_, _-_, _*_, _/_, _≤_}
 use mathlib.Core.Path.{_≡_, refl, sym, ap, _∙_}
-use mathlib.Core.Bool.{true, false}
 use mathlib.Core.List.{List, [], _∷_}
 use native.Mathlib.Omega.{arith}
 use borrow.Author.Tests.{eq-eqb, ne-eqb, eqb-false}
@@ -11,9 +10,9 @@ use lib.ListN.{length, take, drop, length-take, take-append-drop}
 use Rattle.basis.specs.Choice.{pick, pick-cases, by-test}
 use Rattle.unicode.specs.Encoding.{size}
 use Rattle.meaning.specs.Characters.{glue}
-use Rattle.meaning.specs.Tokens.{Tok, word}
+use Rattle.meaning.specs.Tokens.{word}
 use Rattle.meaning.specs.Cursor.{roomOf, fitsIn}
-use Rattle.meaning.specs.Words.{Drawn, drawn, last, grow, stretches, glues, drawnStretches, drawnWord}
+use Rattle.meaning.specs.Words.{drawn, last, grow, stretches, glues, drawnStretches, drawnWord}
 use Rattle.meaning.specs.LineIter.{Held, Step, go, stop, cutWord, onWord, step}
 use Rattle.meaning.specs.Line.{measured}
 use Rattle.meaning.specs.declared.settings.Settings.{Settings}
@@ -23,16 +22,14 @@ use Rattle.meaning.specs.declared.line.LineEnd.{LineEnd}
 use Rattle.meaning.specs.declared.line.EventKind.the-variants.{Printed}
 use Rattle.meaning.specs.declared.line.Measure.{Measure}
 use Rattle.meaning.specs.declared.tokens.TokenKind.the-variants.{Word}
-use Rattle.laws.specs.Spell.{textOf, SoundTok}
 use Rattle.laws.specs.PassBounds.{size-take}
 use Rattle.laws.specs.Measuring.{glues-append}
-use Rattle.parser.specs.Lexing.{charsFrom}
 use Rattle.parser.specs.declared.lexeme.Lexeme.{Lexeme}
 use Rattle.rendering.specs.FineLaws.{times-bound}
-use Rattle.rendering.specs.Stepping.{steppedAt, tokOf}
+use Rattle.rendering.specs.Stepping.{steppedAt}
 use Rattle.rendering.specs.Ready.{Ready, stepFrom}
 use Rattle.rendering.specs.declared.step.Stepped.{Stepped}
-use Rattle.rendering.proofs.WordLaws.{WordAt, wordAt, word-at}
+use Rattle.rendering.proofs.WordLaws.{WordAt, word-at}
 use Rattle.drawing.specs.Sheet.{Sheet, drawnOn}
 use Rattle.drawing.specs.TokenDrawn.{drawnOf, tokDrawn, grownBy, takenEnd, printDrawn}
 use Rattle.drawing.specs.declared.grown.Grown.{Grown}

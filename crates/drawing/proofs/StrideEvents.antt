@@ -2,14 +2,13 @@
 -- Assumes nothing.
 use Prim.Native.Nat.{ℕ, _+_, _-_, _*_, _/_, _≤_, _<_, min}
 use mathlib.Core.Path.{_≡_, refl, sym, ap, _∙_}
-use mathlib.Core.Bool.{Bool, true, false}
+use mathlib.Core.Bool.{true, false}
 use mathlib.Core.List.{List, [], _∷_, _++_}
 use native.Mathlib.Nat.{div-one, div-lt-iff-lt-mul}
 use native.Mathlib.Omega.{arith}
-use borrow.Author.Tests.{le-leb, lt-leb, leb-false, eq-eqb}
+use borrow.Author.Tests.{leb-false, eq-eqb}
 use Rattle.basis.specs.Choice.{pick}
 use Rattle.basis.specs.Order.{by-eq}
-use Rattle.meaning.specs.Tokens.{tokens}
 use Rattle.meaning.specs.Cursor.{placedAt, roomOf, fitsIn, advance}
 use Rattle.meaning.specs.SpaceConfig.{spacesWidth, spacesAfter}
 use Rattle.meaning.specs.Words.{Drawn, drawn}
@@ -17,19 +16,17 @@ use Rattle.meaning.specs.LineIter.{movedOn, usedUp, cutRun, onSpace, onWord, st
 use Rattle.meaning.specs.Line.{noted}
 use Rattle.meaning.specs.declared.settings.Settings.{Settings}
 use Rattle.meaning.specs.declared.counts.Offset.{Offset}
-use Rattle.meaning.specs.declared.cursor.LineCursor.{LineCursor}
 use Rattle.meaning.specs.declared.cursor.Place.{Place}
 use Rattle.meaning.specs.declared.line.EventKind.the-variants.{Space, Printed}
 use Rattle.meaning.specs.declared.line.Measure.{Measure}
 use Rattle.parser.specs.declared.lexeme.Lexeme.{Lexeme}
 use Rattle.rendering.specs.Ahead.{lookAt}
-use Rattle.rendering.specs.FineLaws.{fits-room}
 use Rattle.rendering.specs.Stepping.{steppedAt}
 use Rattle.rendering.specs.Unrolled.{nothingResumed}
 use Rattle.rendering.specs.Ready.{Ready, stepFrom}
 use Rattle.rendering.specs.Runs.{wholeAnswer, cutAnswer}
 use Rattle.rendering.specs.Running.{PassReady}
-use Rattle.rendering.specs.Stopping.{wordMeasure, wordPlace}
+use Rattle.rendering.specs.Stopping.{wordPlace}
 use Rattle.rendering.specs.PlainWords.{PlainWord, Stride}
 use Rattle.rendering.specs.Strides.{strodePlace, Waits}
 use Rattle.rendering.specs.declared.look.Look.{Look}

@@ -1,6 +1,5 @@
 -- `drawing::strides::draw_words` meets its contract.
 -- Assumes nothing.
-use mathlib.Core.Path.{_∙_}
 use Rattle.drawing.proofs.OnwardEvents.{strode-on}
 use borrow.Author.Needs.{needs}
 use Rattle.drawing.proofs.strides.draw_words.Statement.{statement}

@@ -1,11 +1,7 @@
 -- `drawing::strides::put_stride` meets its contract.
 -- Assumes nothing.
-use mathlib.Core.Path.{_≡_, ap, _∙_}
-use mathlib.Core.List.{[], _∷_}
 use native.Mathlib.Omega.{arith}
-use Rattle.meaning.specs.Words.{drawn}
-use Rattle.meaning.specs.declared.line.EventKind.the-variants.{Space, Printed}
-use Rattle.drawing.specs.Sheet.{Sheet, sheet, drawnOn, pen-one}
+use Rattle.drawing.specs.Sheet.{sheet, pen-one}
 use Rattle.drawing.proofs.OnwardEvents.{on-two}
 use borrow.Author.Needs.{needs}
 use Rattle.drawing.proofs.strides.put_stride.Statement.{statement}
