@@ -29,7 +29,7 @@ use Rattle.parser.proofs.RunLaws.{weights, weights-glues, weights-count
 
 -- ---- classes
 
-letter-of : (k : Class) → wordClass k ≡ true → k ≡ letter
+pub letter-of : (k : Class) → wordClass k ≡ true → k ≡ letter
 letter-of letter e = refl
 letter-of lf e = absurd (false≢true e)
 letter-of cr e = absurd (false≢true e)

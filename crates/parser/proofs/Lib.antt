@@ -4,6 +4,7 @@ pub mod AsciiLaws
 pub mod RunLaws
 pub mod LexerLaws
 pub mod PartLaws
+pub mod ShorterLaws
 pub mod NextLaws
 pub mod WriteLaws
 pub mod TokenizeLaws

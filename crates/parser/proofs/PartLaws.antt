@@ -24,7 +24,7 @@ sizeTo t i k = size (take k (charsFrom t i))
 unfoldable pub gluesTo : List ℕ → ℕ → ℕ → ℕ
 gluesTo t i k = glues (take k (charsFrom t i))
 
-glues-more : (c : ℕ) (cs : List ℕ) → glues (c ∷ cs) ≡ glueOf c + glues cs
+pub glues-more : (c : ℕ) (cs : List ℕ) → glues (c ∷ cs) ≡ glueOf c + glues cs
 unfolding glues glueOf pick
 glues-more c cs = by-test (glue c) (λ e. rw e (omega arith)) (λ e. rw e (omega arith))
 

@@ -1,5 +1,6 @@
 pub mod Lexing
 pub mod Reading
 pub mod Scanning
+pub mod Shorter
 pub mod Ascii
 pub mod Writing

@@ -2,6 +2,7 @@
 pub mod ascii;
 pub mod characters;
 pub mod count;
+pub mod later;
 pub mod lexeme;
 pub mod lexer;
 pub mod part;

@@ -19,7 +19,10 @@ use Rattle.parser.specs.declared.lexeme.Lexeme.{Lexeme}
 use Rattle.rendering.specs.Ahead.{lookAt}
 use Rattle.rendering.specs.Stepping.{lookOf}
 use Rattle.rendering.specs.Runs.{wholeAnswer}
+use Rattle.rendering.specs.Foreseeing.{Foresees}
 use Rattle.rendering.specs.declared.look.Look.{Look}
+use Rattle.rendering.specs.declared.look.Foreseen.{Foreseen}
+use Rattle.rendering.specs.declared.look.Foreseen.the-variants.{Known}
 use Rattle.rendering.specs.declared.step.Stepped.the-variants.{Go}
 
 module _ (s : Settings) (q : Place) (at : ℕ) (ts : List Tok) where
@@ -35,6 +38,11 @@ module _ (s : Settings) (q : Place) (at : ℕ) (ts : List Tok) where
       → l ≡ lookOf (drawsSpace s q at ts)
   unfolding drawsSpace pick
   draws-some l e f g = rw (e, ne-eqb _ _ f) g
+
+  -- The look is known.
+  pub draws-known : (f : Foreseen) (l : Look) → q .empty ≡ false → (s .trailing ≡ 1 → ⊥) → Foresees (s .glyph .0) (q .cursor) (q .spaces) at ts f
+      → f ≡ Known l → l ≡ lookOf (drawsSpace s q at ts)
+  draws-known f l e d h k = draws-some l e d (rw k at h)
 
 module _ (s : Settings) (q : Place) (t : List ℕ) (x : Lexeme) (width : ℕ) (m : Measure) (l : Look)
     (is : l ≡ lookOf (drawsSpace s q (x .end .0) (tokens (charsFrom t (x .end .0)))))

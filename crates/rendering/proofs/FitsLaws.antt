@@ -18,7 +18,8 @@ use Rattle.rendering.specs.Lexed.{Lexes}
 use Rattle.rendering.specs.Stepping.{lookOf}
 use Rattle.rendering.specs.declared.look.Look.{Look}
 use Rattle.rendering.specs.Ahead.{lookAt, whiteWidth}
-use Rattle.rendering.proofs.KindLaws.{White, Halts}
+use Rattle.rendering.specs.Foreseeing.{White}
+use Rattle.rendering.proofs.KindLaws.{Halts}
 
 -- What a lookahead answers that had looked up to an offset before.
 unfoldable pub lookFrom : (reach : ℕ) → Looked → Look
@@ -33,7 +34,7 @@ unfolding lookFrom goesOn
 look-on r here l = let e : max r (max here (l .reach)) ≡ max (max r here) (l .reach) = omega arith in rw e
 
 -- A tab takes nothing of the extra pixels.
-none-used : (sp : Spaces) → spacesAfter sp 0 ≡ sp
+pub none-used : (sp : Spaces) → spacesAfter sp 0 ≡ sp
 unfolding spacesAfter
 none-used sp = let e : sp .extra .0 - 0 ≡ sp .extra .0 = omega arith in rw e
 
@@ -65,7 +66,7 @@ module _ (g : ℕ) (c : LineCursor) (sp : Spaces) (at : ℕ) (ts : List Tok) whe
   fits-halts (space cs n b) e = absurd e
   fits-halts (word cs b) e = absurd e
 
-  fits-white : (u : Tok) → White (kindOf u) → (w : ℕ) → w ≡ whiteWidth (kindOf u) (countOf u) c sp
+  pub fits-white : (u : Tok) → White (kindOf u) → (w : ℕ) → w ≡ whiteWidth (kindOf u) (countOf u) c sp
       → nextFits g c sp at (u ∷ ts)
       ≡ goesOn (fitsIn c w) (at + needOf u) (nextFits g (advance c w) (spacesAfter sp (countOf u)) (at + sizeOf u) ts)
   unfolding nextFits whiteWidth

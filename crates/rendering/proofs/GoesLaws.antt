@@ -18,6 +18,9 @@ use Rattle.rendering.specs.Unrolled.{farther, nothingResumed}
 use Rattle.rendering.specs.Running.{PassReady, none-fits}
 use Rattle.rendering.specs.PlainWords.{Stride, Found}
 use Rattle.rendering.specs.Strides.{goingAt, strodePlace, printedLast, justPrinted, Onward, Waits, Goes, StrideReady, WaitReady}
+use Rattle.rendering.specs.Foreseeing.{ForeseesFrom}
+use Rattle.rendering.specs.declared.look.Foreseen.{Foreseen}
+use Rattle.rendering.specs.declared.look.Foreseen.the-variants.{Nothing}
 use Rattle.rendering.specs.declared.step.Resumed.{Resumed}
 use Rattle.rendering.specs.declared.step.Ended.{Ended}
 use Rattle.rendering.specs.declared.strides.Going.{Going}
@@ -133,3 +136,13 @@ module _ {s : Settings} {p : Place} {t : List ℕ} {at : ℕ} {r : Resumed} {m :
   waits-end e is k =
       let w = f .waits d in
       ap (farther k) (is ∙ (λ i. ranFrom s (g .place) t (g .at .0) (sym (w .1) i) (sym (w .2) i) (g .measure)) ∙ f .onward .same)
+
+-- ---- where a look may be known
+
+pub stays-foreseen : (s : Settings) (p : Place) (t : List ℕ) (at : ℕ) (r : Resumed) (m : Measure) (f : Foreseen) (g : Going) → g ≡ goingAt p m at 0
+    → ForeseesFrom s p t at r f → ForeseesFrom s (g .place) t (g .at .0) r f
+unfolding goingAt
+stays-foreseen s p t at r m f g is h = rw is h
+
+pub nothing-foreseen : (s : Settings) (p : Place) (t : List ℕ) (at : ℕ) (r : Resumed) (f : Foreseen) → f ≡ Nothing → ForeseesFrom s p t at r f
+nothing-foreseen s p t at r f e = rw e tt

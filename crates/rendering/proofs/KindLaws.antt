@@ -18,6 +18,7 @@ use Rattle.meaning.specs.declared.tokens.TokenKind.the-variants.{NewLine, Carri
 use Rattle.meaning.specs.declared.cursor.LineCursor.{LineCursor}
 use Rattle.meaning.specs.declared.cursor.Spaces.{Spaces}
 use Rattle.rendering.specs.Ahead.{whiteWidth}
+use Rattle.rendering.specs.Foreseeing.{White}
 
 -- A token that ends the looking and adds nothing.
 abbrev pub Ends : TokenKind → Type 0
@@ -28,15 +29,7 @@ Ends Whitespace = Unit {0}
 Ends Word = ⊥
 Ends Break = ⊥
 
--- White space, and a token that ends the looking with no.
-abbrev pub White : TokenKind → Type 0
-White NewLine = ⊥
-White CarriageReturn = ⊥
-White Tab = Unit {0}
-White Whitespace = Unit {0}
-White Word = ⊥
-White Break = ⊥
-
+-- A token that ends the looking with no.
 abbrev pub Halts : TokenKind → Type 0
 Halts NewLine = Unit {0}
 Halts CarriageReturn = Unit {0}

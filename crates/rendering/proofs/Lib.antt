@@ -1,9 +1,11 @@
+pub mod BeyondLaws
 pub mod DrawLaws
 pub mod FitsLaws
 pub mod GoesLaws
 pub mod HyphenLaws
 pub mod KindLaws
 pub mod LayLaws
+pub mod LookLaws
 pub mod MoveLaws
 pub mod OnwardLaws
 pub mod PassLaws

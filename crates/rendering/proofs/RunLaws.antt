@@ -13,13 +13,14 @@ use lib.Seq.{take-take}
 use Rattle.basis.specs.Choice.{pick, pick-under}
 use Rattle.unicode.specs.Encoding.{size}
 use Rattle.meaning.specs.Tokens.{space, charsOf, sizeOf, tokens}
-use Rattle.meaning.specs.Cursor.{roomOf, fitsIn}
-use Rattle.meaning.specs.SpaceConfig.{spacesWidth}
+use Rattle.meaning.specs.Cursor.{roomOf, fitsIn, advance}
+use Rattle.meaning.specs.SpaceConfig.{spacesWidth, spacesAfter}
 use Rattle.meaning.specs.Words.{drawn}
 use Rattle.meaning.specs.LineIter.{heldAfter, skips, drawsSpace, movedOn, usedUp, trailingOn, when, cutRun, onSpace, step}
 use Rattle.meaning.specs.Line.{noted, measured}
 use Rattle.meaning.specs.declared.tokens.TokenKind.the-variants.{Whitespace}
 use Rattle.meaning.specs.declared.settings.Settings.{Settings}
+use Rattle.meaning.specs.declared.counts.Offset.{Offset}
 use Rattle.meaning.specs.declared.cursor.Place.{Place}
 use Rattle.meaning.specs.declared.line.EventKind.the-variants.{Space}
 use Rattle.meaning.specs.declared.line.LineEnd.the-variants.{LineBreak}
@@ -32,6 +33,10 @@ use Rattle.parser.specs.declared.lexeme.Part.{Part}
 use Rattle.rendering.specs.FineLaws.{fits-room, advance-fine, spaces-fine}
 use Rattle.rendering.specs.Stepping.{resumedAt, steppedAt, tokOf}
 use Rattle.rendering.specs.Ready.{Standing, Ready, stepFrom}
+use Rattle.rendering.specs.Ahead.{whiteWidth}
+use Rattle.rendering.specs.Foreseeing.{Foresees, ForeseesAfter}
+use Rattle.rendering.specs.declared.look.Foreseen.{Foreseen}
+use Rattle.rendering.specs.declared.look.Foreseen.the-variants.{Nothing, Known}
 use Rattle.rendering.specs.Runs.{charsIn, WholeRun, wholeAnswer, cutShown, CutRun, cutAnswer}
 use Rattle.rendering.specs.declared.step.Resumed.{Resumed}
 use Rattle.rendering.specs.declared.step.Stepped.the-variants.{Go, Stop}
@@ -137,10 +142,17 @@ module _ {s : Settings} {p : Place} {t : List ℕ} {at : ℕ} {x : Lexeme} {m : 
       let st = h .stands in
       omega (arith, run-fewer t at x k st, run-chars t at x k st, run-end t at x k st, length-size cs, st .within, h .short)
 
+  -- What is known of the look from after a run is what is known from where the line stands then.
+  pub run-foresees : (f : Foreseen) → ForeseesAfter s p t x f → (width : ℕ) → width ≡ spacesWidth (p .spaces) (x .count .0)
+      → Foresees (s .glyph .0) (advance (p .cursor) width) (spacesAfter (p .spaces) (x .count .0)) (x .end .0) (tokens (charsFrom t (x .end .0))) f
+  unfolding whiteWidth
+  run-foresees Nothing b width w = tt
+  run-foresees (Known l) b width w = rw w (rw k at (b .sees))
+
   -- The line stands in its box after a run that fits.
   pub whole-ready : (used q : Place) (width : ℕ) → used ≡ usedUp p (x .count .0) → q ≡ movedOn used width → fitsIn (p .cursor) width ≡ true
-      → WholeRun s q t x width m
-  whole-ready used q width u e f =
+      → width ≡ spacesWidth (p .spaces) (x .count .0) → (seen : Foreseen) → ForeseesAfter s p t x seen → WholeRun s q t x width m seen
+  whole-ready used q width u e f w seen b =
       let st = h .stands in
       let r = fits-room (p .cursor) width f in
       record {
@@ -150,6 +162,7 @@ module _ {s : Settings} {p : Place} {t : List ℕ} {at : ℕ} {x : Lexeme} {m : 
         within = st .within;
         pen = omega (arith, h .small, h .place, st .longer, st .within, h .short);
         spaces = omega (arith, space-few, h .small, st .longer, st .within, h .short);
+        sees = rw (e, u) (run-foresees seen b width w);
       }
 
   space-step : stepFrom s p t at x m
@@ -168,6 +181,12 @@ module _ {s : Settings} {p : Place} {t : List ℕ} {at : ℕ} {x : Lexeme} {m : 
       → (used q : Place) → used ≡ usedUp p (x .count .0) → q ≡ movedOn used width → wholeAnswer s q t x width m ≡ stepFrom s p t at x m
   unfolding onSpace pick steppedAt measured wholeAnswer
   space-whole width w e f used q u g = rw (space-step, e, g, u, ← w, f)
+
+  -- Where a run that fits leads.
+  pub run-went : skips s p ≡ false → fitsIn (p .cursor) (spacesWidth (p .spaces) (x .count .0)) ≡ true → (q : Place) (n : Measure) (o : Offset)
+      → stepFrom s p t at x m ≡ Go q n o → q ≡ movedOn (usedUp p (x .count .0)) (spacesWidth (p .spaces) (x .count .0))
+  unfolding onSpace pick steppedAt
+  run-went e f q n o g = let r = rw (space-step, e, f) at g in cc
 
   pub space-cut : (width : ℕ) → width ≡ spacesWidth (p .spaces) (x .count .0) → skips s p ≡ false → fitsIn (p .cursor) width ≡ false
       → cutAnswer s p t at x width m ≡ stepFrom s p t at x m

@@ -6,11 +6,12 @@ use mathlib.Core.Bool.{Bool, true, false}
 use mathlib.Core.List.{List}
 use Rattle.basis.specs.Choice.{pick}
 use Rattle.meaning.specs.Tokens.{tab, sizeOf, tokens}
-use Rattle.meaning.specs.Cursor.{roomOf, fitsIn, tabWidth}
+use Rattle.meaning.specs.Cursor.{roomOf, fitsIn, advance, tabWidth}
 use Rattle.meaning.specs.LineIter.{skips, drawsSpace, movedOn, onTab, step}
 use Rattle.meaning.specs.Line.{noted, measured}
 use Rattle.meaning.specs.declared.tokens.TokenKind.the-variants.{Tab}
 use Rattle.meaning.specs.declared.settings.Settings.{Settings}
+use Rattle.meaning.specs.declared.counts.Offset.{Offset}
 use Rattle.meaning.specs.declared.cursor.Place.{Place}
 use Rattle.meaning.specs.declared.line.EventKind.the-variants.{Space, Move}
 use Rattle.meaning.specs.declared.line.Measure.{Measure}
@@ -20,8 +21,13 @@ use Rattle.rendering.specs.FineLaws.{advance-fine}
 use Rattle.rendering.specs.Fine.{FinePlace}
 use Rattle.rendering.specs.Stepping.{lookOf, steppedAt, tokOf}
 use Rattle.rendering.specs.Ready.{Standing, Ready, stepFrom}
+use Rattle.rendering.specs.Ahead.{whiteWidth}
+use Rattle.rendering.specs.Foreseeing.{Foresees, ForeseesAfter}
 use Rattle.rendering.specs.declared.look.Look.{Look}
+use Rattle.rendering.specs.declared.look.Foreseen.{Foreseen}
+use Rattle.rendering.specs.declared.look.Foreseen.the-variants.{Nothing, Known}
 use Rattle.rendering.specs.declared.step.Stepped.the-variants.{Go}
+use Rattle.rendering.proofs.FitsLaws.{none-used}
 
 -- Drawn or not, it measures the same.
 drawn-or-not : (b : Bool) (pen spaces : ℕ) (m : Measure) → noted (pick b Space Move) pen spaces m ≡ noted Space pen spaces m
@@ -39,6 +45,10 @@ module _ (t : List ℕ) (at : ℕ) (x : Lexeme) (k : x .kind ≡ Tab) (st : Stan
   tab-end : x .end .0 ≡ at + 1
   unfolding lexemeAt sizeOf
   tab-end = ap (λ (y : Lexeme). y .end .0) (rw tab-tok at (st .is))
+
+  pub tab-count : x .count .0 ≡ 0
+  unfolding lexemeAt
+  tab-count = ap (λ (y : Lexeme). y .count .0) (rw tab-tok at (st .is))
 
 -- ---- the cases
 
@@ -66,6 +76,23 @@ module _ {s : Settings} {p : Place} {t : List ℕ} {at : ℕ} {x : Lexeme} {m : 
         → n ≡ noted Space (m .pen .0 + room) (m .spaces .0 + 0) m → Go p n (record { 0 = 0 }) ≡ stepFrom s p t at x m
     unfolding onTab pick steppedAt measured
     tab-beyond room n f r o = rw (tab-step, e, ← w, f, o, r)
+
+  -- What is known of the look from after a tab is what is known from where the line stands then.
+  tab-sees : (f : Foreseen) → ForeseesAfter s p t x f
+      → Foresees (s .glyph .0) (advance (p .cursor) (tabWidth (p .cursor))) (p .spaces) (x .end .0) (tokens (charsFrom t (x .end .0))) f
+  unfolding whiteWidth
+  tab-sees Nothing b = tt
+  tab-sees (Known l) b = rw (k, tab-count t at x k (h .stands), none-used (p .spaces)) at (b .sees)
+
+  pub tab-foresees : (f : Foreseen) → ForeseesAfter s p t x f → (width : ℕ) → width ≡ tabWidth (p .cursor) → (q : Place) → q ≡ movedOn p width
+      → Foresees (s .glyph .0) (q .cursor) (q .spaces) (x .end .0) (tokens (charsFrom t (x .end .0))) f
+  tab-foresees f b width w q e = rw (e, w) (tab-sees f b)
+
+  -- Where a tab that fits leads.
+  pub tab-went : skips s p ≡ false → fitsIn (p .cursor) (tabWidth (p .cursor)) ≡ true → (q : Place) (n : Measure) (o : Offset)
+      → stepFrom s p t at x m ≡ Go q n o → q ≡ movedOn p (tabWidth (p .cursor))
+  unfolding onTab pick steppedAt
+  tab-went e f q n o g = let r = rw (tab-step, e, f) at g in cc
 
   -- The line stands in its box after a tab that fits.
   pub tab-moved : (q : Place) (width : ℕ) → q ≡ movedOn p width → fitsIn (p .cursor) width ≡ true → FinePlace q

@@ -62,7 +62,7 @@ tok-named t at (word cs e) r h =
     let q : at + (size cs + e) - (at + size cs) ≡ e = omega arith in
     rw (h, take-at cs r (length cs) refl, q)
 
-counts-chars : (u : Tok) (cs : List ℕ) → SoundTok u cs → countOf u ≤ charsOf u
+pub counts-chars : (u : Tok) (cs : List ℕ) → SoundTok u cs → countOf u ≤ charsOf u
 unfolding charsOf
 counts-chars newLine cs h = omega arith
 counts-chars carriageReturn cs h = omega arith

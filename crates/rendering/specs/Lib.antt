@@ -10,7 +10,9 @@ pub mod FinePass
 pub mod Unrolled
 pub mod LineFrom
 pub mod Ready
+pub mod Foreseeing
 pub mod Pending
+pub mod Knowing
 pub mod Stopping
 pub mod Running
 pub mod Runs

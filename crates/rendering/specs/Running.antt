@@ -43,6 +43,11 @@ pub record PassReady (s : Settings) (p : Place) (t : List ℕ) (at : ℕ) (r : R
 pub none-fits : (t : List ℕ) (at : ℕ) (r : Resumed) → r ≡ nothingResumed → RestFits t at r
 none-fits t at r e = rw e (record { within = omega arith; counts = omega arith; ends = λ d. absurd (d refl) })
 
+pub none-held : (t : List ℕ) (at : ℕ) (r : Resumed) → r ≡ nothingResumed
+    → heldTokens (r .chars .0) (r .count .0) (charsFrom t at) ≡ tokens (charsFrom t at)
+unfolding heldTokens
+none-held t at r e = rw e
+
 -- ---- what is measured stays small
 
 abbrev FineGone : (end : ℕ) → Stepped → Type 0

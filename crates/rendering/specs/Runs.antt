@@ -22,6 +22,8 @@ use Rattle.parser.specs.declared.lexeme.Lexeme.{Lexeme}
 use Rattle.rendering.specs.Fine.{FineSettings, FinePlace}
 use Rattle.rendering.specs.Stepping.{steppedAt, tokOf}
 use Rattle.rendering.specs.Ready.{Ready}
+use Rattle.rendering.specs.Foreseeing.{Foresees}
+use Rattle.rendering.specs.declared.look.Foreseen.{Foreseen}
 use Rattle.rendering.specs.declared.step.Stepped.{Stepped}
 use Rattle.rendering.specs.declared.step.Stepped.the-variants.{Go}
 
@@ -31,14 +33,15 @@ charsIn t at x = take (x .chars .0) (charsFrom t at)
 
 -- ---- a run that fits
 
--- It ends in the text, and what it measures stays small. The line stands at q after it.
-pub record WholeRun (s : Settings) (q : Place) (t : List ℕ) (x : Lexeme) (width : ℕ) (m : Measure) : Type 0 where
+-- It ends in the text, and what it measures stays small. The line stands at q after it, from where a look may be known.
+pub record WholeRun (s : Settings) (q : Place) (t : List ℕ) (x : Lexeme) (width : ℕ) (m : Measure) (f : Foreseen) : Type 0 where
   pub settings : FineSettings s
   pub place : FinePlace q
   pub short : length t ≤ 65535
   pub within : x .end .0 ≤ length t
   pub pen : m .pen .0 + width < 4294967296
   pub spaces : m .spaces .0 + x .count .0 < 4294967296
+  pub sees : Foresees (s .glyph .0) (q .cursor) (q .spaces) (x .end .0) (tokens (charsFrom t (x .end .0))) f
 
 unfoldable pub wholeAnswer : Settings → Place → List ℕ → Lexeme → (width : ℕ) → Measure → Stepped
 wholeAnswer s q t x width m =

@@ -1,8 +1,10 @@
 // A line's passes: cursor, spaces, alignment, line_iter and line of the crate.
+pub mod ahead;
 pub mod alignment;
 pub mod cursor;
 pub mod ending;
 pub mod entry;
+pub mod first;
 pub mod hyphens;
 pub mod lent_cursor;
 pub mod line;

@@ -2,6 +2,8 @@
 use crate::alignment::place_line;
 use crate::alignment::plain_spaces;
 use crate::entry::entry_at;
+use crate::first::Known;
+use crate::first::nothing_known;
 use crate::measure::measured_count;
 use crate::measure::measured_width;
 use crate::measure::nothing_measured;
@@ -19,6 +21,7 @@ ghost use Prim.Native.Nat.{_≤_};
 ghost use mathlib.Core.Path.{_≡_};
 ghost use Rattle.meaning.specs.Line.{measuredCount};
 ghost use Rattle.rendering.specs.Fine.{FineSettings, FineSpaces};
+ghost use Rattle.rendering.specs.Knowing.{KnownFits};
 ghost use Rattle.rendering.specs.LineFrom.{lineFrom};
 ghost use Rattle.rendering.specs.Laying.{LineReady, passedFrom, plainly, isPlain, placedBy, laidAt};
 
@@ -64,14 +67,14 @@ fn placed_by(s: Settings, e: Ended) -> Placed
 }
 
 // The pass over a line that is so placed.
-fn pass_over(text: &[u8], s: Settings, at: usize, rest: Resumed, p: Placed) -> Ended
-    requires { ⌜ LineReady s (now text) at rest × FineSpaces (p .spaces) × (p .left .0 ≤ s .width .0) ⌝ }
+fn pass_over(text: &[u8], s: Settings, at: usize, rest: Resumed, p: Placed, known: Known) -> Ended
+    requires { ⌜ LineReady s (now text) at rest × FineSpaces (p .spaces) × (p .left .0 ≤ s .width .0) × KnownFits (now text) known ⌝ }
     ensures { λ r. ⌜ r ≡ passedFrom s (now (text .entry)) at rest p ⌝ }
 {
     let left = p.left;
     let spaces = p.spaces;
     let start = start_place(s, left, spaces);
-    run_pass(text, s, start, at, rest, nothing_measured())
+    run_pass(text, s, start, at, rest, nothing_measured(), known)
 }
 
 // The line itself.
@@ -90,18 +93,27 @@ fn laid_at(at: u32, rest: Resumed, p: Placed, width: u32, looked: u32, e: Ended)
     }
 }
 
-// The line at an offset of a text, after a rest that it resumes. One that is placed as it was measured is drawn as it was.
-pub fn lay_line(text: &[u8], s: Settings, at: usize, rest: Resumed) -> LineAt
-    requires { ⌜ LineReady s (now text) at rest ⌝ }
+// The line at an offset of a text, after a rest that it resumes, where a word may be known. One that is placed as it was measured
+// is drawn as it was.
+pub fn lay_known(text: &[u8], s: Settings, at: usize, rest: Resumed, known: Known) -> LineAt
+    requires { ⌜ LineReady s (now text) at rest × KnownFits (now text) known ⌝ }
     ensures { λ r. ⌜ r ≡ lineFrom s (now (text .entry)) at rest ⌝ }
 {
-    let first = pass_over(text, s, at, rest, placed_plainly(s));
+    let first = pass_over(text, s, at, rest, placed_plainly(s), known);
     let m = first.measure;
     let width = measured_width(s, m);
     let p = placed_by(s, first);
     if is_plain(s, p) {
         return laid_at(at as u32, rest, p, width, first.reach.0, first);
     }
-    let drawn = pass_over(text, s, at, rest, p);
+    let drawn = pass_over(text, s, at, rest, p, known);
     laid_at(at as u32, rest, p, width, first.reach.0, drawn)
+}
+
+// The same with nothing known.
+pub fn lay_line(text: &[u8], s: Settings, at: usize, rest: Resumed) -> LineAt
+    requires { ⌜ LineReady s (now text) at rest ⌝ }
+    ensures { λ r. ⌜ r ≡ lineFrom s (now (text .entry)) at rest ⌝ }
+{
+    lay_known(text, s, at, rest, nothing_known())
 }

@@ -93,7 +93,7 @@ fn looked(fits: bool, reach: u32) -> Look
 }
 
 // The width of a tab, or of a space run that counts so many spaces.
-fn white_width(kind: TokenKind, count: u32, cursor: LineCursor, spaces: Spaces) -> u32
+pub fn white_width(kind: TokenKind, count: u32, cursor: LineCursor, spaces: Spaces) -> u32
     requires { ⌜ FineCursor cursor × FineSpaces spaces × (count ≤ 65535) ⌝ }
     ensures { λ r. ⌜ r ≡ whiteWidth kind count cursor spaces ⌝ }
 {

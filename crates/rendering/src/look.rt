@@ -7,6 +7,12 @@ pub struct Look {
     pub reach: Offset,
 }
 
+// What is known of a look before it is taken.
+pub enum Foreseen {
+    Nothing,
+    Known(Look),
+}
+
 // The next word's width, and the offset after the furthest character looked at.
 pub struct WidthAhead {
     pub width: NextWord,

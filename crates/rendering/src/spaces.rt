@@ -2,6 +2,7 @@
 use crate::cursor::fits;
 use crate::cursor::room;
 use crate::line_iter::next_word_fits;
+use crate::look::Foreseen;
 use crate::look::Look;
 use crate::measure::noted_space;
 use crate::place::moved_on;
@@ -30,6 +31,7 @@ ghost use Rattle.parser.specs.Lexing.{charsFrom};
 ghost use Rattle.rendering.specs.Fine.{FineSettings, FinePlace};
 ghost use Rattle.rendering.specs.Stepping.{lookOf, resumedAt};
 ghost use Rattle.rendering.specs.Ready.{Ready, stepFrom};
+ghost use Rattle.rendering.specs.Foreseeing.{Foresees, ForeseesAfter};
 ghost use Rattle.rendering.specs.Runs.{cutShown, CutRun, cutAnswer, WholeRun, wholeAnswer};
 
 // What is held of a run of so many characters and counted spaces that ends at an offset, of which some are taken.
@@ -97,9 +99,10 @@ fn cut_run(
     })
 }
 
-// Whether white space is drawn that ends at an offset, after which the line stands at q: only the last test looks ahead.
-pub fn draws_space(text: &[u8], s: Settings, q: Place, at: usize) -> Look
-    requires { ⌜ FineSettings s × FinePlace q × (length (now text) ≤ 65535) × (at ≤ length (now text)) ⌝ }
+// Whether white space is drawn that ends at an offset, after which the line stands at q: only the last test looks ahead, and only
+// where the look is not known.
+pub fn draws_space(text: &[u8], s: Settings, q: Place, at: usize, seen: Foreseen) -> Look
+    requires { ⌜ FineSettings s × FinePlace q × (length (now text) ≤ 65535) × (at ≤ length (now text)) × Foresees (s .glyph .0) (q .cursor) (q .spaces) at (tokens (charsFrom (now text) at)) seen ⌝ }
     ensures { λ r. ⌜ r ≡ lookOf (drawsSpace s q at (tokens (charsFrom (now (text .entry)) at))) ⌝ }
 {
     if q.empty {
@@ -114,17 +117,28 @@ pub fn draws_space(text: &[u8], s: Settings, q: Place, at: usize) -> Look
             reach: Offset(0),
         };
     }
+    if let Foreseen::Known(look) = seen {
+        return look;
+    }
     let cursor = q.cursor;
     let spaces = q.spaces;
     next_word_fits(text, at, s.glyph.0, cursor, spaces)
 }
 
 // A run of so many spaces and such a width that fits, and after which the line stands at q.
-fn whole_run(text: &[u8], s: Settings, q: Place, x: Lexeme, width: u32, m: Measure) -> Stepped
-    requires { ⌜ WholeRun s q (now text) x width m ⌝ }
+fn whole_run(
+    text: &[u8],
+    s: Settings,
+    q: Place,
+    x: Lexeme,
+    width: u32,
+    m: Measure,
+    seen: Foreseen,
+) -> Stepped
+    requires { ⌜ WholeRun s q (now text) x width m seen ⌝ }
     ensures { λ r. ⌜ r ≡ wholeAnswer s q (now (text .entry)) x width m ⌝ }
 {
-    let look = draws_space(text, s, q, x.end.0 as usize);
+    let look = draws_space(text, s, q, x.end.0 as usize, seen);
     let reach = look.reach;
     if look.fits {
         return Stepped::Go(q, noted_space(m, x.count.0, width), reach);
@@ -133,8 +147,16 @@ fn whole_run(text: &[u8], s: Settings, q: Place, x: Lexeme, width: u32, m: Measu
 }
 
 // A space run: skipped at the front of a line, drawn where it fits, else cut. Its spaces are used up whatever becomes of it.
-pub fn on_space(text: &[u8], s: Settings, p: Place, at: usize, x: Lexeme, m: Measure) -> Stepped
-    requires { ⌜ Ready s p (now text) at x m × (x .kind ≡ Whitespace) ⌝ }
+pub fn on_space(
+    text: &[u8],
+    s: Settings,
+    p: Place,
+    at: usize,
+    x: Lexeme,
+    m: Measure,
+    seen: Foreseen,
+) -> Stepped
+    requires { ⌜ Ready s p (now text) at x m × (x .kind ≡ Whitespace) × ForeseesAfter s p (now text) x seen ⌝ }
     ensures { λ r. ⌜ r ≡ stepFrom s p (now (text .entry)) at x m ⌝ }
 {
     let cursor = p.cursor;
@@ -145,7 +167,7 @@ pub fn on_space(text: &[u8], s: Settings, p: Place, at: usize, x: Lexeme, m: Mea
     }
     let width = spaces_width(spaces, x.count.0);
     if fits(cursor, width) {
-        return whole_run(text, s, moved_on(used, width), x, width, m);
+        return whole_run(text, s, moved_on(used, width), x, width, m, seen);
     }
     cut_run(text, s, p, at, x, width, m)
 }

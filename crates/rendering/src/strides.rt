@@ -2,6 +2,7 @@
 use crate::cursor::fits;
 use crate::cursor::room;
 use crate::ending::ends_before;
+use crate::look::Foreseen;
 use crate::measure::noted_space;
 use crate::plain_words::stride_end;
 use crate::plain_words::word_within;
@@ -26,6 +27,7 @@ ghost use Prim.Native.Nat.{_≤_};
 ghost use Rattle.rendering.specs.Stepping.{ranFrom};
 ghost use Rattle.rendering.specs.Unrolled.{nothingResumed};
 ghost use Rattle.rendering.specs.Running.{PassReady};
+ghost use Rattle.rendering.specs.Foreseeing.{ForeseesFrom};
 ghost use Rattle.rendering.specs.Strides.{goingAt, strodePlace, justPrinted, Goes, StrideReady, WaitReady};
 
 // Where a pass stands between two tokens, and the end of the plain word behind one space there that does not fit, or 0.
@@ -153,6 +155,26 @@ pub fn strides_on(text: &[u8], s: Settings, p: Place, at: usize, rest: Resumed, 
         return words_on(text, s, p, at, m);
     }
     stands_at(p, m, at, 0)
+}
+
+// The same where a look may be known, which is kept for the white space that comes next.
+pub fn strides_unless(
+    text: &[u8],
+    s: Settings,
+    p: Place,
+    at: usize,
+    rest: Resumed,
+    m: Measure,
+    seen: Foreseen,
+) -> Going
+    requires { ⌜ PassReady s p (now text) at rest m × ForeseesFrom s p (now text) at rest seen ⌝ }
+    ensures { λ r. ⌜ Goes s p (now (text .entry)) at rest m r ⌝ }
+    ensures { λ r. ⌜ ForeseesFrom s (r .place) (now (text .entry)) (r .at .0) rest seen ⌝ }
+{
+    if let Foreseen::Known(_) = seen {
+        return stands_at(p, m, at, 0);
+    }
+    strides_on(text, s, p, at, rest, m)
 }
 
 // The line's end before a word that waits: its space is taken too, and drawn only with trailing spaces on.

@@ -2,6 +2,7 @@
 use crate::cursor::fits;
 use crate::cursor::room;
 use crate::cursor::tab_width;
+use crate::look::Foreseen;
 use crate::measure::noted_space;
 use crate::place::moved_on;
 use crate::place::skips_space;
@@ -15,10 +16,19 @@ use parser::lexeme::Lexeme;
 ghost use mathlib.Core.Path.{_≡_};
 ghost use Rattle.meaning.specs.declared.tokens.TokenKind.the-variants.{Tab};
 ghost use Rattle.rendering.specs.Ready.{Ready, stepFrom};
+ghost use Rattle.rendering.specs.Foreseeing.{ForeseesAfter};
 
 // A tab: skipped at the front of a line. One that fits moves the cursor, drawn or not; else only the pen moves, by the room.
-pub fn on_tab(text: &[u8], s: Settings, p: Place, at: usize, x: Lexeme, m: Measure) -> Stepped
-    requires { ⌜ Ready s p (now text) at x m × (x .kind ≡ Tab) ⌝ }
+pub fn on_tab(
+    text: &[u8],
+    s: Settings,
+    p: Place,
+    at: usize,
+    x: Lexeme,
+    m: Measure,
+    seen: Foreseen,
+) -> Stepped
+    requires { ⌜ Ready s p (now text) at x m × (x .kind ≡ Tab) × ForeseesAfter s p (now text) x seen ⌝ }
     ensures { λ r. ⌜ r ≡ stepFrom s p (now (text .entry)) at x m ⌝ }
 {
     if skips_space(s, p) {
@@ -28,7 +38,7 @@ pub fn on_tab(text: &[u8], s: Settings, p: Place, at: usize, x: Lexeme, m: Measu
     let width = tab_width(cursor);
     if fits(cursor, width) {
         let q = moved_on(p, width);
-        let look = draws_space(text, s, q, x.end.0 as usize);
+        let look = draws_space(text, s, q, x.end.0 as usize, seen);
         let reach = look.reach;
         return Stepped::Go(q, noted_space(m, 0, width), reach);
     }

@@ -12,7 +12,7 @@ nothing-measured-requires c κs = search needs
 run-pass-requires : tie.Need-run-pass-requires
 run-pass-requires c κs =
     let s = c .before .before .before .before .before in
-    start-ready (s .pre .0) _ _ _ (c .before .start-place .ensures) (c .nothing-measured .ensures) (s .pre .1) (s .pre .2)
+    (start-ready (s .pre .0) _ _ _ (c .before .start-place .ensures) (c .nothing-measured .ensures) (s .pre .1) (s .pre .2), s .pre .3)
 
 returns : tie.Need-returns
 returns c =

@@ -55,6 +55,7 @@ whole-run-requires c κs =
     let f = c .before .before in
     let k = f .before .before .before in
     whole-ready (begin k .pre .0) (begin k .pre .1) _ _ _ (k .before .used-up .ensures) (c .moved-on .ensures) (wide f ∙ c .before .if2 .taken)
+    (f .before .spaces-width .ensures) (begin k .args .seen) (begin k .pre .2)
 
 returns-2 : tie.Need-returns-2
 returns-2 c =

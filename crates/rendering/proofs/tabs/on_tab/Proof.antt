@@ -1,4 +1,4 @@
-use Rattle.rendering.proofs.TabLaws.{tab-skipped, tab-fits, tab-beyond, tab-moved}
+use Rattle.rendering.proofs.TabLaws.{tab-skipped, tab-fits, tab-beyond, tab-moved, tab-foresees}
 use Rattle.rendering.specs.FineLaws.{fits-room}
 use Rattle.meaning.specs.LineIter.{skips}
 use Rattle.meaning.specs.Cursor.{roomOf, fitsIn}
@@ -42,7 +42,13 @@ draws-space-requires c κs =
     let v = c .before in
     let f = v .before .before in
     let h = begin f .pre .0 in
-    (h .settings, tab-moved h (begin f .pre .1) _ _ (v .moved-on .ensures) (wide f ∙ v .before .if2 .taken), h .short, h .stands .within)
+    let k = begin f .pre .1 in (
+      h .settings,
+      tab-moved h k _ _ (v .moved-on .ensures) (wide f ∙ v .before .if2 .taken),
+      h .short,
+      h .stands .within,
+      tab-foresees h k (begin f .args .seen) (begin f .pre .2) _ (f .before .tab-width .ensures) _ (v .moved-on .ensures),
+    )
 
 noted-space-requires : tie.Need-noted-space-requires
 noted-space-requires c κs =

@@ -1,0 +1,109 @@
+-- The word that stands at a position, from its second character on: it ends where it ended.
+-- Assumes nothing.
+use mathlib.Core.Path.{_≡_, refl, sym, ap, _∙_}
+use mathlib.Core.Bool.{true, false}
+use mathlib.Core.List.{List, [], _∷_}
+use Prim.Native.Nat.{ℕ, suc, _+_, _-_, _≤_, _<_}
+use native.Mathlib.Omega.{arith}
+use lib.ListN.{length}
+use Rattle.basis.specs.Choice.{by-test}
+use Rattle.unicode.specs.Encoding.{bytes, size}
+use Rattle.unicode.specs.Decoding.{decodeAt}
+use Rattle.unicode.specs.Walk.{decode-at-bytes}
+use Rattle.unicode.specs.declared.sequence.Decoded.the-variants.{Char}
+use Rattle.meaning.specs.Characters.{Class, lf, cr, ht, shy, zwsp, blank, letter, classOf, inWord}
+use Rattle.meaning.specs.Tokens.{Tok, word, run, after, ender, first, tokens, charsOf, sizeOf, enderOf, needOf, kindOf}
+use Rattle.meaning.specs.Words.{glues}
+use Rattle.meaning.specs.declared.tokens.TokenKind.the-variants.{Word}
+use Rattle.laws.specs.Runs.{run-more, after-more, run-none}
+use Rattle.laws.specs.TokenLaws.{tokens-step}
+use Rattle.parser.specs.Lexing.{charsFrom, lexemeAt, lexedAt}
+use Rattle.parser.specs.Scanning.{glueOf}
+use Rattle.parser.specs.Shorter.{shorter}
+use Rattle.parser.specs.declared.lexeme.Lexeme.{Lexeme}
+use Rattle.parser.specs.declared.lexeme.Lexed.the-variants.{Token}
+use Rattle.parser.proofs.ScanLaws.{chars-more}
+use Rattle.parser.proofs.LexerLaws.{letter-of}
+use Rattle.parser.proofs.PartLaws.{glues-more}
+
+-- Only a letter starts a word.
+starts-word : (k : Class) (c : ℕ) (cs : List ℕ) → kindOf (first k c cs) ≡ Word → k ≡ letter
+unfolding first
+starts-word letter c cs e = refl
+starts-word lf c cs e = cc
+starts-word cr c cs e = cc
+starts-word ht c cs e = cc
+starts-word shy c cs e = cc
+starts-word zwsp c cs e = cc
+starts-word blank c cs e = cc
+
+-- What is left of the word x at a position, after a character that glues so much.
+pub record Shortened (t : List ℕ) (at : ℕ) (x : Lexeme) (g : ℕ) : Type 0 where
+  pub some : 1 ≤ x .chars .0
+  pub glued : g ≤ x .glues .0
+  pub stands : lexedAt at (tokens (charsFrom t at)) ≡ Token (shorter x g)
+  pub kind : shorter x g .kind ≡ Word
+
+module _ (at c : ℕ) (ws : List ℕ) (e : ℕ) where
+  shorter-is : lexemeAt (at + bytes c) (word ws e) ≡ shorter (lexemeAt at (word (c ∷ ws) e)) (glueOf c)
+  unfolding lexemeAt shorter charsOf sizeOf enderOf needOf size
+  shorter-is =
+      let p : at + bytes c + size ws ≡ at + (bytes c + size ws) = omega arith in
+      let q : length ws ≡ suc (length ws) - 1 = omega arith in
+      let w : glues ws ≡ glues (c ∷ ws) - glueOf c = omega (arith, glues-more c ws) in
+      let r : at + bytes c + (size ws + e) ≡ at + (bytes c + size ws + e) = omega arith in
+      λ i. record {
+        kind = Word;
+        end = record { 0 = p i };
+        chars = record { 0 = q i };
+        count = record { 0 = 0 };
+        glues = record { 0 = w i };
+        reach = record { 0 = r i };
+      }
+
+-- The word goes on with the character after the first: it does not end before it.
+module _ (at c : ℕ) (cs : List ℕ) (x : Lexeme) (k : classOf c ≡ letter) (is : lexemeAt at (first (classOf c) c cs) ≡ x) where
+  word-is : x ≡ lexemeAt at (word (c ∷ run inWord cs) (ender (after inWord cs)))
+  unfolding first
+  word-is = sym is ∙ rw k
+
+  word-ends : x .end .0 ≡ at + (bytes c + size (run inWord cs))
+  unfolding lexemeAt sizeOf size
+  word-ends = ap (λ (y : Lexeme). y .end .0) word-is
+
+  ends-alone : run inWord cs ≡ [] → at + bytes c < x .end .0 → ⊥
+  unfolding size
+  ends-alone e h = omega (arith, word-ends, ap size e)
+
+  ends-later : at + bytes c < x .end .0 → (x .chars .0 ≡ suc (length (run inWord cs))) × (x .glues .0 ≡ glueOf c + glues (run inWord cs))
+  unfolding lexemeAt charsOf
+  ends-later h = (ap (λ (y : Lexeme). y .chars .0) word-is, ap (λ (y : Lexeme). y .glues .0) word-is ∙ glues-more c (run inWord cs))
+
+letter-class : (d : ℕ) → inWord d ≡ true → classOf d ≡ letter
+unfolding inWord
+letter-class d e = letter-of (classOf d) e
+
+word-on : (at c : ℕ) (cs : List ℕ) (x : Lexeme) → classOf c ≡ letter → lexemeAt at (first (classOf c) c cs) ≡ x → at + bytes c < x .end .0
+    → lexedAt (at + bytes c) (tokens cs) ≡ Token (shorter x (glueOf c))
+unfolding run lexedAt first
+word-on at c [] x k is h = absurd (ends-alone at c [] x k is refl h)
+word-on at c (d ∷ ds) x k is h =
+    by-test (inWord d)
+    (λ e.
+    let ws = d ∷ run inWord ds in
+    let b = ender (after inWord ds) in
+    let l : x ≡ lexemeAt at (word (c ∷ ws) b) = word-is at c (d ∷ ds) x k is ∙ rw (run-more inWord d ds e, after-more inWord d ds e) in
+    rw (tokens-step d ds, letter-class d e, l) (ap Token (shorter-is at c ws b)))
+    (λ e. absurd (ends-alone at c (d ∷ ds) x k is (run-none inWord d ds e) h))
+
+-- A word that stands at a position and does not end with the character there.
+pub word-shorter : (t : List ℕ) (at : ℕ) (x : Lexeme) (c n : ℕ) → lexedAt at (tokens (charsFrom t at)) ≡ Token x → x .kind ≡ Word
+    → decodeAt t at ≡ Char c n → at + n < x .end .0 → Shortened t (at + n) x (glueOf c)
+unfolding lexedAt lexemeAt shorter
+word-shorter t at x c n s w d h =
+    let cs = charsFrom t (at + n) in
+    let b = decode-at-bytes t at c n d in
+    let is : lexemeAt at (first (classOf c) c cs) ≡ x = cc (rw (chars-more t at c n d, tokens-step c cs) at s) in
+    let k = starts-word (classOf c) c cs (ap (λ (y : Lexeme). y .kind) is ∙ w) in
+    let l = ends-later at c cs x k is (rw b at h) in
+    record { some = omega (arith, l .0); glued = omega (arith, l .1); stands = rw (← b) at (word-on at c cs x k is (rw b at h)); kind = w }
