@@ -7,6 +7,8 @@ use meaning::counts::Offset;
 use meaning::edit::Edit;
 use meaning::line::Rest;
 use meaning::settings::Settings;
+use rendering::first::known_from;
+use rendering::first::nothing_known;
 use rendering::line::lay_line;
 use rendering::step::Resumed;
 use table::entries::read_entry;
@@ -86,14 +88,17 @@ pub fn find_stop(
     let mut j: usize = k;
     let mut at: usize = 0;
     let mut held = rest;
+    let mut known = nothing_known();
     loop {
-        let start = Offset(base.0 + at as u32);
+        let first = base.0 + at as u32;
+        let start = Offset(first);
         j = skip_before(table, lines, j, edit, start);
         let before = rest_behind(base, held);
         if meets_first(table, lines, j, edit, start, before) {
             return Found { laid: n, kept: j };
         }
-        let line = lay_line(part, s, at, held);
+        known = known_from(part, at, held, known);
+        let line = lay_line(part, s, at, held, known);
         n += 1;
         let ended = line.ended;
         if is_last(ended) {

@@ -3,6 +3,8 @@ use meaning::counts::Offset;
 use meaning::edit::Edit;
 use meaning::line::Entry;
 use meaning::settings::Settings;
+use rendering::first::known_from;
+use rendering::first::nothing_known;
 use rendering::line::lay_line;
 use rendering::step::Resumed;
 use table::entries::write_entry;
@@ -44,8 +46,10 @@ pub fn write_again(
     let mut n: usize = 0;
     let mut at: usize = 0;
     let mut held = rest;
+    let mut known = nothing_known();
     while n < laid {
-        let line = lay_line(part, s, at, held);
+        known = known_from(part, at, held, known);
+        let line = lay_line(part, s, at, held, known);
         let entry = line.entry;
         let whole = entry_behind(base, entry);
         write_entry(table, k + n, whole);

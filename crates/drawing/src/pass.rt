@@ -9,6 +9,7 @@ use meaning::counts::Pixels;
 use meaning::cursor::Place;
 use meaning::settings::Settings;
 use parser::lexeme::Lexed;
+use rendering::look::Foreseen;
 use rendering::measure::nothing_measured;
 use rendering::pass::step_token;
 use rendering::pending::pending;
@@ -70,7 +71,7 @@ pub fn draw_pass(
         let Lexed::Token(t) = token else {
             return drawn.next;
         };
-        let stepped = step_token(text, s, here, to, t, none);
+        let stepped = step_token(text, s, here, to, t, none, Foreseen::Nothing);
         pen = draw_token(text, s, here, to, t, none, stepped, drawn, events);
         let Stepped::Go(q, _, _) = stepped else {
             return pen.next;

@@ -15,6 +15,7 @@ use parser::part::part_of;
 use rendering::cursor::fits;
 use rendering::cursor::room;
 use rendering::cursor::tab_width;
+use rendering::look::Foreseen;
 use rendering::place::moved_on;
 use rendering::place::skips_space;
 use rendering::space_config::lesser;
@@ -156,7 +157,7 @@ fn draw_tab(
     let next = x.end.0 as usize;
     if fits(cursor, width) {
         let q = moved_on(p, width);
-        let look = draws_space(text, s, q, next);
+        let look = draws_space(text, s, q, next, Foreseen::Nothing);
         let kind = tab_kind(look.fits);
         return put_one(events, pen, kind, at, next, 0, width);
     }

@@ -5,7 +5,7 @@ use drawing::pass::draw_pass;
 use meaning::cursor::Spaces;
 use meaning::line::Entry;
 use meaning::settings::Settings;
-use rendering::line::lay_line;
+use rendering::line::lay_alone;
 use rendering::place::start_place;
 use rendering::step::Resumed;
 use table::entries::write_entry;
@@ -54,7 +54,7 @@ pub fn draw_lines(text: &[u8], s: Settings, events: &mut [u32]) -> usize
     let mut at: usize = 0;
     let mut rest = nothing();
     loop {
-        let line = lay_line(text, s, at, rest);
+        let line = lay_alone(text, s, at, rest);
         let entry = line.entry;
         k = draw_line(text, s, at, rest, entry, events, k);
         let ended = line.ended;
@@ -97,7 +97,7 @@ pub fn write_and_draw(text: &[u8], s: Settings, table: &mut [u32], events: &mut 
     let mut at: usize = 0;
     let mut rest = nothing();
     loop {
-        let line = lay_line(text, s, at, rest);
+        let line = lay_alone(text, s, at, rest);
         let entry = line.entry;
         write_entry(table, lines, entry);
         lines += 1;

@@ -3,6 +3,8 @@ use meaning::counts::Chars;
 use meaning::counts::Offset;
 use meaning::line::LineEnd;
 use meaning::settings::Settings;
+use rendering::first::known_from;
+use rendering::first::nothing_known;
 use rendering::line::lay_line;
 use rendering::step::Resumed;
 use table::entries::write_entry;
@@ -43,8 +45,10 @@ pub fn count_lines(text: &[u8], s: Settings) -> usize
     let mut n: usize = 0;
     let mut at: usize = 0;
     let mut rest = nothing();
+    let mut known = nothing_known();
     loop {
-        let line = lay_line(text, s, at, rest);
+        known = known_from(text, at, rest, known);
+        let line = lay_line(text, s, at, rest, known);
         n += 1;
         let ended = line.ended;
         if is_last(ended) {
@@ -66,8 +70,10 @@ pub fn write_lines(text: &[u8], s: Settings, table: &mut [u32]) -> usize
     let mut n: usize = 0;
     let mut at: usize = 0;
     let mut rest = nothing();
+    let mut known = nothing_known();
     loop {
-        let line = lay_line(text, s, at, rest);
+        known = known_from(text, at, rest, known);
+        let line = lay_line(text, s, at, rest, known);
         let entry = line.entry;
         write_entry(table, n, entry);
         n += 1;

@@ -107,7 +107,7 @@ module _ {s : Settings} {p : Place} {t : List ℕ} {at : ℕ} {x : Lexeme} {m : 
         → Foresees (s .glyph .0) (q .cursor) (q .spaces) (x .end .0) (tokens (charsFrom t (x .end .0))) (Known l)
     unfolding whiteWidth
     white-leads Tab k l b w =
-        tab-foresees h k (Known l) b _ refl q (tab-went h k (stays s p (b .shown)) (rw k at (b .fits)) q n o is)
+        tab-foresees s p (h .stands) k (Known l) b _ refl q (tab-went h k (stays s p (b .shown)) (rw k at (b .fits)) q n o is)
     white-leads Whitespace k l b w =
         rw (run-went h k (stays s p (b .shown)) (rw k at (b .fits)) q n o is) (run-foresees h k (Known l) b _ refl)
     white-leads NewLine k l b w = absurd w

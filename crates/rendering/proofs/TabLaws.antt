@@ -46,9 +46,21 @@ module _ (t : List ℕ) (at : ℕ) (x : Lexeme) (k : x .kind ≡ Tab) (st : Stan
   unfolding lexemeAt sizeOf
   tab-end = ap (λ (y : Lexeme). y .end .0) (rw tab-tok at (st .is))
 
-  pub tab-count : x .count .0 ≡ 0
+  tab-count : x .count .0 ≡ 0
   unfolding lexemeAt
   tab-count = ap (λ (y : Lexeme). y .count .0) (rw tab-tok at (st .is))
+
+-- What is known of the look from after a tab is what is known from where the line stands then.
+module _ (s : Settings) (p : Place) {t : List ℕ} {at : ℕ} {x : Lexeme} (st : Standing t at x) (k : x .kind ≡ Tab) where
+  tab-sees : (f : Foreseen) → ForeseesAfter s p t x f
+      → Foresees (s .glyph .0) (advance (p .cursor) (tabWidth (p .cursor))) (p .spaces) (x .end .0) (tokens (charsFrom t (x .end .0))) f
+  unfolding whiteWidth
+  tab-sees Nothing b = tt
+  tab-sees (Known l) b = rw (k, tab-count t at x k st, none-used (p .spaces)) at (b .sees)
+
+  pub tab-foresees : (f : Foreseen) → ForeseesAfter s p t x f → (width : ℕ) → width ≡ tabWidth (p .cursor) → (q : Place) → q ≡ movedOn p width
+      → Foresees (s .glyph .0) (q .cursor) (q .spaces) (x .end .0) (tokens (charsFrom t (x .end .0))) f
+  tab-foresees f b width w q e = rw (e, w) (tab-sees f b)
 
 -- ---- the cases
 
@@ -76,17 +88,6 @@ module _ {s : Settings} {p : Place} {t : List ℕ} {at : ℕ} {x : Lexeme} {m : 
         → n ≡ noted Space (m .pen .0 + room) (m .spaces .0 + 0) m → Go p n (record { 0 = 0 }) ≡ stepFrom s p t at x m
     unfolding onTab pick steppedAt measured
     tab-beyond room n f r o = rw (tab-step, e, ← w, f, o, r)
-
-  -- What is known of the look from after a tab is what is known from where the line stands then.
-  tab-sees : (f : Foreseen) → ForeseesAfter s p t x f
-      → Foresees (s .glyph .0) (advance (p .cursor) (tabWidth (p .cursor))) (p .spaces) (x .end .0) (tokens (charsFrom t (x .end .0))) f
-  unfolding whiteWidth
-  tab-sees Nothing b = tt
-  tab-sees (Known l) b = rw (k, tab-count t at x k (h .stands), none-used (p .spaces)) at (b .sees)
-
-  pub tab-foresees : (f : Foreseen) → ForeseesAfter s p t x f → (width : ℕ) → width ≡ tabWidth (p .cursor) → (q : Place) → q ≡ movedOn p width
-      → Foresees (s .glyph .0) (q .cursor) (q .spaces) (x .end .0) (tokens (charsFrom t (x .end .0))) f
-  tab-foresees f b width w q e = rw (e, w) (tab-sees f b)
 
   -- Where a tab that fits leads.
   pub tab-went : skips s p ≡ false → fitsIn (p .cursor) (tabWidth (p .cursor)) ≡ true → (q : Place) (n : Measure) (o : Offset)

@@ -95,7 +95,7 @@ fn laid_at(at: u32, rest: Resumed, p: Placed, width: u32, looked: u32, e: Ended)
 
 // The line at an offset of a text, after a rest that it resumes, where a word may be known. One that is placed as it was measured
 // is drawn as it was.
-pub fn lay_known(text: &[u8], s: Settings, at: usize, rest: Resumed, known: Known) -> LineAt
+pub fn lay_line(text: &[u8], s: Settings, at: usize, rest: Resumed, known: Known) -> LineAt
     requires { ⌜ LineReady s (now text) at rest × KnownFits (now text) known ⌝ }
     ensures { λ r. ⌜ r ≡ lineFrom s (now (text .entry)) at rest ⌝ }
 {
@@ -110,10 +110,10 @@ pub fn lay_known(text: &[u8], s: Settings, at: usize, rest: Resumed, known: Know
     laid_at(at as u32, rest, p, width, first.reach.0, drawn)
 }
 
-// The same with nothing known.
-pub fn lay_line(text: &[u8], s: Settings, at: usize, rest: Resumed) -> LineAt
+// The same with nothing known of the word that it begins with.
+pub fn lay_alone(text: &[u8], s: Settings, at: usize, rest: Resumed) -> LineAt
     requires { ⌜ LineReady s (now text) at rest ⌝ }
     ensures { λ r. ⌜ r ≡ lineFrom s (now (text .entry)) at rest ⌝ }
 {
-    lay_known(text, s, at, rest, nothing_known())
+    lay_line(text, s, at, rest, nothing_known())
 }

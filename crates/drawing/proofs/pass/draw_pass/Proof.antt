@@ -113,7 +113,7 @@ step-token-requires : tie.Need-step-token-requires Inv-loop μ-loop
 step-token-requires c κs =
     let k = c .before in
     let o = strode (k .before .before) in
-    token-ready (stood o) (k .token .given .0 .0) (pended k) _ (around o .before .nothing-measured .ensures)
+    (token-ready (stood o) (k .token .given .0 .0) (pended k) _ (around o .before .nothing-measured .ensures), tt)
 
 draw-token-requires : tie.Need-draw-token-requires Inv-loop μ-loop
 draw-token-requires c κs =

@@ -37,7 +37,7 @@ draws-space-requires : tie.Need-draws-space-requires
 draws-space-requires c κs =
     let s = c .before .before .before .before .before .before .before .before .before .before in
     let h = s .pre .0 in
-    (h .settings, tab-moved (s .args .p) _ (c .before .before .before .before .tab-width .result) (h .place) (c .moved-on .ensures) (sym (c .before .before .fits2 .ensures) ∙ c .before .if2 .taken), h .short, h .stands .within)
+    (h .settings, tab-moved (s .args .p) _ (c .before .before .before .before .tab-width .result) (h .place) (c .moved-on .ensures) (sym (c .before .before .fits2 .ensures) ∙ c .before .if2 .taken), h .short, h .stands .within, tt)
 
 tab-kind-requires : tie.Need-tab-kind-requires
 tab-kind-requires c κs = search needs

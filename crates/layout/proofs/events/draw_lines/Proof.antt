@@ -22,14 +22,14 @@ nothing-requires c κs = search needs
 loop-holds : tie.Need-loop-holds Inv-loop μ-loop
 loop-holds c = (draw-start _ _ _ _ (c .before .before .before .pre) (c .nothing .ensures), refl)
 
-lay-line-requires : tie.Need-lay-line-requires Inv-loop μ-loop
-lay-line-requires c κs = c .loop .inv .0 .ready
+lay-alone-requires : tie.Need-lay-alone-requires Inv-loop μ-loop
+lay-alone-requires c κs = c .loop .inv .0 .ready
 
 draw-line-requires : tie.Need-draw-line-requires Inv-loop μ-loop
 draw-line-requires c κs =
     let l = c .before .before in
     let i = l .before .loop .inv .0 in
-    draw-room _ _ _ _ _ _ (l .lay-line .ensures) (i .ready) (omega (arith, i .few))
+    draw-room _ _ _ _ _ _ (l .lay-alone .ensures) (i .ready) (omega (arith, i .few))
 
 is-last-requires : tie.Need-is-last-requires Inv-loop μ-loop
 is-last-requires c κs = search needs
@@ -43,7 +43,7 @@ returns : tie.Need-returns Inv-loop μ-loop
 returns c =
     let d = c .before .before .before .before in
     let l = d .before .before .before in
-    draw-last _ _ _ _ _ _ _ _ _ _ (l .lay-line .ensures) (d .draw-line .ensures .0) (d .draw-line .ensures .1) (l .before .loop .inv .0)
+    draw-last _ _ _ _ _ _ _ _ _ _ (l .lay-alone .ensures) (d .draw-line .ensures .0) (d .draw-line .ensures .1) (l .before .loop .inv .0)
     (sym (c .before .is-last .ensures) ∙ c .if1 .taken)
 
 cast-at : tie.Need-cast-at Inv-loop μ-loop
@@ -54,7 +54,7 @@ loop-less c =
     let e = c .before .before in
     let l = e .before .before .before .before .before .before .before in
     let i = l .before .loop .inv .0 .ready in
-    omega (arith, further _ _ 0 _ _ _ (l .lay-line .ensures) i (sym (e .before .is-last .ensures) ∙ e .if1 .left), stays _ _ 0 _ _ _ (l .lay-line .ensures) i)
+    omega (arith, further _ _ 0 _ _ _ (l .lay-alone .ensures) i (sym (e .before .is-last .ensures) ∙ e .if1 .left), stays _ _ 0 _ _ _ (l .lay-alone .ensures) i)
 
 loop-again : tie.Need-loop-again Inv-loop μ-loop
 loop-again c =
@@ -62,7 +62,7 @@ loop-again c =
     let d = e .before .before .before .before in
     let l = d .before .before .before in
     let i = l .before .loop .inv in (
-      draw-next _ _ _ _ _ _ _ _ _ _ (l .lay-line .ensures) (d .draw-line .ensures .0) (d .draw-line .ensures .1) (i .0)
+      draw-next _ _ _ _ _ _ _ _ _ _ (l .lay-alone .ensures) (d .draw-line .ensures .0) (d .draw-line .ensures .1) (i .0)
           (sym (e .before .is-last .ensures) ∙ e .if1 .left),
       d .draw-line .kept .1 .1 .1 .1 .1 .0 ∙ i .1,
     )
@@ -75,7 +75,7 @@ draw-lines-spec =
     μ-loop
     nothing-requires
     loop-holds
-    lay-line-requires
+    lay-alone-requires
     draw-line-requires
     is-last-requires
     same-length

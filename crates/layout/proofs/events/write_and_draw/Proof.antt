@@ -24,7 +24,7 @@ Drawn = tie.After-draw-line Inv-loop μ-loop
 abbrev written : Drawn → tie.After-write-entry Inv-loop μ-loop
 written c = c .before .before .before .before
 
-abbrev laid : Drawn → tie.After-lay-line Inv-loop μ-loop
+abbrev laid : Drawn → tie.After-lay-alone Inv-loop μ-loop
 laid c = written c .before .before .before
 
 nothing-requires : tie.Need-nothing-requires Inv-loop μ-loop
@@ -35,8 +35,8 @@ loop-holds c =
     let h = c .before .before .before .before .pre .0 in
     (write-start _ _ _ _ h (c .nothing .ensures), draw-start _ _ _ _ h (c .nothing .ensures), refl, refl)
 
-lay-line-requires : tie.Need-lay-line-requires Inv-loop μ-loop
-lay-line-requires c κs = c .loop .inv .0 .counted .ready
+lay-alone-requires : tie.Need-lay-alone-requires Inv-loop μ-loop
+lay-alone-requires c κs = c .loop .inv .0 .counted .ready
 
 write-entry-requires : tie.Need-write-entry-requires Inv-loop μ-loop
 write-entry-requires c κs =
@@ -51,7 +51,7 @@ draw-line-requires : tie.Need-draw-line-requires Inv-loop μ-loop
 draw-line-requires c κs =
     let l = c .before .before .before .before .before .before in
     let i = l .before .loop .inv .1 in
-    draw-room _ _ _ _ _ _ (l .lay-line .ensures) (i .ready) (omega (arith, i .few))
+    draw-room _ _ _ _ _ _ (l .lay-alone .ensures) (i .ready) (omega (arith, i .few))
 
 is-last-requires : tie.Need-is-last-requires Inv-loop μ-loop
 is-last-requires c κs = search needs
@@ -73,9 +73,9 @@ returns c =
     let l = laid d in
     let i = l .before .loop .inv in
     let h = sym (c .before .is-last .ensures) ∙ c .if1 .taken in
-    let drew = draw-last _ _ _ _ _ _ _ _ _ _ (l .lay-line .ensures) (d .draw-line .ensures .0) (d .draw-line .ensures .1) (i .1) h in (
-      count-last _ _ _ _ _ _ (l .lay-line .ensures) (i .0 .counted) h,
-      (drew .0, (write-last _ _ _ _ _ _ _ _ _ (l .lay-line .ensures) (w .write-entry .ensures) (i .0) h, drew .1)),
+    let drew = draw-last _ _ _ _ _ _ _ _ _ _ (l .lay-alone .ensures) (d .draw-line .ensures .0) (d .draw-line .ensures .1) (i .1) h in (
+      count-last _ _ _ _ _ _ (l .lay-alone .ensures) (i .0 .counted) h,
+      (drew .0, (write-last _ _ _ _ _ _ _ _ _ (l .lay-alone .ensures) (w .write-entry .ensures) (i .0) h, drew .1)),
     )
 
 cast-at : tie.Need-cast-at Inv-loop μ-loop
@@ -86,7 +86,7 @@ loop-less c =
     let e = c .before .before in
     let l = laid (e .before .before .before .before) in
     let i = l .before .loop .inv .0 .counted .ready in
-    omega (arith, further _ _ 0 _ _ _ (l .lay-line .ensures) i (sym (e .before .is-last .ensures) ∙ e .if1 .left), stays _ _ 0 _ _ _ (l .lay-line .ensures) i)
+    omega (arith, further _ _ 0 _ _ _ (l .lay-alone .ensures) i (sym (e .before .is-last .ensures) ∙ e .if1 .left), stays _ _ 0 _ _ _ (l .lay-alone .ensures) i)
 
 loop-again : tie.Need-loop-again Inv-loop μ-loop
 loop-again c =
@@ -96,8 +96,8 @@ loop-again c =
     let l = laid d in
     let i = l .before .loop .inv in
     let h = sym (e .before .is-last .ensures) ∙ e .if1 .left in (
-      write-next _ _ _ _ _ _ _ _ _ (l .lay-line .ensures) (w .write-entry .ensures) (i .0) h,
-      draw-next _ _ _ _ _ _ _ _ _ _ (l .lay-line .ensures) (d .draw-line .ensures .0) (d .draw-line .ensures .1) (i .1) h,
+      write-next _ _ _ _ _ _ _ _ _ (l .lay-alone .ensures) (w .write-entry .ensures) (i .0) h,
+      draw-next _ _ _ _ _ _ _ _ _ _ (l .lay-alone .ensures) (d .draw-line .ensures .0) (d .draw-line .ensures .1) (i .1) h,
       w .write-entry .kept .0 ∙ i .2,
       d .draw-line .kept .1 .1 .1 .1 .1 .0 ∙ i .3,
     )
@@ -110,7 +110,7 @@ write-and-draw-spec =
     μ-loop
     nothing-requires
     loop-holds
-    lay-line-requires
+    lay-alone-requires
     write-entry-requires
     add-lines
     draw-line-requires

@@ -47,7 +47,7 @@ draws-space-requires c κs =
       tab-moved h k _ _ (v .moved-on .ensures) (wide f ∙ v .before .if2 .taken),
       h .short,
       h .stands .within,
-      tab-foresees h k (begin f .args .seen) (begin f .pre .2) _ (f .before .tab-width .ensures) _ (v .moved-on .ensures),
+      tab-foresees (begin f .args .s) (begin f .args .p) (h .stands) k (begin f .args .seen) (begin f .pre .2) _ (f .before .tab-width .ensures) _ (v .moved-on .ensures),
     )
 
 noted-space-requires : tie.Need-noted-space-requires
