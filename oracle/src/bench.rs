@@ -102,7 +102,6 @@ fn by_crate(settings: &Settings, texts: &[String]) {
 }
 
 /// A character is typed at a place and taken away again: two edits.
-#[cfg(has_lay_again)]
 fn typed(settings: &Settings, text: &str, place: &str, times: u32, room: &mut Room) -> u64 {
     let at = match place {
         "front" => 0,
@@ -144,7 +143,6 @@ pub fn run(work: &str, name: &str, bytes: usize, glyphs: u32, alignment: u32, ti
         "affected" => (0..times).for_each(|_| {
             black_box(bisquemop::first_affected(&room.table, lines, Edit { a: 0, b: 0, inserted: 1 })).expect("a good edit");
         }),
-        #[cfg(has_lay_again)]
         "front" | "middle" | "end" => laid = typed(&settings, &texts[0], work, times, &mut room),
         _ => return None,
     }

@@ -42,9 +42,7 @@ pub fn run(claims: &mut Claims, _specs: &str) {
     checks(claims);
     layouts(claims);
     tables(claims);
-    #[cfg(has_lay_again)]
     again(claims);
-    #[cfg(has_line_y)]
     places(claims);
 }
 
@@ -107,7 +105,6 @@ fn tables(claims: &mut Claims) {
 }
 
 /// The scope's example of laying again, and the refusals of it.
-#[cfg(has_lay_again)]
 fn again(claims: &mut Claims) {
     let (table, lines) = table_of(&EXAMPLE, "aa\nbb\ncc");
     let edit = Edit { a: 3, b: 3, inserted: 1 };
@@ -135,7 +132,6 @@ fn again(claims: &mut Claims) {
     refuse("lay_again in too small a table", &EXAMPLE, b"\nbb\ncc", 3, lines, edit, Refusal::TooSmall(4));
 }
 
-#[cfg(has_line_y)]
 fn places(claims: &mut Claims) {
     let (table, lines) = table_of(&EXAMPLE, "aa\nbb\ncc");
     let place = |line| bisquemop::line_y(&EXAMPLE, &table, lines, line);

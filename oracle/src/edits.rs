@@ -131,7 +131,7 @@ fn hold(page: &mut Page, change: Change, found: &mut Found) -> Result<(), String
     }
     let part = &fresh.text.as_bytes()[old[first][START] as usize..];
 
-    // A refusal writes nothing: a part that ends too soon or too late, and a table without room for the last line.
+    // A refusal writes nothing: a part of a wrong length, and a table without room for the last line.
     let before = page.table.clone();
     let short = if part.is_empty() { b"a" } else { &part[1..] };
     let answer = bisquemop::lay_again(&page.settings, short, &mut page.table, lines, edit);

@@ -82,7 +82,6 @@ impl Library {
     }
 
     /// Each line's y in the last layout, and whether it shows.
-    #[cfg(has_line_y)]
     pub fn places(&self, settings: &Settings) -> Result<Vec<(i32, bool)>, Refusal> {
         let mut places = Vec::new();
         while let Some(place) = bisquemop::line_y(settings, &self.table, self.lines, places.len() as u64)? {
@@ -143,11 +142,8 @@ impl Sides {
         hold(self.library.lays_the_same(settings, text), "layout without events");
         let height = model::height(settings, text.len() as u32, &self.model.lines);
         hold(self.library.height(settings) == Ok(height.into()), "height");
-        #[cfg(has_line_y)]
-        {
-            let ys = model::places(settings, height, &self.model.lines);
-            let places = ys.iter().map(|&y| (y, model::shows(settings, y))).collect();
-            hold(self.library.places(settings) == Ok(places), "y, or whether a line shows");
-        }
+        let ys = model::places(settings, height, &self.model.lines);
+        let places = ys.iter().map(|&y| (y, model::shows(settings, y))).collect();
+        hold(self.library.places(settings) == Ok(places), "y, or whether a line shows");
     }
 }

@@ -6,13 +6,12 @@ mod antt;
 #[cfg(library)]
 mod bench;
 #[cfg(library)]
-#[cfg_attr(not(all(has_lay_again, has_line_y)), allow(dead_code))]
 mod bisquemop;
 #[cfg(library)]
 mod calls;
 mod compare;
 mod definitions;
-#[cfg(has_lay_again)]
+#[cfg(library)]
 mod edits;
 mod examples;
 #[cfg(library)]
@@ -84,7 +83,7 @@ fn main() {
         ["definitions", count, seed] => {
             count.parse().ok().zip(seed.parse().ok()).map(|(count, seed)| definitions::write(count, seed))
         }
-        #[cfg(has_lay_again)]
+        #[cfg(library)]
         ["edits", count, seed] => count.parse().ok().zip(seed.parse().ok()).map(|(count, seed)| edits::run(count, seed)),
         #[cfg(library)]
         ["bench", work, name, bytes, glyphs, alignment, times] => bench::run(
