@@ -1,6 +1,6 @@
 // The events of a line: the running pass again, token by token or in strides, each drawn (rules 7 to 9, and 13).
 use crate::pen::Pen;
-use crate::strides::draw_on;
+use crate::strides::draw_unless;
 use crate::strides::draw_waiting;
 use crate::tokens::draw_token;
 use meaning::counts::Chars;
@@ -9,16 +9,19 @@ use meaning::counts::Pixels;
 use meaning::cursor::Place;
 use meaning::settings::Settings;
 use parser::lexeme::Lexed;
+use rendering::ahead::look_after;
+use rendering::first::Known;
+use rendering::first::first_token;
 use rendering::look::Foreseen;
 use rendering::measure::nothing_measured;
 use rendering::pass::step_token;
-use rendering::pending::pending;
 use rendering::step::Resumed;
 use rendering::step::Stepped;
 ghost use Prim.Native.Nat.{_+_};
 ghost use mathlib.Core.Path.{_≡_};
 ghost use lib.ListN.{length};
 ghost use Rattle.rendering.specs.Unrolled.{nothingResumed};
+ghost use Rattle.rendering.specs.Knowing.{KnownFits};
 ghost use Rattle.table.specs.Numbers.{putEvents};
 ghost use Rattle.drawing.specs.Drawn.{drawnFrom, eventsFrom};
 ghost use Rattle.drawing.specs.PassDrawn.{DrawRoom};
@@ -34,19 +37,20 @@ fn no_rest() -> Resumed
     }
 }
 
-// What a pass draws from a place and an offset on, after a resumed rest: events number k and on, from the pen at x. How many
-// there are with those before.
+// What a pass draws from a place and an offset on, after a resumed rest, where a word may be known: events number k and on, from
+// the pen at x. How many there are with those before.
 pub fn draw_pass(
     text: &[u8],
     s: Settings,
     start: Place,
     from: usize,
     rest: Resumed,
+    known: Known,
     x: u32,
     events: &mut [u32],
     k: usize,
 ) -> usize
-    requires { ⌜ DrawRoom s start (now text) from rest x k ⌝ }
+    requires { ⌜ DrawRoom s start (now text) from rest x k × KnownFits (now text) known ⌝ }
     ensures { λ r. ⌜ now (events .exit) ≡ putEvents (now (events .entry)) k (eventsFrom s start (now (text .entry)) from (rest .chars .0) (rest .count .0) x) ⌝ }
     ensures { λ r. ⌜ r ≡ k + length (drawnFrom s start (now (text .entry)) from (rest .chars .0) (rest .count .0)) ⌝ }
 {
@@ -58,8 +62,9 @@ pub fn draw_pass(
         next: k,
         x: Pixels(x),
     };
+    let mut seen = Foreseen::Nothing;
     loop {
-        let g = draw_on(text, s, p, at, held, pen, events);
+        let g = draw_unless(text, s, p, at, held, pen, seen, events);
         if g.waits != 0 {
             let last = draw_waiting(text, s, g, events);
             return last.next;
@@ -67,17 +72,19 @@ pub fn draw_pass(
         let here = g.place;
         let to = g.at;
         let drawn = g.pen;
-        let token = pending(text, to, held);
+        let token = first_token(text, to, held, known);
         let Lexed::Token(t) = token else {
             return drawn.next;
         };
-        let stepped = step_token(text, s, here, to, t, none, Foreseen::Nothing);
-        pen = draw_token(text, s, here, to, t, none, stepped, drawn, events);
+        let ahead = look_after(text, s, here, to, t, seen);
+        let stepped = step_token(text, s, here, to, t, none, ahead);
+        pen = draw_token(text, s, here, to, t, none, stepped, ahead, drawn, events);
         let Stepped::Go(q, _, _) = stepped else {
             return pen.next;
         };
         p = q;
         at = t.end.0 as usize;
         held = no_rest();
+        seen = ahead;
     }
 }

@@ -7,6 +7,7 @@ use meaning::settings::Settings;
 use parser::ascii::plain_at;
 use rendering::cursor::fits;
 use rendering::cursor::room;
+use rendering::look::Foreseen;
 use rendering::plain_words::stride_end;
 use rendering::plain_words::word_within;
 use rendering::space_config::lesser;
@@ -22,6 +23,7 @@ ghost use Rattle.meaning.specs.Words.{drawn};
 ghost use Rattle.meaning.specs.declared.line.EventKind.the-variants.{Space, Printed};
 ghost use Rattle.rendering.specs.Unrolled.{nothingResumed};
 ghost use Rattle.rendering.specs.Strides.{Waits};
+ghost use Rattle.rendering.specs.Foreseeing.{ForeseesFrom};
 ghost use Rattle.drawing.specs.Drawn.{drawnFrom};
 ghost use Rattle.drawing.specs.Sheet.{sheet, drawnOn};
 ghost use Rattle.drawing.specs.DrawingOn.{PenReady, Strode};
@@ -136,7 +138,7 @@ fn draw_words(text: &[u8], s: Settings, p: Place, at: usize, pen: Pen, events: &
 }
 
 // The same of a line that may have a rest to resume first.
-pub fn draw_on(
+fn draw_on(
     text: &[u8],
     s: Settings,
     p: Place,
@@ -157,6 +159,32 @@ pub fn draw_on(
         pen,
         waits: 0,
     }
+}
+
+// The same where a look may be known, which is kept for the white space that comes next.
+pub fn draw_unless(
+    text: &[u8],
+    s: Settings,
+    p: Place,
+    at: usize,
+    rest: Resumed,
+    pen: Pen,
+    seen: Foreseen,
+    events: &mut [u32],
+) -> Going
+    requires { ⌜ PenReady s p (now text) at rest pen × ForeseesFrom s p (now text) at rest seen ⌝ }
+    ensures { λ r. ⌜ Strode s (now (text .entry)) rest (now (events .entry)) p at pen (now (events .exit)) r ⌝ }
+    ensures { λ r. ⌜ ForeseesFrom s (r .place) (now (text .entry)) (r .at) rest seen ⌝ }
+{
+    if let Foreseen::Known(_) = seen {
+        return Going {
+            place: p,
+            at,
+            pen,
+            waits: 0,
+        };
+    }
+    draw_on(text, s, p, at, rest, pen, events)
 }
 
 // The line's end before a word that waits: its space is drawn if it fits, and has a width only with trailing spaces on.

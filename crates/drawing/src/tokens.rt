@@ -27,6 +27,7 @@ ghost use lib.ListN.{length};
 ghost use Rattle.basis.specs.Choice.{pick};
 ghost use Rattle.meaning.specs.declared.tokens.TokenKind.the-variants.{Word, Tab};
 ghost use Rattle.meaning.specs.declared.line.EventKind.the-variants.{Space, Move};
+ghost use Rattle.rendering.specs.Foreseeing.{ForeseesAfter};
 ghost use Rattle.drawing.specs.Sheet.{sheet, drawnOn};
 ghost use Rattle.drawing.specs.TokenDrawn.{tokDrawn, runDrawn, printDrawn, PenRoom, DrawReady, TokenReady};
 
@@ -143,10 +144,11 @@ fn draw_tab(
     p: Place,
     at: usize,
     x: Lexeme,
+    seen: Foreseen,
     pen: Pen,
     events: &mut [u32],
 ) -> Pen
-    requires { ⌜ DrawReady s p (now text) at x pen × (x .kind ≡ Tab) ⌝ }
+    requires { ⌜ DrawReady s p (now text) at x pen × (x .kind ≡ Tab) × ForeseesAfter s p (now text) x seen ⌝ }
     ensures { λ r. ⌜ sheet (now (events .exit)) r ≡ drawnOn (sheet (now (events .entry)) pen) (tokDrawn s p (now (text .entry)) at x) ⌝ }
 {
     if skips_space(s, p) {
@@ -157,14 +159,15 @@ fn draw_tab(
     let next = x.end.0 as usize;
     if fits(cursor, width) {
         let q = moved_on(p, width);
-        let look = draws_space(text, s, q, next, Foreseen::Nothing);
+        let look = draws_space(text, s, q, next, seen);
         let kind = tab_kind(look.fits);
         return put_one(events, pen, kind, at, next, 0, width);
     }
     put_one(events, pen, EventKind::Move, at, next, 0, room(cursor))
 }
 
-// What the token x at an offset draws, after what was measured before it and what its step answered.
+// What the token x at an offset draws, after what was measured before it and what its step answered, and with what is known of the
+// look from after it.
 pub fn draw_token(
     text: &[u8],
     s: Settings,
@@ -173,17 +176,18 @@ pub fn draw_token(
     x: Lexeme,
     m: Measure,
     stepped: Stepped,
+    seen: Foreseen,
     pen: Pen,
     events: &mut [u32],
 ) -> Pen
-    requires { ⌜ TokenReady s p (now text) at x m stepped pen ⌝ }
+    requires { ⌜ TokenReady s p (now text) at x m stepped pen × ForeseesAfter s p (now text) x seen ⌝ }
     ensures { λ r. ⌜ sheet (now (events .exit)) r ≡ drawnOn (sheet (now (events .entry)) pen) (tokDrawn s p (now (text .entry)) at x) ⌝ }
 {
     let kind = x.kind;
     match kind {
         TokenKind::Word => draw_letters(text, s, p, at, x, m, stepped, pen, events),
         TokenKind::Whitespace => draw_run(text, at, x, growth(m, stepped), pen, events),
-        TokenKind::Tab => draw_tab(text, s, p, at, x, pen, events),
+        TokenKind::Tab => draw_tab(text, s, p, at, x, seen, pen, events),
         TokenKind::Break => draw_print(at, at + 2, growth(m, stepped), pen, events),
         TokenKind::NewLine => put_one(events, pen, EventKind::Space, at, at + 1, 0, 0),
         TokenKind::CarriageReturn => put_one(events, pen, EventKind::Space, at, at + 1, 0, 0),

@@ -5,7 +5,10 @@ use drawing::pass::draw_pass;
 use meaning::cursor::Spaces;
 use meaning::line::Entry;
 use meaning::settings::Settings;
-use rendering::line::lay_alone;
+use rendering::first::Known;
+use rendering::first::known_from;
+use rendering::first::nothing_known;
+use rendering::line::lay_line;
 use rendering::place::start_place;
 use rendering::step::Resumed;
 use table::entries::write_entry;
@@ -13,23 +16,25 @@ ghost use Prim.Native.Nat.{_+_, _*_, _≤_};
 ghost use mathlib.Core.Path.{_≡_};
 ghost use lib.ListN.{length};
 ghost use Rattle.meaning.specs.Table.{ofEntry, ofAll, written};
+ghost use Rattle.rendering.specs.Knowing.{KnownFits};
 ghost use Rattle.table.specs.Numbers.{putEvents};
 ghost use Rattle.drawing.specs.PassDrawn.{DrawRoom};
 ghost use Rattle.layout.specs.RowsFrom.{TextReady, entriesOf};
 ghost use Rattle.layout.specs.EventsFrom.{eventsOf, placeIn, lineEvents};
 
-// The events of the line at an offset, after a rest that it resumes, from its entry: events number k and on. How many there are
-// with those before.
+// The events of the line at an offset, after a rest that it resumes, where a word may be known, from its entry: events number k and
+// on. How many there are with those before.
 fn draw_line(
     text: &[u8],
     s: Settings,
     at: usize,
     rest: Resumed,
+    known: Known,
     e: Entry,
     events: &mut [u32],
     k: usize,
 ) -> usize
-    requires { ⌜ DrawRoom s (placeIn s e) (now text) at rest (e .left .0) k ⌝ }
+    requires { ⌜ DrawRoom s (placeIn s e) (now text) at rest (e .left .0) k × KnownFits (now text) known ⌝ }
     ensures { λ r. ⌜ now (events .exit) ≡ putEvents (now (events .entry)) k (lineEvents s (now (text .entry)) at rest e) ⌝ }
     ensures { λ r. ⌜ r ≡ k + length (lineEvents s (now (text .entry)) at rest e) ⌝ }
 {
@@ -41,7 +46,7 @@ fn draw_line(
         extra,
     };
     let start = start_place(s, left, spaces);
-    draw_pass(text, s, start, at, rest, left.0, events, k)
+    draw_pass(text, s, start, at, rest, known, left.0, events, k)
 }
 
 // The events of all lines of a text, put into a buffer as far as it has room. How many there are.
@@ -53,10 +58,12 @@ pub fn draw_lines(text: &[u8], s: Settings, events: &mut [u32]) -> usize
     let mut k: usize = 0;
     let mut at: usize = 0;
     let mut rest = nothing();
+    let mut known = nothing_known();
     loop {
-        let line = lay_alone(text, s, at, rest);
+        known = known_from(text, at, rest, known);
+        let line = lay_line(text, s, at, rest, known);
         let entry = line.entry;
-        k = draw_line(text, s, at, rest, entry, events, k);
+        k = draw_line(text, s, at, rest, known, entry, events, k);
         let ended = line.ended;
         if is_last(ended) {
             return k;
@@ -96,12 +103,14 @@ pub fn write_and_draw(text: &[u8], s: Settings, table: &mut [u32], events: &mut 
     let mut drawn: usize = 0;
     let mut at: usize = 0;
     let mut rest = nothing();
+    let mut known = nothing_known();
     loop {
-        let line = lay_alone(text, s, at, rest);
+        known = known_from(text, at, rest, known);
+        let line = lay_line(text, s, at, rest, known);
         let entry = line.entry;
         write_entry(table, lines, entry);
         lines += 1;
-        drawn = draw_line(text, s, at, rest, entry, events, drawn);
+        drawn = draw_line(text, s, at, rest, known, entry, events, drawn);
         let ended = line.ended;
         if is_last(ended) {
             return Both {

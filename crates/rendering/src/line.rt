@@ -3,7 +3,6 @@ use crate::alignment::place_line;
 use crate::alignment::plain_spaces;
 use crate::entry::entry_at;
 use crate::first::Known;
-use crate::first::nothing_known;
 use crate::measure::measured_count;
 use crate::measure::measured_width;
 use crate::measure::nothing_measured;
@@ -108,12 +107,4 @@ pub fn lay_line(text: &[u8], s: Settings, at: usize, rest: Resumed, known: Known
     }
     let drawn = pass_over(text, s, at, rest, p, known);
     laid_at(at as u32, rest, p, width, first.reach.0, drawn)
-}
-
-// The same with nothing known of the word that it begins with.
-pub fn lay_alone(text: &[u8], s: Settings, at: usize, rest: Resumed) -> LineAt
-    requires { ⌜ LineReady s (now text) at rest ⌝ }
-    ensures { λ r. ⌜ r ≡ lineFrom s (now (text .entry)) at rest ⌝ }
-{
-    lay_line(text, s, at, rest, nothing_known())
 }

@@ -4,6 +4,7 @@ use mathlib.Core.Path.{sym, _∙_}
 use native.Mathlib.Omega.{arith}
 use Rattle.meaning.specs.Cursor.{roomOf}
 use Rattle.rendering.specs.FineLaws.{fits-room}
+use Rattle.rendering.proofs.TabLaws.{tab-foresees}
 use Rattle.drawing.specs.Sheet.{sheet}
 use Rattle.drawing.proofs.TabEvents.{tab-moved, tab-skips, tab-fits, tab-beyond}
 use borrow.Author.Needs.{needs}
@@ -35,9 +36,16 @@ moved-on-requires c κs =
 
 draws-space-requires : tie.Need-draws-space-requires
 draws-space-requires c κs =
-    let s = c .before .before .before .before .before .before .before .before .before .before in
-    let h = s .pre .0 in
-    (h .settings, tab-moved (s .args .p) _ (c .before .before .before .before .tab-width .result) (h .place) (c .moved-on .ensures) (sym (c .before .before .fits2 .ensures) ∙ c .before .if2 .taken), h .short, h .stands .within, tt)
+    let w = c .before .before .before .before in
+    let s = w .before .before .before .before .before .before in
+    let a = s .args in
+    let h = s .pre .0 in (
+      h .settings,
+      tab-moved (a .p) _ (w .tab-width .result) (h .place) (c .moved-on .ensures) (sym (c .before .before .fits2 .ensures) ∙ c .before .if2 .taken),
+      h .short,
+      h .stands .within,
+      tab-foresees (a .s) (a .p) (h .stands) (s .pre .1) (a .seen) (s .pre .2) _ (w .tab-width .ensures) _ (c .moved-on .ensures),
+    )
 
 tab-kind-requires : tie.Need-tab-kind-requires
 tab-kind-requires c κs = search needs

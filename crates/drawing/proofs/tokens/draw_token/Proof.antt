@@ -22,16 +22,16 @@ growth-requires : tie.Need-growth-requires
 growth-requires c κs =
     let s = c .before .before .before .before in
     let a = s .args in
-    step-grew (a .s) (a .p) _ (a .at) (a .x) (a .m) (a .stepped) (s .pre .ready) (s .pre .stepped)
+    step-grew (a .s) (a .p) _ (a .at) (a .x) (a .m) (a .stepped) (s .pre .0 .ready) (s .pre .0 .stepped)
 
 draw-run-requires : tie.Need-draw-run-requires
 draw-run-requires c κs =
     let g = c .before in
     let s = g .before .before .before .before .before in
     let a = s .args in
-    let h = s .pre .ready in
-    let w = grown-narrow (a .s) (a .p) _ (a .at) (a .x) (a .m) (a .stepped) h (s .pre .stepped) (g .growth .result) (g .growth .ensures) in
-    (s .pre .pen, w, h .short, omega (arith, h .stands .longer, h .stands .within, h .short), omega (arith, h .stands .within, h .short))
+    let h = s .pre .0 .ready in
+    let w = grown-narrow (a .s) (a .p) _ (a .at) (a .x) (a .m) (a .stepped) h (s .pre .0 .stepped) (g .growth .result) (g .growth .ensures) in
+    (s .pre .0 .pen, w, h .short, omega (arith, h .stands .longer, h .stands .within, h .short), omega (arith, h .stands .within, h .short))
 
 enum-told-3 : tie.Need-enum-told-3
 enum-told-3 c = search needs
@@ -49,17 +49,17 @@ growth-requires-2 : tie.Need-growth-requires-2
 growth-requires-2 c κs =
     let s = c .before .before .before .before in
     let a = s .args in
-    step-grew (a .s) (a .p) _ (a .at) (a .x) (a .m) (a .stepped) (s .pre .ready) (s .pre .stepped)
+    step-grew (a .s) (a .p) _ (a .at) (a .x) (a .m) (a .stepped) (s .pre .0 .ready) (s .pre .0 .stepped)
 
 draw-print-requires : tie.Need-draw-print-requires
 draw-print-requires c κs =
     let g = c .before in
     let s = g .before .before .before .before .before in
     let a = s .args in
-    let h = s .pre .ready in
-    let w = grown-narrow (a .s) (a .p) _ (a .at) (a .x) (a .m) (a .stepped) h (s .pre .stepped) (g .growth2 .result) (g .growth2 .ensures) in
+    let h = s .pre .0 .ready in
+    let w = grown-narrow (a .s) (a .p) _ (a .at) (a .x) (a .m) (a .stepped) h (s .pre .0 .stepped) (g .growth2 .result) (g .growth2 .ensures) in
     let e = break-end (a .text .now) (a .at) (a .x) (h .stands) (g .before .enum-told4 .given .1) in
-    (s .pre .pen, w, omega (arith, e, h .stands .within, h .short), omega (arith, e, h .stands .within, h .short))
+    (s .pre .0 .pen, w, omega (arith, e, h .stands .within, h .short), omega (arith, e, h .stands .within, h .short))
 
 enum-told-5 : tie.Need-enum-told-5
 enum-told-5 c = search needs
@@ -95,7 +95,7 @@ returns-2 c =
     let s = g .before .before .before .before .before in
     let a = s .args in
     f .draw-run .ensures
-    ∙ run-events (a .s) (a .p) (a .text .now) (a .at) (a .x) (a .m) (a .stepped) (s .pre .ready) (s .pre .stepped) (g .growth .result) (g .growth .ensures) (sheet (a .events .now) (a .pen)) (g .before .enum-told2 .given .1)
+    ∙ run-events (a .s) (a .p) (a .text .now) (a .at) (a .x) (a .m) (a .stepped) (s .pre .0 .ready) (s .pre .0 .stepped) (g .growth .result) (g .growth .ensures) (sheet (a .events .now) (a .pen)) (g .before .enum-told2 .given .1)
 
 same-length-3 : tie.Need-same-length-3
 same-length-3 c = search needs
@@ -113,7 +113,7 @@ returns-4 c =
     let s = g .before .before .before .before .before in
     let a = s .args in
     f .draw-print .ensures
-    ∙ hyphen-events (a .s) (a .p) (a .text .now) (a .at) (a .x) (a .m) (a .stepped) (s .pre .ready) (s .pre .stepped) (g .growth2 .result) (g .growth2 .ensures) (sheet (a .events .now) (a .pen)) (g .before .enum-told4 .given .1)
+    ∙ hyphen-events (a .s) (a .p) (a .text .now) (a .at) (a .x) (a .m) (a .stepped) (s .pre .0 .ready) (s .pre .0 .stepped) (g .growth2 .result) (g .growth2 .ensures) (sheet (a .events .now) (a .pen)) (g .before .enum-told4 .given .1)
 
 same-length-5 : tie.Need-same-length-5
 same-length-5 c = search needs

@@ -14,7 +14,7 @@ start-place-requires c κs = search needs
 draw-pass-requires : tie.Need-draw-pass-requires
 draw-pass-requires c κs =
     let a = c .before .before .before .before .before .before .before in
-    place-room (a .args .s) (a .args .text .now) (a .args .at) (a .args .rest) (a .args .e) _ (c .before .start-place .ensures) (a .args .k) (a .pre)
+    (place-room (a .args .s) (a .args .text .now) (a .args .at) (a .args .rest) (a .args .e) _ (c .before .start-place .ensures) (a .args .k) (a .pre .0), a .pre .1)
 
 same-length : tie.Need-same-length
 same-length c = search needs

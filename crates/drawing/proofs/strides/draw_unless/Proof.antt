@@ -1,0 +1,35 @@
+-- `drawing::strides::draw_unless` meets its contract.
+-- Assumes nothing.
+use mathlib.Core.Path.{refl}
+use Rattle.rendering.proofs.GoesLaws.{nothing-foreseen}
+use Rattle.drawing.proofs.OnwardEvents.{drew-none, strode-to}
+use borrow.Author.Needs.{needs}
+use Rattle.drawing.proofs.strides.draw_unless.Statement.{statement}
+use Rattle.drawing.proofs.strides.draw_unless.Tie as tie
+
+enum-told : tie.Need-enum-told
+enum-told c = search needs
+
+returns : tie.Need-returns
+returns c = let h = c .before .before .before .before .pre in (strode-to 0 refl (drew-none (h .0)) (λ d. absurd (d refl)), h .1)
+
+enum-told-2 : tie.Need-enum-told-2
+enum-told-2 c = search needs
+
+draw-on-requires : tie.Need-draw-on-requires
+draw-on-requires c κs = search needs
+
+same-length : tie.Need-same-length
+same-length c = search needs
+
+returns-2 : tie.Need-returns-2
+returns-2 c =
+    let d = c .before .before in
+    let e = d .before .before in
+    let a = e .before .before .before .before .args in
+    let g = d .draw-on .result in
+    (d .draw-on .ensures, nothing-foreseen (a .s) (g .place) (a .text .now) (g .at) (a .rest) (a .seen) (e .enum-told2 .given .1))
+
+pub draw-unless-spec : {M : Type 1} → statement M
+draw-unless-spec =
+    tie.close (tie.spec enum-told returns enum-told-2 draw-on-requires same-length returns-2)
