@@ -1,24 +1,25 @@
--- ASCII, and letters of three bytes, in words and before them.
+-- ASCII, and letters of two and three bytes, in words and before them.
 -- Assumes nothing.
 use mathlib.Core.Path.{_≡_, refl, sym, ap, _∙_}
-use mathlib.Core.Bool.{true, false}
+use mathlib.Core.Bool.{true, false, _||_}
 use mathlib.Core.List.{List}
 use Prim.Native.Nat.{ℕ, _+_, _-_, _≤_, _<_}
 use native.Mathlib.Omega.{arith}
-use borrow.Author.Tests.{lt-ltb, le-ltb, ne-eqb}
+use borrow.Author.Tests.{lt-ltb, le-ltb, ne-eqb, eqb-true}
+use lib.Dec.{eqb}
 use lib.ListN.{length, getD}
-use Rattle.basis.specs.Choice.{pick}
+use Rattle.basis.specs.Choice.{pick, by-either}
 use Rattle.unicode.specs.Decoding.{decodeAt}
 use Rattle.unicode.specs.Ascii.{decode-ascii}
-use Rattle.unicode.specs.Wide.{wideAt, Wide, wide-char}
-use Rattle.unicode.specs.Members.{above-all}
+use Rattle.unicode.specs.Walk.{decode-at-within, decode-at-end}
+use Rattle.unicode.specs.Long.{Black, Long}
 use Rattle.unicode.specs.declared.sequence.Decoded.the-variants.{Char}
 use Rattle.meaning.specs.Characters.{glue, inWord, inRun}
 use Rattle.parser.specs.Lexing.{charsFrom}
 use Rattle.parser.specs.Scanning.{glueOf, scanFrom}
-use Rattle.parser.specs.Ascii.{plain, plainAt, Lettered, Spelled, Letter, plain-range, plain-char}
-use Rattle.parser.proofs.CharacterLaws.{ascii-word, ascii-run, high-word}
-use Rattle.parser.proofs.ScanLaws.{scan-more}
+use Rattle.parser.specs.Ascii.{plain, plainAt, Ends, Lettered, Spelled, Letter, plain-range, plain-char}
+use Rattle.parser.proofs.CharacterLaws.{ascii-word, ascii-run, high-word, high-run}
+use Rattle.parser.proofs.ScanLaws.{scan-more, scan-stop}
 
 -- Of words, not of space runs, and gluing nothing.
 module _ (b : ℕ) (e : plain b ≡ true) where
@@ -63,63 +64,74 @@ module _ (t : List ℕ) (from : ℕ) where
             ∙ (λ k. scanFrom inWord glueOf (i + 1) (m k) (v k) (charsFrom t (i + 1)));
       }
 
--- ---- letters of three bytes
+-- ---- letters of two and three bytes
 
-module _ (c : ℕ) (h : 0x3000 < c) where
+module _ (c : ℕ) (x : Black c) where
   no-glue : glue c ≡ false
   unfolding glue
-  no-glue = ne-eqb c 0x00A0 (λ e. omega arith)
+  no-glue = let h = x .high in ne-eqb c 0x00A0 (λ e. omega arith)
 
-  wide-glue : glueOf c ≡ 0
+  pub black-glue : glueOf c ≡ 0
   unfolding glueOf pick
-  wide-glue = rw no-glue
+  black-glue = rw no-glue
 
-  wide-word : inWord c ≡ true
-  wide-word = high-word c (omega arith) (λ e. omega arith) no-glue (λ e. omega arith) ∙ rw (above-all c h)
+  pub black-word : inWord c ≡ true
+  black-word = let h = x .high in high-word c (omega arith) (x .shown) no-glue (λ e. omega arith) ∙ rw (x .solid)
+
+  pub black-run : inRun c ≡ false
+  black-run = let h = x .high in high-run c (omega arith) (x .shown) no-glue ∙ x .solid
 
 pub letter-plain : (t : List ℕ) (at : ℕ) → plainAt t at ≡ true → Letter t at 1
 letter-plain t at e = let h = plain-char t at e in record { char = getD t at 0; is = h .1; glue = plain-glue (getD t at 0) (h .0) }
 
-pub letter-wide : (t : List ℕ) (at : ℕ) → wideAt t at ≡ true → Letter t at 3
-letter-wide t at e = let x = wide-char t at e in record { char = x .char; is = x .is; glue = wide-glue (x .char) (x .above) }
+pub letter-long : (t : List ℕ) (at n : ℕ) → Long t at n → Letter t at n
+letter-long t at n x = record { char = x .char; is = x .is; glue = black-glue (x .char) (x .black) }
 
 module _ (t : List ℕ) (from : ℕ) where
-  pub spelled-none : from ≤ length t → Spelled t from from 0
-  spelled-none h = record {
+  pub spelled-none : (k : ℕ) → k ≡ 0 → from ≤ length t → Spelled t from from k
+  spelled-none k e h = record {
     forward = omega arith;
     inside = h;
-    scans = λ n w. let z : n ≡ n + 0 = omega arith in ap (λ (m : ℕ). scanFrom inWord glueOf from m w (charsFrom t from)) z;
+    scans = λ n w. let z : n ≡ n + k = omega arith in ap (λ (m : ℕ). scanFrom inWord glueOf from m w (charsFrom t from)) z;
   }
 
   -- One more.
-  pub spelled-wide : (i k : ℕ) → Wide t i → Spelled t from i k → Spelled t from (i + 3) (k + 1)
-  spelled-wide i k x l =
-      let c = x .char in
+  spelled-char : (i k m c n : ℕ) → decodeAt t i ≡ Char c n → inWord c ≡ true → glueOf c ≡ 0 → m ≡ k + 1 → Spelled t from i k → Spelled t from (i + n) m
+  spelled-char i k m c n e g z q l =
+      let r = decode-at-within t i c n e in
       record {
         forward = omega (arith, l .forward);
-        inside = x .inside;
-        scans = λ n w.
-            let m : n + k + 1 ≡ n + (k + 1) = omega arith in
-            let v : w + glueOf c ≡ w = omega (arith, wide-glue c (x .above)) in
-            l .scans n w ∙ scan-more inWord glueOf t i (n + k) w c 3 (x .is) (wide-word c (x .above))
-            ∙ (λ j. scanFrom inWord glueOf (i + 3) (m j) (v j) (charsFrom t (i + 3)));
+        inside = r .1;
+        scans = λ x w.
+            let p : x + k + 1 ≡ x + m = omega arith in
+            let v : w + glueOf c ≡ w = omega arith in
+            l .scans x w ∙ scan-more inWord glueOf t i (x + k) w c n e g
+            ∙ (λ j. scanFrom inWord glueOf (i + n) (p j) (v j) (charsFrom t (i + n)));
       }
 
-  pub spelled-both : (i j k : ℕ) → Lettered t from i → Spelled t i j k → Spelled t from j (i - from + k)
-  spelled-both i j k l s =
-      record {
-        forward = omega (arith, l .forward, s .forward);
-        inside = s .inside;
-        scans = λ n w.
-            let m : n + (i - from) + k ≡ n + (i - from + k) = omega arith in
-            l .scans n w ∙ s .scans (n + (i - from)) w ∙ ap (λ (x : ℕ). scanFrom inWord glueOf j x w (charsFrom t j)) m;
-      }
+  pub spelled-plain : (i k m : ℕ) → plainAt t i ≡ true → m ≡ k + 1 → Spelled t from i k → Spelled t from (i + 1) m
+  spelled-plain i k m e q l =
+      let h = plain-char t i e in
+      let b = getD t i 0 in
+      spelled-char i k m b 1 (h .1) (plain-word b (h .0)) (plain-glue b (h .0)) q l
 
--- A character of a word, and the letters behind it.
-pub scan-turn : (t : List ℕ) (at n w c k g to more : ℕ) → decodeAt t at ≡ Char c k → inWord c ≡ true → g ≡ glueOf c
-    → Spelled t (at + k) to more
-    → scanFrom inWord glueOf at n w (charsFrom t at) ≡ scanFrom inWord glueOf to (n + (1 + more)) (w + g) (charsFrom t to)
-scan-turn t at n w c k g to more e i q l =
-    let m : n + 1 + more ≡ n + (1 + more) = omega arith in
-    scan-more inWord glueOf t at n w c k e i ∙ l .scans (n + 1) (w + glueOf c)
-    ∙ (λ j. scanFrom inWord glueOf to (m j) (w + sym q j) (charsFrom t to))
+  pub spelled-long : (i k m n : ℕ) → Long t i n → m ≡ k + 1 → Spelled t from i k → Spelled t from (i + n) m
+  spelled-long i k m n x q l = spelled-char i k m (x .char) n (x .is) (black-word (x .char) (x .black)) (black-glue (x .char) (x .black)) q l
+
+-- ---- what ends a word
+
+module _ (t : List ℕ) (at : ℕ) where
+  pub ends-text : length t ≤ at → Ends t at
+  unfolding charsFrom scanFrom
+  ends-text h = record { scans = λ n w. rw (decode-at-end t at h) }
+
+  pub ends-byte : (b : ℕ) → at < length t → b ≡ getD t at 0 → eqb b 0x20 || eqb b 0x0A ≡ true → Ends t at
+  unfolding pick
+  ends-byte b h q o =
+      let ends : (x : ℕ) → b ≡ x → x < 0x80 → inWord x ≡ false → Ends t at =
+      λ x e l z. record {
+        scans = λ n w. scan-stop inWord glueOf t at n w x 1 (decode-ascii t at h (omega arith) ∙ ap (λ (y : ℕ). Char y 1) (sym q ∙ e)) z;
+      } in
+      by-either (eqb b 0x20) (eqb b 0x0A) o
+      (λ p. ends 0x20 (eqb-true b 0x20 p) (omega arith) space-no-word)
+      (λ p. ends 0x0A (eqb-true b 0x0A p) (omega arith) (ascii-word 0x0A (omega arith)))

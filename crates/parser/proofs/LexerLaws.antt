@@ -11,6 +11,7 @@ use Rattle.basis.specs.Choice.{pick}
 use Rattle.unicode.specs.Encoding.{bytes, size}
 use Rattle.unicode.specs.Decoding.{decodeAt}
 use Rattle.unicode.specs.Walk.{isChar, decode-at-bytes}
+use Rattle.unicode.specs.Long.{Long}
 use Rattle.unicode.specs.declared.sequence.Decoded.the-variants.{Char}
 use Rattle.meaning.specs.Characters.{Class, lf, cr, ht, shy, zwsp, blank, letter, classOf, wordClass, inWord, inRun}
 use Rattle.meaning.specs.Tokens.{Tok, newLine, carriageReturn, tab, softHyphen, space, word, run, after, ender, counted, first, tokens, charsOf, sizeOf, enderOf, needOf, kindOf, countOf}
@@ -24,7 +25,7 @@ use Rattle.parser.specs.declared.lexeme.Lexeme.{Lexeme}
 use Rattle.parser.specs.declared.lexeme.Lexed.the-variants.{End, Token}
 use Rattle.parser.specs.Ascii.{plainAt, spaceAt, plain-char, space-char}
 use Rattle.parser.proofs.ScanLaws.{chars-more, chars-none}
-use Rattle.parser.proofs.AsciiLaws.{plain-word, plain-glue, space-no-word}
+use Rattle.parser.proofs.AsciiLaws.{plain-word, plain-glue, space-no-word, black-word, black-glue}
 use Rattle.parser.proofs.RunLaws.{weights, weights-glues, weights-counted, scan-is}
 
 -- ---- classes
@@ -154,16 +155,23 @@ pub lexed-none : (t : List ℕ) (at : ℕ) → isChar (decodeAt t at) ≡ false 
 unfolding lexedAt
 lexed-none t at e = rw (chars-none t at e, tokens-none)
 
--- The same where a byte of ASCII stands.
+-- The same where a byte of ASCII or a longer letter is told.
 module _ (t : List ℕ) (at : ℕ) where
+  letter-lexed : (c n : ℕ) → decodeAt t at ≡ Char c n → inWord c ≡ true → glueOf c ≡ 0
+      → Token (wordOf (scanFrom inWord glueOf (at + n) 1 0 (charsFrom t (at + n)))) ≡ lexedAt at (tokens (charsFrom t at))
+  letter-lexed c n d e z =
+      let cs = charsFrom t (at + n) in
+      lexed-char t at c n d _
+      (ap (λ (g : ℕ). wordOf (scanFrom inWord glueOf (at + n) 1 g cs)) (sym z) ∙ word-is at n c cs (decode-at-bytes t at c n d) e)
+
   pub plain-lexed : plainAt t at ≡ true → Token (wordOf (scanFrom inWord glueOf (at + 1) 1 0 (charsFrom t (at + 1)))) ≡ lexedAt at (tokens (charsFrom t at))
   plain-lexed e =
       let h = plain-char t at e in
       let c = getD t at 0 in
-      let cs = charsFrom t (at + 1) in
-      lexed-char t at c 1 (h .1) _
-      (ap (λ (g : ℕ). wordOf (scanFrom inWord glueOf (at + 1) 1 g cs)) (sym (plain-glue c (h .0)))
-      ∙ word-is at 1 c cs (decode-at-bytes t at c 1 (h .1)) (plain-word c (h .0)))
+      letter-lexed c 1 (h .1) (plain-word c (h .0)) (plain-glue c (h .0))
+
+  pub long-lexed : (n : ℕ) → Long t at n → Token (wordOf (scanFrom inWord glueOf (at + n) 1 0 (charsFrom t (at + n)))) ≡ lexedAt at (tokens (charsFrom t at))
+  long-lexed n x = letter-lexed (x .char) n (x .is) (black-word (x .char) (x .black)) (black-glue (x .char) (x .black))
 
   pub space-lexed : spaceAt t at ≡ true → Token (blankOf (scanFrom inRun spaceOf (at + 1) 1 1 (charsFrom t (at + 1)))) ≡ lexedAt at (tokens (charsFrom t at))
   space-lexed e =

@@ -14,7 +14,7 @@ use Rattle.unicode.specs.Ascii.{decode-ascii}
 use Rattle.unicode.specs.declared.sequence.Decoded.the-variants.{Char}
 use Rattle.meaning.specs.Characters.{inWord}
 use Rattle.parser.specs.Lexing.{charsFrom}
-use Rattle.parser.specs.Scanning.{glueOf, scanFrom}
+use Rattle.parser.specs.Scanning.{glueOf, scannedAt, scanFrom}
 
 abbrev pub plain : ℕ → Bool
 plain b = ltb 0x20 b && ltb b 0x80
@@ -36,6 +36,10 @@ pub record Spelled (t : List ℕ) (from to chars : ℕ) : Type 0 where
   pub forward : from + chars ≤ to
   pub inside : to ≤ length t
   pub scans : (n w : ℕ) → scanFrom inWord glueOf from n w (charsFrom t from) ≡ scanFrom inWord glueOf to (n + chars) w (charsFrom t to)
+
+-- A word ends at a position, by a character of one byte or the text's end.
+pub record Ends (t : List ℕ) (at : ℕ) : Type 0 where
+  pub scans : (n w : ℕ) → scanFrom inWord glueOf at n w (charsFrom t at) ≡ scannedAt at n w 1
 
 -- A letter of so many bytes stands at a position.
 pub record Letter (t : List ℕ) (at n : ℕ) : Type 0 where

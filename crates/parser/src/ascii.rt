@@ -1,9 +1,10 @@
-// What texts are mostly made of, told before any decoding: ASCII, where a byte is a character, and letters of three bytes.
+// What texts are mostly made of, told before any decoding: ASCII, where a byte is a character, and letters of two and three bytes.
 ghost use mathlib.Core.Path.{_≡_};
+ghost use mathlib.Core.Bool.{true};
 ghost use Prim.Native.Nat.{_≤_, _<_};
 ghost use lib.ListN.{length};
-ghost use Rattle.parser.specs.Ascii.{plain, plainAt, spaceAt, Lettered, Spelled, Letter};
-use unicode::wide::wide_at;
+ghost use Rattle.parser.specs.Ascii.{plain, plainAt, spaceAt, Ends, Lettered, Spelled, Letter};
+use unicode::long::long_len;
 
 // 21 to 7F are of words, and none of them glues.
 pub fn is_plain(b: u8) -> bool
@@ -32,7 +33,18 @@ pub fn space_at(text: &[u8], at: usize) -> bool
     false
 }
 
-// Such bytes are passed, to the first that is none of them.
+// Does a word end at a position, by what words mostly end with: a space, a line feed, or the text's end.
+pub fn ends_at(text: &[u8], at: usize) -> bool
+    ensures { λ r. ⌜ (r ≡ true → Ends (now (text .entry)) at) ⌝ }
+{
+    if text.len() <= at {
+        return true;
+    }
+    let b = text[at];
+    (b == 0x20) | (b == 0x0A)
+}
+
+// Bytes of words are passed, to the first that is none of them.
 pub fn pass_plain(text: &[u8], from: usize) -> usize
     requires { ⌜ from ≤ length (now text) ⌝ }
     ensures { λ r. ⌜ Lettered (now (text .entry)) from r ⌝ }
@@ -53,30 +65,26 @@ pub struct Letters {
     pub chars: u32,
 }
 
-// Letters of three bytes are passed.
-fn pass_wide(text: &[u8], from: usize) -> Letters
-    requires { ⌜ (length (now text) ≤ 65535) × (from ≤ length (now text)) ⌝ }
-    ensures { λ r. ⌜ Spelled (now (text .entry)) from (r .end) (r .chars) ⌝ }
-{
-    let mut end = from;
-    let mut chars: u32 = 0;
-    while wide_at(text, end) {
-        end += 3;
-        chars += 1;
-    }
-    Letters { end, chars }
-}
-
-// Letters of one byte are passed, and then those of three.
+// Letters of one byte, and longer ones that are told, are passed. Of a longer one all bytes but the first are counted apart.
 pub fn pass_letters(text: &[u8], from: usize) -> Letters
     requires { ⌜ (length (now text) ≤ 65535) × (from ≤ length (now text)) ⌝ }
     ensures { λ r. ⌜ Spelled (now (text .entry)) from (r .end) (r .chars) ⌝ }
 {
-    let plain = pass_plain(text, from);
-    let wide = pass_wide(text, plain);
-    let end = wide.end;
-    let chars = (plain - from) as u32 + wide.chars;
-    Letters { end, chars }
+    let mut end = from;
+    let mut extra: usize = 0;
+    loop {
+        if plain_at(text, end) {
+            end += 1;
+            continue;
+        }
+        let len = long_len(text, end);
+        if len == 0 {
+            let chars = (end - from - extra) as u32;
+            return Letters { end, chars };
+        }
+        end += len;
+        extra += len - 1;
+    }
 }
 
 // How many bytes the letter has that stands at a position, where it is told so. 0: it is not told.
@@ -86,8 +94,5 @@ pub fn letter_len(text: &[u8], at: usize) -> usize
     if plain_at(text, at) {
         return 1;
     }
-    if wide_at(text, at) {
-        return 3;
-    }
-    0
+    long_len(text, at)
 }

@@ -19,6 +19,7 @@ use crate::scan::scan_word;
 use meaning::counts::Chars;
 use meaning::counts::Offset;
 use meaning::tokens::TokenKind;
+use unicode::long::long_len;
 use unicode::sequence::Decoded;
 use unicode::sequence::decode;
 
@@ -110,7 +111,7 @@ fn decoded_at(text: &[u8], at: usize) -> Lexed
     }
 }
 
-// The token at an offset. What ASCII is mostly made of is told by one byte.
+// The token at an offset. What texts are mostly made of is told by its bytes.
 pub fn token_at(text: &[u8], at: usize) -> Lexed
     requires { ⌜ length (now text) ≤ 65535 ⌝ }
     ensures { λ r. ⌜ r ≡ lexedAt at (tokens (charsFrom (now (text .entry)) at)) ⌝ }
@@ -120,6 +121,10 @@ pub fn token_at(text: &[u8], at: usize) -> Lexed
     }
     if space_at(text, at) {
         return Lexed::Token(blank(scan_run(text, at + 1)));
+    }
+    let letter = long_len(text, at);
+    if 0 < letter {
+        return Lexed::Token(word(scan_word(text, at + letter, 0)));
     }
     decoded_at(text, at)
 }

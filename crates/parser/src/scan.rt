@@ -5,15 +5,16 @@ ghost use lib.ListN.{length};
 ghost use Rattle.meaning.specs.Characters.{inWord, inRun};
 ghost use Rattle.parser.specs.Lexing.{charsFrom};
 ghost use Rattle.parser.specs.Scanning.{glueOf, spaceOf, scannedAt, scanFrom};
+use crate::ascii::ends_at;
 use crate::ascii::pass_letters;
 use crate::ascii::plain_at;
-use crate::ascii::space_at;
 use crate::characters::glue_of;
 use crate::characters::in_run;
 use crate::characters::in_word;
 use crate::characters::space_of;
 use meaning::counts::Chars;
 use meaning::counts::Offset;
+use unicode::long::long_len;
 use unicode::sequence::Decoded;
 use unicode::sequence::decode;
 
@@ -42,29 +43,30 @@ pub fn scan_word(text: &[u8], from: usize, first: u32) -> Scanned
     requires { ⌜ (length (now text) ≤ 65535) × (from ≤ length (now text)) × (first ≤ 1) ⌝ }
     ensures { λ r. ⌜ r ≡ scanFrom inWord glueOf from 1 first (charsFrom (now (text .entry)) from) ⌝ }
 {
-    let front = pass_letters(text, from);
-    let mut at = front.end;
-    let mut chars = 1 + front.chars;
+    let mut at = from;
+    let mut chars: u32 = 1;
     let mut weight = first;
     loop {
-        if space_at(text, at) {
-            return ended(at, chars, weight, 1);
+        let letters = pass_letters(text, at);
+        let end = letters.end;
+        let passed = chars + letters.chars;
+        if ends_at(text, end) {
+            return ended(end, passed, weight, 1);
         }
-        match decode(text, at) {
+        match decode(text, end) {
             Decoded::Char { cp, len } => {
                 if !in_word(cp) {
-                    return ended(at, chars, weight, len);
+                    return ended(end, passed, weight, len);
                 }
                 weight += glue_of(cp);
-                let more = pass_letters(text, at + len as usize);
-                at = more.end;
-                chars += 1 + more.chars;
+                chars = passed + 1;
+                at = end + len as usize;
             }
             Decoded::Bad => {
-                return ended(at, chars, weight, 1);
+                return ended(end, passed, weight, 1);
             }
             Decoded::End => {
-                return ended(at, chars, weight, 1);
+                return ended(end, passed, weight, 1);
             }
         }
     }
@@ -81,6 +83,10 @@ pub fn scan_run(text: &[u8], from: usize) -> Scanned
     loop {
         if plain_at(text, at) {
             return ended(at, chars, weight, 1);
+        }
+        let letter = long_len(text, at);
+        if 0 < letter {
+            return ended(at, chars, weight, letter as u32);
         }
         match decode(text, at) {
             Decoded::Char { cp, len } => {

@@ -59,13 +59,13 @@ module _ (t : List ℕ) (from : ℕ) where
       let four' : i + 3 + 1 ≡ i + 4 = omega arith in
       subst (Passed t from) four' four
 
-  -- One character of three bytes more.
-  pub pass-three : (i c : ℕ) → decodeAt t i ≡ Char c 3 → i + 3 ≤ length t → Passed t from i → Passed t from (i + 3)
-  pass-three i c e h p =
+  -- One character more.
+  pub pass-char : (i c n : ℕ) → decodeAt t i ≡ Char c n → i + n ≤ length t → Passed t from i → Passed t from (i + n)
+  pass-char i c n e h p =
       record {
         forward = omega (arith, p .forward);
         inside = h;
-        prefix = omega (arith, p .forward, p .prefix, prefix-at-more t i c 3 e);
+        prefix = omega (arith, p .forward, p .prefix, prefix-at-more t i c n e);
       }
 
   pub pass-on : (i j : ℕ) → Passed t from i → Passed t i j → Passed t from j

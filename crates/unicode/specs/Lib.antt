@@ -15,4 +15,4 @@ pub mod Prefix
 pub mod Boundaries
 pub mod Members
 pub mod Ascii
-pub mod Wide
+pub mod Long

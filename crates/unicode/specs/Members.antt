@@ -43,7 +43,7 @@ in-gap lo hi c (x ∷ xs) e a b =
     λ p. by-either (leb x lo) (leb hi x) (f .0) (λ q. omega (arith, leb-true x lo q)) (λ q. omega (arith, leb-true hi x q)) in
     rw (ne-eqb x c n) (in-gap lo hi c xs (f .1) a b)
 
--- The two great gaps of White_Space.
+-- The great gaps of White_Space.
 pub above-all : (c : ℕ) → 0x3000 < c → isWhite c ≡ false
 unfolding isWhite whiteSpaces gap
 above-all c h = in-gap 0x3000 (c + 1) c whiteSpaces refl h (omega arith)
@@ -51,3 +51,11 @@ above-all c h = in-gap 0x3000 (c + 1) c whiteSpaces refl h (omega arith)
 pub between-spaces : (c : ℕ) → 0x00A0 < c → c < 0x1680 → isWhite c ≡ false
 unfolding isWhite whiteSpaces gap
 between-spaces c a b = in-gap 0x00A0 0x1680 c whiteSpaces refl a b
+
+pub between-breaks : (c : ℕ) → 0x200A < c → c < 0x2028 → isWhite c ≡ false
+unfolding isWhite whiteSpaces gap
+between-breaks c a b = in-gap 0x200A 0x2028 c whiteSpaces refl a b
+
+pub below-ideographs : (c : ℕ) → 0x205F < c → c < 0x3000 → isWhite c ≡ false
+unfolding isWhite whiteSpaces gap
+below-ideographs c a b = in-gap 0x205F 0x3000 c whiteSpaces refl a b

@@ -5,10 +5,10 @@ ghost use lib.ListN.{length};
 ghost use Rattle.unicode.specs.Decoding.{validPrefix};
 ghost use Rattle.unicode.specs.Places.{boundaryAt, countChars};
 ghost use Rattle.unicode.specs.Ascii.{Passed};
+use crate::long::long_len;
 use crate::sequence::Decoded;
 use crate::sequence::decode;
 use crate::sequence::is_cont;
-use crate::wide::wide_at;
 
 // Bytes below 80, each a character by itself, are passed four at a time while four are left.
 fn pass_fours(text: &[u8], from: usize) -> usize
@@ -42,24 +42,34 @@ fn pass_ascii(text: &[u8], from: usize) -> usize
     at
 }
 
-// Characters of three bytes that are told by their bytes alone are passed.
-fn pass_wide(text: &[u8], from: usize) -> usize
+// Letters of two and three bytes that are told by their bytes alone are passed.
+fn pass_long(text: &[u8], from: usize) -> usize
     requires { ⌜ from ≤ length (now text) ⌝ }
     ensures { λ r. ⌜ Passed (now (text .entry)) from r ⌝ }
 {
     let mut at = from;
-    while wide_at(text, at) {
-        at += 3;
+    loop {
+        let len = long_len(text, at);
+        if len == 0 {
+            return at;
+        }
+        at += len;
     }
-    at
 }
 
-// Both kinds are passed.
+// Both kinds are passed, by turns.
 fn pass_common(text: &[u8], from: usize) -> usize
     requires { ⌜ from ≤ length (now text) ⌝ }
     ensures { λ r. ⌜ Passed (now (text .entry)) from r ⌝ }
 {
-    pass_wide(text, pass_ascii(text, from))
+    let mut at = from;
+    loop {
+        let ascii = pass_ascii(text, at);
+        at = pass_long(text, ascii);
+        if at == ascii {
+            return at;
+        }
+    }
 }
 
 // How many bytes the longest prefix has that is UTF-8.

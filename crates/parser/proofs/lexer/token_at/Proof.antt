@@ -1,16 +1,18 @@
 -- `parser::lexer::token_at` meets its contract.
 -- Assumes nothing.
 use mathlib.Core.Path.{sym, ap, _∙_}
-use Prim.Native.Nat.{_<_}
+use Prim.Native.Nat.{_+_, _≤_, _<_}
 use native.Mathlib.Omega.{arith}
 use lib.ListN.{length}
 use borrow.Author.Needs.{needs}
+use Rattle.unicode.specs.Walk.{decode-at-within}
+use Rattle.unicode.specs.Long.{Long}
 use Rattle.parser.specs.Scanning.{wordOf, blankOf}
 use Rattle.parser.specs.declared.lexeme.Lexeme.{Lexeme}
 use Rattle.parser.specs.declared.lexeme.Lexed.the-variants.{Token}
 use Rattle.parser.specs.declared.scan.Scanned.{Scanned}
 use Rattle.parser.specs.Ascii.{plain-inside, space-inside}
-use Rattle.parser.proofs.LexerLaws.{plain-lexed, space-lexed}
+use Rattle.parser.proofs.LexerLaws.{plain-lexed, space-lexed, long-lexed}
 use Rattle.parser.proofs.lexer.token_at.Statement.{statement}
 use Rattle.parser.proofs.lexer.token_at.Tie as tie
 
@@ -57,11 +59,35 @@ returns-2 c =
     let i = w .before in
     ap Token (c .blank .ensures ∙ ap blankOf (w .scan-run .ensures)) ∙ space-lexed _ _ (sym (i .before .space-at .ensures) ∙ i .if2 .taken)
 
+long-len-requires : tie.Need-long-len-requires
+long-len-requires c κs = search needs
+
+-- A longer letter that was told, and that its bytes lie in the text.
+told : (c : tie.Then3) → let a = c .before .before .before .before .before .before .before .args in Long (a .text .now) (a .at) (c .before .long-len .result)
+told c = c .before .long-len .ensures (omega arith)
+
+room : (c : tie.Then3) → let a = c .before .before .before .before .before .before .before .args in a .at + c .before .long-len .result ≤ length (a .text .now)
+room c = let x = told c in decode-at-within _ _ (x .char) _ (x .is) .1
+
+add-scan-word-2 : tie.Need-add-scan-word-2
+add-scan-word-2 c = omega (arith, room c, c .before .before .before .before .before .before .before .pre)
+
+scan-word-requires-2 : tie.Need-scan-word-requires-2
+scan-word-requires-2 c κs = omega (arith, room c, c .before .before .before .before .before .before .before .pre)
+
+word-requires-2 : tie.Need-word-requires-2
+word-requires-2 c κs = search needs
+
+returns-3 : tie.Need-returns-3
+returns-3 c =
+    let w = c .before in
+    ap Token (c .word2 .ensures ∙ ap wordOf (w .scan-word2 .ensures)) ∙ long-lexed _ _ _ (told (w .before))
+
 decoded-at-requires : tie.Need-decoded-at-requires
 decoded-at-requires c κs = search needs
 
-returns-3 : tie.Need-returns-3
-returns-3 c = search needs
+returns-4 : tie.Need-returns-4
+returns-4 c = search needs
 
 pub token-at-spec : {M : Type 1} → statement M
 token-at-spec =
@@ -77,5 +103,10 @@ token-at-spec =
     scan-run-requires
     blank-requires
     returns-2
+    long-len-requires
+    add-scan-word-2
+    scan-word-requires-2
+    word-requires-2
+    returns-3
     decoded-at-requires
-    returns-3)
+    returns-4)

@@ -9,13 +9,14 @@ use borrow.Author.Needs.{needs}
 use borrow.Author.Tests.{not-true, not-false}
 use Rattle.unicode.specs.Decoding.{decodeAt}
 use Rattle.unicode.specs.Walk.{isChar}
+use Rattle.unicode.specs.Long.{Long}
 use Rattle.unicode.specs.declared.sequence.Decoded.the-variants.{Char}
 use Rattle.meaning.specs.Characters.{inRun}
 use Rattle.parser.specs.Lexing.{charsFrom}
 use Rattle.parser.specs.Scanning.{spaceOf, scanFrom}
 use Rattle.parser.proofs.ScanLaws.{scan-more, scan-stop, scan-end, space-one, char-room}
 use Rattle.parser.specs.Ascii.{plain-char}
-use Rattle.parser.proofs.AsciiLaws.{plain-run}
+use Rattle.parser.proofs.AsciiLaws.{plain-run, black-run}
 use Rattle.parser.proofs.scan.scan_run.Statement.{statement}
 use Rattle.parser.proofs.scan.scan_run.Tie as tie
 
@@ -45,6 +46,29 @@ returns c =
     let h = plain-char t (l .at) (sym (p .plain-at .ensures) ∙ c .before .if1 .taken) in
     c .ended .ensures ∙ sym (scan-stop inRun spaceOf t _ _ _ _ _ (h .1) (plain-run _ (h .0))) ∙ l .inv .0
 
+long-len-requires : tie.Need-long-len-requires Inv-loop μ-loop
+long-len-requires c κs = search needs
+
+-- A longer letter that was told, and that its bytes lie in the text.
+told : (c : tie.Then2 Inv-loop μ-loop) → let l = c .before .before .before .before in Long (l .before .before .args .text .now) (l .loop .at) (c .before .long-len .result)
+told c = c .before .long-len .ensures (omega arith)
+
+told-room : (c : tie.Then2 Inv-loop μ-loop) → c .before .long-len .result ≤ 4
+told-room c = let w = told c in char-room _ _ (w .char) _ (w .is) .1
+
+cast-ended : tie.Need-cast-ended Inv-loop μ-loop
+cast-ended c = omega (arith, told-room c)
+
+ended-requires-2 : tie.Need-ended-requires-2 Inv-loop μ-loop
+ended-requires-2 c κs = omega (arith, told-room c)
+
+-- It ends the run.
+returns-2 : tie.Need-returns-2 Inv-loop μ-loop
+returns-2 c =
+    let w = told (c .before) in
+    let l = c .before .before .before .before .before .loop in
+    c .ended2 .ensures ∙ sym (scan-stop inRun spaceOf _ _ _ _ (w .char) _ (w .is) (black-run (w .char) (w .black))) ∙ l .inv .0
+
 decode-requires : tie.Need-decode-requires Inv-loop μ-loop
 decode-requires c κs = search needs
 
@@ -59,10 +83,10 @@ abbrev Read : Type 0
 Read = tie.After-known-told Inv-loop μ-loop
 
 abbrev T : Read → List ℕ
-T c = c .before .before .before .before .before .before .before .before .args .text .now
+T c = c .before .before .before .before .before .before .before .before .before .before .args .text .now
 
 abbrev I : Read → ℕ
-I c = c .before .before .before .before .before .before .loop .at
+I c = c .before .before .before .before .before .before .before .before .loop .at
 
 abbrev C : Read → ℕ
 C c = c .before .cp .given .0 .0
@@ -76,16 +100,16 @@ read c = sym (c .before .before .before .decode .ensures) ∙ c .before .cp .giv
 room : (c : Read) → (1 ≤ N c) × (N c ≤ 4) × (I c + N c ≤ length (T c))
 room c = char-room (T c) (I c) (C c) (N c) (read c)
 
-ended-requires-2 : tie.Need-ended-requires-2 Inv-loop μ-loop
-ended-requires-2 c κs = omega (arith, room (c .before .before))
+ended-requires-3 : tie.Need-ended-requires-3 Inv-loop μ-loop
+ended-requires-3 c κs = omega (arith, room (c .before .before))
 
-returns-2 : tie.Need-returns-2 Inv-loop μ-loop
-returns-2 c =
+returns-3 : tie.Need-returns-3 Inv-loop μ-loop
+returns-3 c =
     let i = c .before .before in
     let r = i .before in
-    let l = r .before .before .before .before .before .before .loop in
-    c .ended2 .ensures
-    ∙ sym (scan-stop inRun spaceOf (T r) _ _ _ _ _ (read r) (sym (i .in-run .ensures) ∙ not-true _ (c .before .if2 .taken)))
+    let l = r .before .before .before .before .before .before .before .before .loop in
+    c .ended3 .ensures
+    ∙ sym (scan-stop inRun spaceOf (T r) _ _ _ _ _ (read r) (sym (i .in-run .ensures) ∙ not-true _ (c .before .if3 .taken)))
     ∙ l .inv .0
 
 space-of-requires : tie.Need-space-of-requires Inv-loop μ-loop
@@ -110,10 +134,10 @@ loop-again : tie.Need-loop-again Inv-loop μ-loop
 loop-again c =
     let i = c .before .before in
     let r = i .before in
-    let l = r .before .before .before .before .before .before .loop in
+    let l = r .before .before .before .before .before .before .before .before .loop in
     let h = room r in (
       ap (λ (w : ℕ). scanFrom inRun spaceOf (l .at + N r) (l .chars + 1) (l .weight + w) (charsFrom (T r) (l .at + N r))) (c .space-of .ensures)
-          ∙ sym (scan-more inRun spaceOf (T r) _ _ _ _ _ (read r) (sym (i .in-run .ensures) ∙ not-false _ (c .before .if2 .left)))
+          ∙ sym (scan-more inRun spaceOf (T r) _ _ _ _ _ (read r) (sym (i .in-run .ensures) ∙ not-false _ (c .before .if3 .left)))
           ∙ l .inv .0,
       omega arith,
       omega arith,
@@ -123,28 +147,28 @@ loop-again c =
 enum-told : tie.Need-enum-told Inv-loop μ-loop
 enum-told c = search needs
 
-ended-requires-3 : tie.Need-ended-requires-3 Inv-loop μ-loop
-ended-requires-3 c κs = search needs
-
-returns-3 : tie.Need-returns-3 Inv-loop μ-loop
-returns-3 c =
-    let d = c .before .before .before in
-    let l = d .before .before .before .loop in
-    c .ended3 .ensures
-    ∙ sym (scan-end inRun spaceOf _ _ _ _ (ap isChar (sym (d .decode .ensures) ∙ c .before .enum-told .given .1)))
-    ∙ l .inv .0
-
-enum-told-2 : tie.Need-enum-told-2 Inv-loop μ-loop
-enum-told-2 c = search needs
-
 ended-requires-4 : tie.Need-ended-requires-4 Inv-loop μ-loop
 ended-requires-4 c κs = search needs
 
 returns-4 : tie.Need-returns-4 Inv-loop μ-loop
 returns-4 c =
     let d = c .before .before .before in
-    let l = d .before .before .before .loop in
+    let l = d .before .before .before .before .before .loop in
     c .ended4 .ensures
+    ∙ sym (scan-end inRun spaceOf _ _ _ _ (ap isChar (sym (d .decode .ensures) ∙ c .before .enum-told .given .1)))
+    ∙ l .inv .0
+
+enum-told-2 : tie.Need-enum-told-2 Inv-loop μ-loop
+enum-told-2 c = search needs
+
+ended-requires-5 : tie.Need-ended-requires-5 Inv-loop μ-loop
+ended-requires-5 c κs = search needs
+
+returns-5 : tie.Need-returns-5 Inv-loop μ-loop
+returns-5 c =
+    let d = c .before .before .before in
+    let l = d .before .before .before .before .before .loop in
+    c .ended5 .ensures
     ∙ sym (scan-end inRun spaceOf _ _ _ _ (ap isChar (sym (d .decode .ensures) ∙ c .before .enum-told2 .given .1)))
     ∙ l .inv .0
 
@@ -158,11 +182,15 @@ scan-run-spec =
     plain-at-requires
     ended-requires
     returns
+    long-len-requires
+    cast-ended
+    ended-requires-2
+    returns-2
     decode-requires
     enum-known-cp
     in-run-requires
-    ended-requires-2
-    returns-2
+    ended-requires-3
+    returns-3
     space-of-requires
     add-weight
     add-chars
@@ -171,8 +199,8 @@ scan-run-spec =
     loop-less
     loop-again
     enum-told
-    ended-requires-3
-    returns-3
-    enum-told-2
     ended-requires-4
-    returns-4)
+    returns-4
+    enum-told-2
+    ended-requires-5
+    returns-5)

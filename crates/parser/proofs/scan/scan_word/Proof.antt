@@ -13,9 +13,7 @@ use Rattle.unicode.specs.declared.sequence.Decoded.the-variants.{Char}
 use Rattle.meaning.specs.Characters.{inWord}
 use Rattle.parser.specs.Lexing.{charsFrom}
 use Rattle.parser.specs.Scanning.{glueOf, scanFrom}
-use Rattle.parser.proofs.ScanLaws.{scan-stop, scan-end, glue-one, char-room}
-use Rattle.parser.specs.Ascii.{space-char}
-use Rattle.parser.proofs.AsciiLaws.{space-no-word, scan-turn}
+use Rattle.parser.proofs.ScanLaws.{scan-more, scan-stop, scan-end, glue-one, char-room}
 use Rattle.parser.proofs.scan.scan_word.Statement.{statement}
 use Rattle.parser.proofs.scan.scan_word.Tie as tie
 
@@ -27,32 +25,51 @@ Inv-loop text from first at₀ chars₀ weight₀ at chars weight =
 abbrev μ-loop : tie.MeasureT-loop
 μ-loop text from first at₀ chars₀ weight₀ at chars weight = length text - at
 
+loop-holds : tie.Need-loop-holds Inv-loop μ-loop
+loop-holds c = (refl, search needs, search needs, search needs)
+
 pass-letters-requires : tie.Need-pass-letters-requires Inv-loop μ-loop
 pass-letters-requires c κs = search needs
 
-add-chars : tie.Need-add-chars Inv-loop μ-loop
-add-chars c = let p = c .before .pass-letters .ensures in omega (arith, p .forward, p .inside)
+-- In a turn, behind the letters that it passes: the text, where they end, how many characters there were, and what they weigh.
+abbrev Behind : Type 0
+Behind = tie.After-struct-known Inv-loop μ-loop
 
-loop-holds : tie.Need-loop-holds Inv-loop μ-loop
-loop-holds c =
-    let p = c .before .pass-letters .ensures in
-    (sym (p .scans 1 _), p .inside, omega (arith, p .forward), omega (arith, p .forward))
+abbrev T : Behind → List ℕ
+T c = c .before .before .before .before .args .text .now
 
-space-at-requires : tie.Need-space-at-requires Inv-loop μ-loop
-space-at-requires c κs = search needs
+abbrev E : Behind → ℕ
+E c = c .before .pass-letters .result .end
+
+abbrev M : Behind → ℕ
+M c = c .before .before .loop .chars + c .before .pass-letters .result .chars
+
+abbrev W : Behind → ℕ
+W c = c .before .before .loop .weight
+
+-- What is left of the scan there gives the whole, and the bounds of the numbers.
+left : (c : Behind)
+    → let a = c .before .before .before .before .args in scanFrom inWord glueOf (E c) (M c) (W c) (charsFrom (T c) (E c)) ≡ scanFrom inWord glueOf (a .from) 1 (a .first) (charsFrom (T c) (a .from))
+left c = sym (c .before .pass-letters .ensures .scans (c .before .before .loop .chars) (W c)) ∙ c .before .before .loop .inv .0
+
+bounds : (c : Behind) → (c .before .before .loop .at ≤ E c) × (E c ≤ length (T c)) × (M c ≤ E c + 1) × (W c ≤ E c + 1)
+bounds c = let p = c .before .pass-letters .ensures in omega (arith, p .forward, p .inside, c .before .before .loop .inv)
+
+add-passed : tie.Need-add-passed Inv-loop μ-loop
+add-passed c = omega (arith, bounds c)
+
+ends-at-requires : tie.Need-ends-at-requires Inv-loop μ-loop
+ends-at-requires c κs = search needs
 
 ended-requires : tie.Need-ended-requires Inv-loop μ-loop
-ended-requires c κs = search needs
+ended-requires c κs = omega (arith, bounds (c .before .before))
 
--- A space ends the word.
+-- What words mostly end with.
 returns : tie.Need-returns Inv-loop μ-loop
 returns c =
-    let p = c .before .before in
-    let l = p .before .loop in
-    let t = p .before .before .before .before .before .args .text .now in
-    c .ended .ensures
-    ∙ sym (scan-stop inWord glueOf t _ _ _ _ _ (space-char t (l .at) (sym (p .space-at .ensures) ∙ c .before .if1 .taken)) space-no-word)
-    ∙ l .inv .0
+    let e = c .before .before in
+    let b = e .before in
+    c .ended .ensures ∙ sym (e .ends-at .ensures (c .before .if1 .taken) .scans (M b) (W b)) ∙ left b
 
 decode-requires : tie.Need-decode-requires Inv-loop μ-loop
 decode-requires c κs = search needs
@@ -63,15 +80,12 @@ enum-known-cp c = search needs
 in-word-requires : tie.Need-in-word-requires Inv-loop μ-loop
 in-word-requires c κs = search needs
 
--- In a turn that reads a character: the text, the position, the character, and how many bytes it has.
+-- In a turn that reads a character: the place behind the letters, the character, and how many bytes it has.
 abbrev Read : Type 0
 Read = tie.After-known-told Inv-loop μ-loop
 
-abbrev T : Read → List ℕ
-T c = c .before .before .before .before .before .before .before .before .before .before .args .text .now
-
-abbrev I : Read → ℕ
-I c = c .before .before .before .before .before .before .loop .at
+abbrev B : Read → Behind
+B c = c .before .before .before .before .before .before
 
 abbrev C : Read → ℕ
 C c = c .before .cp .given .0 .0
@@ -79,11 +93,11 @@ C c = c .before .cp .given .0 .0
 abbrev N : Read → ℕ
 N c = c .before .cp .given .0 .1 .0
 
-read : (c : Read) → decodeAt (T c) (I c) ≡ Char (C c) (N c)
+read : (c : Read) → decodeAt (T (B c)) (E (B c)) ≡ Char (C c) (N c)
 read c = sym (c .before .before .before .decode .ensures) ∙ c .before .cp .given .1
 
-room : (c : Read) → (1 ≤ N c) × (N c ≤ 4) × (I c + N c ≤ length (T c))
-room c = char-room (T c) (I c) (C c) (N c) (read c)
+room : (c : Read) → (1 ≤ N c) × (N c ≤ 4) × (E (B c) + N c ≤ length (T (B c)))
+room c = char-room (T (B c)) (E (B c)) (C c) (N c) (read c)
 
 ended-requires-2 : tie.Need-ended-requires-2 Inv-loop μ-loop
 ended-requires-2 c κs = omega (arith, room (c .before .before))
@@ -92,82 +106,75 @@ returns-2 : tie.Need-returns-2 Inv-loop μ-loop
 returns-2 c =
     let i = c .before .before in
     let r = i .before in
-    let l = r .before .before .before .before .before .before .loop in
     c .ended2 .ensures
-    ∙ sym (scan-stop inWord glueOf (T r) _ _ _ _ _ (read r) (sym (i .in-word .ensures) ∙ not-true _ (c .before .if2 .taken)))
-    ∙ l .inv .0
+    ∙ sym (scan-stop inWord glueOf (T (B r)) _ _ _ _ _ (read r) (sym (i .in-word .ensures) ∙ not-true _ (c .before .if2 .taken)))
+    ∙ left (B r)
 
 glue-of-requires : tie.Need-glue-of-requires Inv-loop μ-loop
 glue-of-requires c κs = search needs
 
+-- The same turn, once it is known how much the character weighs.
+abbrev R : tie.After-glue-of Inv-loop μ-loop → Read
+R c = c .before .before .before
+
+one : (c : tie.After-glue-of Inv-loop μ-loop) → c .glue-of .result ≤ 1
+one c = omega (arith, c .glue-of .ensures, glue-one (C (R c)))
+
 add-weight : tie.Need-add-weight Inv-loop μ-loop
-add-weight c = omega (arith, c .glue-of .ensures, glue-one (C (c .before .before .before)))
+add-weight c = omega (arith, one c)
 
-cast-pass-letters : tie.Need-cast-pass-letters Inv-loop μ-loop
-cast-pass-letters c = search needs
+add-chars : tie.Need-add-chars Inv-loop μ-loop
+add-chars c = omega (arith, bounds (B (R c)))
 
-add-pass-letters : tie.Need-add-pass-letters Inv-loop μ-loop
-add-pass-letters c = omega (arith, room (c .before .before .before))
+cast-at : tie.Need-cast-at Inv-loop μ-loop
+cast-at c = search needs
 
-pass-letters-requires-2 : tie.Need-pass-letters-requires-2 Inv-loop μ-loop
-pass-letters-requires-2 c κs = omega (arith, room (c .before .before .before))
-
--- The same turn, once the letters behind the character are passed.
-abbrev R : tie.After-struct-known2 Inv-loop μ-loop → Read
-R c = c .before .before .before .before .before
-
-add-chars-2 : tie.Need-add-chars-2 Inv-loop μ-loop
-add-chars-2 c = let p = c .before .pass-letters2 .ensures in omega (arith, p .forward, p .inside, room (R c))
-
-add-chars-3 : tie.Need-add-chars-3 Inv-loop μ-loop
-add-chars-3 c = let p = c .before .pass-letters2 .ensures in omega (arith, p .forward, p .inside, room (R c))
+add-at : tie.Need-add-at Inv-loop μ-loop
+add-at c = omega (arith, room (R c))
 
 loop-less : tie.Need-loop-less Inv-loop μ-loop
-loop-less c = let p = c .before .pass-letters2 .ensures in omega (arith, p .forward, p .inside, room (R c))
+loop-less c = omega (arith, room (R c), bounds (B (R c)))
 
 loop-again : tie.Need-loop-again Inv-loop μ-loop
 loop-again c =
-    let p = c .before .pass-letters2 .ensures in
-    let g = c .before .before in
-    let i = g .before .before in
+    let i = c .before .before in
     let r = R c in
-    let l = r .before .before .before .before .before .before .loop in
+    let b = B r in
+    let k = bounds b in
     let h = room r in (
-      sym (scan-turn (T r) (l .at) (l .chars) (l .weight) (C r) (N r) (g .glue-of .result) _ _ (read r)
-          (sym (i .in-word .ensures) ∙ not-false _ (g .before .if2 .left)) (g .glue-of .ensures) p)
-          ∙ l .inv .0,
-      p .inside,
-      omega (arith, p .forward),
-      omega (arith, p .forward, g .glue-of .ensures, glue-one (C r)),
+      ap (λ (w : ℕ). scanFrom inWord glueOf (E b + N r) (M b + 1) (W b + w) (charsFrom (T b) (E b + N r))) (c .glue-of .ensures)
+          ∙ sym (scan-more inWord glueOf (T b) _ _ _ _ _ (read r) (sym (i .in-word .ensures) ∙ not-false _ (c .before .if2 .left)))
+          ∙ left b,
+      omega arith,
+      omega arith,
+      omega (arith, one c),
     )
 
 enum-told : tie.Need-enum-told Inv-loop μ-loop
 enum-told c = search needs
 
 ended-requires-3 : tie.Need-ended-requires-3 Inv-loop μ-loop
-ended-requires-3 c κs = search needs
+ended-requires-3 c κs = omega (arith, bounds (c .before .before .before .before .before))
 
 returns-3 : tie.Need-returns-3 Inv-loop μ-loop
 returns-3 c =
     let d = c .before .before .before in
-    let l = d .before .before .before .loop in
     c .ended3 .ensures
     ∙ sym (scan-end inWord glueOf _ _ _ _ (ap isChar (sym (d .decode .ensures) ∙ c .before .enum-told .given .1)))
-    ∙ l .inv .0
+    ∙ left (d .before .before .before)
 
 enum-told-2 : tie.Need-enum-told-2 Inv-loop μ-loop
 enum-told-2 c = search needs
 
 ended-requires-4 : tie.Need-ended-requires-4 Inv-loop μ-loop
-ended-requires-4 c κs = search needs
+ended-requires-4 c κs = omega (arith, bounds (c .before .before .before .before .before))
 
 returns-4 : tie.Need-returns-4 Inv-loop μ-loop
 returns-4 c =
     let d = c .before .before .before in
-    let l = d .before .before .before .loop in
     c .ended4 .ensures
     ∙ sym (scan-end inWord glueOf _ _ _ _ (ap isChar (sym (d .decode .ensures) ∙ c .before .enum-told2 .given .1)))
-    ∙ l .inv .0
+    ∙ left (d .before .before .before)
 
 pub scan-word-spec : {M : Type 1} → statement M
 scan-word-spec =
@@ -175,10 +182,10 @@ scan-word-spec =
     (tie.spec
     Inv-loop
     μ-loop
-    pass-letters-requires
-    add-chars
     loop-holds
-    space-at-requires
+    pass-letters-requires
+    add-passed
+    ends-at-requires
     ended-requires
     returns
     decode-requires
@@ -188,11 +195,9 @@ scan-word-spec =
     returns-2
     glue-of-requires
     add-weight
-    cast-pass-letters
-    add-pass-letters
-    pass-letters-requires-2
-    add-chars-2
-    add-chars-3
+    add-chars
+    cast-at
+    add-at
     loop-less
     loop-again
     enum-told

@@ -1,0 +1,80 @@
+-- `unicode::long::long_len` meets its contract.
+-- Assumes nothing.
+use mathlib.Core.Path.{_≡_, sym, _∙_}
+use native.Mathlib.Omega.{arith}
+use borrow.Author.Needs.{needs}
+use Rattle.basis.specs.Order.{within-true}
+use Rattle.unicode.specs.Long.{long-two, long-three}
+use Rattle.unicode.proofs.long.long_len.Statement.{statement}
+use Rattle.unicode.proofs.long.long_len.Tie as tie
+
+returns : tie.Need-returns
+returns c = λ h. absurd (omega arith)
+
+shared-slice-read-a : tie.Need-shared-slice-read-a
+shared-slice-read-a c = search needs
+
+returns-2 : tie.Need-returns-2
+returns-2 c = λ h. absurd (omega arith)
+
+sub-left : tie.Need-sub-left
+sub-left c = search needs
+
+returns-3 : tie.Need-returns-3
+returns-3 c = λ h. absurd (omega arith)
+
+add-b : tie.Need-add-b
+add-b c = search needs
+
+shared-slice-read-b : tie.Need-shared-slice-read-b
+shared-slice-read-b c = search needs
+
+is-cont-requires : tie.Need-is-cont-requires
+is-cont-requires c κs = search needs
+
+-- Two bytes.
+returns-4 : tie.Need-returns-4
+returns-4 c = λ _. long-two _ _ (omega arith) (omega arith) (omega arith) (within-true 0x80 0xBF _ (sym (c .before .is-cont .ensures) ∙ c .if5 .taken))
+
+returns-5 : tie.Need-returns-5
+returns-5 c = λ h. absurd (omega arith)
+
+returns-6 : tie.Need-returns-6
+returns-6 c = λ h. absurd (omega arith)
+
+add-is-triple : tie.Need-add-is-triple
+add-is-triple c = search needs
+
+shared-slice-read-is-triple : tie.Need-shared-slice-read-is-triple
+shared-slice-read-is-triple c = search needs
+
+is-triple-requires : tie.Need-is-triple-requires
+is-triple-requires c κs = search needs
+
+-- Three bytes.
+returns-7 : tie.Need-returns-7
+returns-7 c = λ _. long-three _ _ (omega arith) (c .before .is-triple .ensures (c .if7 .taken))
+
+returns-8 : tie.Need-returns-8
+returns-8 c = λ h. absurd (omega arith)
+
+pub long-len-spec : {M : Type 1} → statement M
+long-len-spec =
+    tie.close
+    (tie.spec
+    returns
+    shared-slice-read-a
+    returns-2
+    sub-left
+    returns-3
+    add-b
+    shared-slice-read-b
+    is-cont-requires
+    returns-4
+    returns-5
+    returns-6
+    add-is-triple
+    shared-slice-read-is-triple
+    is-triple-requires
+    returns-7
+    returns-8)

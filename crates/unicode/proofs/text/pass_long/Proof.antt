@@ -1,0 +1,46 @@
+-- `unicode::text::pass_long` meets its contract.
+-- Assumes nothing.
+use Prim.Native.Nat.{_+_, _-_, _≤_}
+use native.Mathlib.Omega.{arith}
+use lib.ListN.{length}
+use borrow.Author.Needs.{needs}
+use Rattle.unicode.specs.Ascii.{Passed, pass-none, pass-char}
+use Rattle.unicode.specs.Long.{Long}
+use Rattle.unicode.specs.Walk.{decode-at-within}
+use Rattle.unicode.proofs.text.pass_long.Statement.{statement}
+use Rattle.unicode.proofs.text.pass_long.Tie as tie
+
+abbrev Inv-loop : tie.InvT-loop
+Inv-loop text from at₀ at = Passed text from at × (at ≤ length text)
+
+abbrev μ-loop : tie.MeasureT-loop
+μ-loop text from at₀ at = length text - at
+
+loop-holds : tie.Need-loop-holds Inv-loop μ-loop
+loop-holds c = (pass-none _ _ (omega arith), omega arith)
+
+long-len-requires : tie.Need-long-len-requires Inv-loop μ-loop
+long-len-requires c κs = search needs
+
+returns : tie.Need-returns Inv-loop μ-loop
+returns c = c .before .before .loop .inv .0
+
+-- The letter that was told, and that its bytes lie in the text.
+told : (c : tie.Else1 Inv-loop μ-loop) → Long (c .before .before .before .before .args .text .now) (c .before .before .loop .at) (c .before .long-len .result)
+told c = c .before .long-len .ensures (omega arith)
+
+room : (c : tie.Else1 Inv-loop μ-loop)
+    → (1 ≤ c .before .long-len .result) × (c .before .before .loop .at + c .before .long-len .result ≤ length (c .before .before .before .before .args .text .now))
+room c = let w = told c in decode-at-within _ _ (w .char) _ (w .is)
+
+add-at : tie.Need-add-at Inv-loop μ-loop
+add-at c = omega (arith, room c)
+
+loop-less : tie.Need-loop-less Inv-loop μ-loop
+loop-less c = omega (arith, room c)
+
+loop-again : tie.Need-loop-again Inv-loop μ-loop
+loop-again c = let w = told c in let r = room c in (pass-char _ _ _ (w .char) _ (w .is) (r .1) (c .before .before .loop .inv .0), r .1)
+
+pub pass-long-spec : {M : Type 1} → statement M
+pass-long-spec = tie.close (tie.spec Inv-loop μ-loop loop-holds long-len-requires returns add-at loop-less loop-again)

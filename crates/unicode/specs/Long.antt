@@ -1,0 +1,135 @@
+-- Letters of two and three bytes that their bytes tell: what they are made of is a character, and none that does something else in a
+-- text than a letter does (Tables 3-6 and 3-7, PropList.txt).
+-- Assumes nothing.
+use mathlib.Core.Path.{_≡_, ap, _∙_}
+use mathlib.Core.Logic.{inl, inr}
+use mathlib.Core.Bool.{true, false, _||_}
+use mathlib.Core.List.{List, [], _∷_}
+use Prim.Native.Nat.{ℕ, _+_, _≤_, _<_}
+use native.Mathlib.Omega.{arith}
+use native.Mathlib.Numerals.{add-one}
+use borrow.Author.Tests.{le-ltb, lt-ltb, ltb-true}
+use lib.Dec.{ltb}
+use lib.ListN.{length, getD, take, drop}
+use lib.Seq.{drop-cons}
+use Rattle.basis.specs.Choice.{pick, by-either}
+use Rattle.basis.specs.Order.{by-lt}
+use Rattle.unicode.specs.Scalar.{Scalar}
+use Rattle.unicode.specs.Decoding.{seqLen, value, value2, value3, decodeHead, decodeAt}
+use Rattle.unicode.specs.WhiteSpace.{isWhite}
+use Rattle.unicode.specs.Members.{above-all, between-spaces, between-breaks, below-ideographs}
+use Rattle.unicode.specs.Rows.{Cont, Two, Three, two-is, three-is}
+use Rattle.unicode.specs.RoundTrip.{char-is}
+use Rattle.unicode.specs.declared.sequence.Decoded.the-variants.{Char}
+
+-- A number from U+00C0 on that is neither white space nor the zero width space.
+pub record Black (c : ℕ) : Type 0 where
+  pub high : 0xC0 ≤ c
+  pub shown : c ≡ 0x200B → ⊥
+  pub solid : isWhite c ≡ false
+
+-- Three bytes that are such a letter, and such a letter of so many bytes at a position.
+pub record Triple (a b c : ℕ) : Type 0 where
+  pub three : Three a b c
+  pub black : Black (value3 a b c)
+
+pub record Long (t : List ℕ) (i n : ℕ) : Type 0 where
+  pub char : ℕ
+  pub is : decodeAt t i ≡ Char char n
+  pub black : Black char
+
+-- ---- stretches of numbers without white space
+
+module _ (c : ℕ) where
+  black-low : 0xC0 ≤ c → c < 0x1680 → Black c
+  black-low h l = record { high = h; shown = λ e. omega arith; solid = between-spaces c (omega arith) l }
+
+  black-mark : 0x200B < c → c < 0x2028 → Black c
+  black-mark h l = record { high = omega arith; shown = λ e. omega arith; solid = between-breaks c (omega arith) l }
+
+  black-sign : 0x205F < c → c < 0x3000 → Black c
+  black-sign h l = record { high = omega arith; shown = λ e. omega arith; solid = below-ideographs c h l }
+
+  black-high : 0x3000 < c → Black c
+  black-high h = record { high = omega arith; shown = λ e. omega arith; solid = above-all c h }
+
+-- ---- three bytes
+
+module _ (b c : ℕ) (t : Cont c) where
+  pub mark-triple : b ≡ 0x80 → 0x90 ≤ c → c ≤ 0xA7 → Triple 0xE2 b c
+  mark-triple e lo hi = record {
+    three = record { lead = omega arith; second = omega arith; third = t; long = omega arith; scalar = inl (omega arith) };
+    black = black-mark (value3 0xE2 b c) (omega arith) (omega arith);
+  }
+
+  pub sign-triple : 0x82 ≤ b → b ≤ 0xBF → Triple 0xE2 b c
+  sign-triple lo hi = record {
+    three = record { lead = omega arith; second = omega arith; third = t; long = omega arith; scalar = inl (omega arith) };
+    black = black-sign (value3 0xE2 b c) (omega arith) (omega arith);
+  }
+
+module _ (a b c : ℕ) (s : Cont b) (t : Cont c) where
+  high-triple : 0xE3 ≤ a → a ≤ 0xEF → 0x3000 < value3 a b c → Scalar (value3 a b c) → Triple a b c
+  high-triple lo hi h v = record {
+    three = record { lead = omega arith; second = s; third = t; long = omega arith; scalar = v };
+    black = black-high (value3 a b c) h;
+  }
+
+  -- The first lead, without U+3000; that of the surrogates, without them; and all others.
+  pub first-triple : a ≡ 0xE3 → ltb 0x80 b || ltb 0x80 c ≡ true → Triple a b c
+  first-triple e o =
+      by-either (ltb 0x80 b) (ltb 0x80 c) o
+      (λ p. let h = ltb-true 0x80 b p in high-triple (omega arith) (omega arith) (omega arith) (inl (omega arith)))
+      (λ p. let h = ltb-true 0x80 c p in high-triple (omega arith) (omega arith) (omega arith) (inl (omega arith)))
+
+  pub hangul-triple : a ≡ 0xED → b < 0xA0 → Triple a b c
+  hangul-triple e h = high-triple (omega arith) (omega arith) (omega arith) (inl (omega arith))
+
+  pub other-triple : (a ≡ 0xED → ⊥) → 0xE3 < a → a < 0xF0 → Triple a b c
+  other-triple n lo hi =
+      by-lt a 0xED
+      (λ h. high-triple (omega arith) (omega arith) (omega arith) (inl (omega arith)))
+      (λ h. let g : 0xED < a = omega (arith, n) in high-triple (omega arith) (omega arith) (omega arith) (inr (omega arith)))
+
+-- ---- at a position
+
+module _ (t : List ℕ) (i : ℕ) where
+  two-bytes : i + 2 ≤ length t → drop i t ≡ getD t i 0 ∷ getD t (i + 1) 0 ∷ drop (i + 2) t
+  two-bytes h =
+      let e : i + 1 + 1 ≡ i + 2 = omega arith in
+      drop-cons t i 0 (omega arith)
+      ∙ rw (← (add-one i)) (ap (λ (l : List ℕ). getD t i 0 ∷ l) (drop-cons t (i + 1) 0 (omega arith) ∙ rw (← (add-one (i + 1)), e)))
+
+  three-bytes : i + 3 ≤ length t → drop i t ≡ getD t i 0 ∷ getD t (i + 1) 0 ∷ getD t (i + 2) 0 ∷ drop (i + 3) t
+  three-bytes h =
+      let f : i + 2 + 1 ≡ i + 3 = omega arith in
+      two-bytes (omega arith)
+      ∙ ap (λ (l : List ℕ). getD t i 0 ∷ getD t (i + 1) 0 ∷ l) (drop-cons t (i + 2) 0 (omega arith) ∙ rw (← (add-one (i + 2)), f))
+
+  pub long-two : i + 2 ≤ length t → 0xC3 ≤ getD t i 0 → getD t i 0 < 0xE0 → Cont (getD t (i + 1) 0) → Long t i 2
+  unfolding decodeAt decodeHead seqLen pick value
+  long-two h lo hi s =
+      let a = getD t i 0 in
+      let b = getD t (i + 1) 0 in
+      record {
+        char = value2 a b;
+        is =
+            rw (two-bytes h, le-ltb a 0x80 (omega arith), le-ltb a 0xC0 (omega arith), lt-ltb a 0xE0 hi)
+            (char-is (a ∷ b ∷ []) (two-is a b (record { lead = omega arith; second = s })));
+        black = black-low (value2 a b) (omega arith) (omega arith);
+      }
+
+  pub long-three : i + 3 ≤ length t → Triple (getD t i 0) (getD t (i + 1) 0) (getD t (i + 2) 0) → Long t i 3
+  unfolding decodeAt decodeHead seqLen pick value
+  long-three h x =
+      let a = getD t i 0 in
+      let b = getD t (i + 1) 0 in
+      let c = getD t (i + 2) 0 in
+      let l = x .three .lead in
+      record {
+        char = value3 a b c;
+        is =
+            rw (three-bytes h, le-ltb a 0x80 (omega arith), le-ltb a 0xC0 (omega arith), le-ltb a 0xE0 (omega arith), lt-ltb a 0xF0 (omega arith))
+            (char-is (a ∷ b ∷ c ∷ []) (three-is a b c (x .three)));
+        black = x .black;
+      }

@@ -1,0 +1,84 @@
+// Letters of two and three bytes that are told without putting their numbers together. Not every letter of so many bytes is told.
+ghost use mathlib.Core.Path.{_≡_};
+ghost use mathlib.Core.Bool.{true};
+ghost use Prim.Native.Nat.{_<_};
+ghost use Rattle.unicode.specs.Long.{Triple, Long};
+use crate::sequence::is_cont;
+
+// Behind the lead E2: U+2010 to U+2027, which are dashes, quotes and dots, and from U+2080 on signs of all kinds.
+fn is_sign(b: u8, c: u8) -> bool
+    ensures { λ r. ⌜ (r ≡ true → Triple 0xE2 b c) ⌝ }
+{
+    if !is_cont(c) {
+        return false;
+    }
+    if b == 0x80 {
+        if c < 0x90 {
+            return false;
+        }
+        if 0xA7 < c {
+            return false;
+        }
+        return true;
+    }
+    (0x82 <= b) & (b <= 0xBF)
+}
+
+// Behind a lead from E3 on: all above U+3000 but the surrogates.
+fn is_high(a: u8, b: u8, c: u8) -> bool
+    ensures { λ r. ⌜ (r ≡ true → Triple a b c) ⌝ }
+{
+    if !is_cont(b) {
+        return false;
+    }
+    if !is_cont(c) {
+        return false;
+    }
+    if a == 0xE3 {
+        return (0x80 < b) | (0x80 < c);
+    }
+    if a == 0xED {
+        return b < 0xA0;
+    }
+    (0xE3 < a) & (a < 0xF0)
+}
+
+fn is_triple(a: u8, b: u8, c: u8) -> bool
+    ensures { λ r. ⌜ (r ≡ true → Triple a b c) ⌝ }
+{
+    if a == 0xE2 {
+        return is_sign(b, c);
+    }
+    is_high(a, b, c)
+}
+
+// How many bytes the letter has that stands at a position, where it is told so. 0: it is not told.
+pub fn long_len(text: &[u8], at: usize) -> usize
+    ensures { λ r. ⌜ (0 < r → Long (now (text .entry)) at r) ⌝ }
+{
+    if text.len() <= at {
+        return 0;
+    }
+    let a = text[at];
+    if a < 0xC3 {
+        return 0;
+    }
+    let left = text.len() - at;
+    if left < 2 {
+        return 0;
+    }
+    let b = text[at + 1];
+    if a < 0xE0 {
+        if is_cont(b) {
+            return 2;
+        }
+        return 0;
+    }
+    if left < 3 {
+        return 0;
+    }
+    if is_triple(a, b, text[at + 2]) {
+        return 3;
+    }
+    0
+}
