@@ -1,4 +1,4 @@
--- The word that stands at a position, from its second character on: it ends where it ended.
+-- The word that stands at a position, from a later character on: it ends where it ended.
 -- Assumes nothing.
 use mathlib.Core.Path.{_≡_, refl, sym, ap, _∙_}
 use mathlib.Core.Bool.{true, false}
@@ -19,7 +19,7 @@ use Rattle.laws.specs.Runs.{run-more, after-more, run-none}
 use Rattle.laws.specs.TokenLaws.{tokens-step}
 use Rattle.parser.specs.Lexing.{charsFrom, lexemeAt, lexedAt}
 use Rattle.parser.specs.Scanning.{glueOf}
-use Rattle.parser.specs.Shorter.{shorter}
+use Rattle.parser.specs.Shorter.{shorter, less}
 use Rattle.parser.specs.declared.lexeme.Lexeme.{Lexeme}
 use Rattle.parser.specs.declared.lexeme.Lexed.the-variants.{Token}
 use Rattle.parser.proofs.ScanLaws.{chars-more}
@@ -38,11 +38,10 @@ starts-word zwsp c cs e = cc
 starts-word blank c cs e = cc
 
 -- What is left of the word x at a position, after a character that glues so much.
-pub record Shortened (t : List ℕ) (at : ℕ) (x : Lexeme) (g : ℕ) : Type 0 where
-  pub some : 1 ≤ x .chars .0
-  pub glued : g ≤ x .glues .0
-  pub stands : lexedAt at (tokens (charsFrom t at)) ≡ Token (shorter x g)
-  pub kind : shorter x g .kind ≡ Word
+record Shortened (t : List ℕ) (at : ℕ) (x : Lexeme) (g : ℕ) : Type 0 where
+  some : 1 ≤ x .chars .0
+  glued : g ≤ x .glues .0
+  stands : lexedAt at (tokens (charsFrom t at)) ≡ Token (shorter x g)
 
 module _ (at c : ℕ) (ws : List ℕ) (e : ℕ) where
   shorter-is : lexemeAt (at + bytes c) (word ws e) ≡ shorter (lexemeAt at (word (c ∷ ws) e)) (glueOf c)
@@ -97,7 +96,7 @@ word-on at c (d ∷ ds) x k is h =
     (λ e. absurd (ends-alone at c (d ∷ ds) x k is (run-none inWord d ds e) h))
 
 -- A word that stands at a position and does not end with the character there.
-pub word-shorter : (t : List ℕ) (at : ℕ) (x : Lexeme) (c n : ℕ) → lexedAt at (tokens (charsFrom t at)) ≡ Token x → x .kind ≡ Word
+word-shorter : (t : List ℕ) (at : ℕ) (x : Lexeme) (c n : ℕ) → lexedAt at (tokens (charsFrom t at)) ≡ Token x → x .kind ≡ Word
     → decodeAt t at ≡ Char c n → at + n < x .end .0 → Shortened t (at + n) x (glueOf c)
 unfolding lexedAt lexemeAt shorter
 word-shorter t at x c n s w d h =
@@ -106,4 +105,41 @@ word-shorter t at x c n s w d h =
     let is : lexemeAt at (first (classOf c) c cs) ≡ x = cc (rw (chars-more t at c n d, tokens-step c cs) at s) in
     let k = starts-word (classOf c) c cs (ap (λ (y : Lexeme). y .kind) is ∙ w) in
     let l = ends-later at c cs x k is (rw b at h) in
-    record { some = omega (arith, l .0); glued = omega (arith, l .1); stands = rw (← b) at (word-on at c cs x k is (rw b at h)); kind = w }
+    record { some = omega (arith, l .0); glued = omega (arith, l .1); stands = rw (← b) at (word-on at c cs x k is (rw b at h)) }
+
+-- ---- many characters
+
+-- What is left of the word x at a position, after so many characters, of which so many glue.
+pub record Less (t : List ℕ) (at : ℕ) (x : Lexeme) (n g : ℕ) : Type 0 where
+  pub some : n ≤ x .chars .0
+  pub glued : g ≤ x .glues .0
+  pub stands : lexedAt at (tokens (charsFrom t at)) ≡ Token (less x n g)
+
+less-none : (x : Lexeme) → x ≡ less x 0 0
+unfolding less
+less-none x =
+    let p : x .chars .0 ≡ x .chars .0 - 0 = omega arith in
+    let q : x .glues .0 ≡ x .glues .0 - 0 = omega arith in
+    λ i. record { kind = x .kind; end = x .end; chars = record { 0 = p i }; count = x .count; glues = record { 0 = q i }; reach = x .reach }
+
+less-one : (x : Lexeme) (n g h : ℕ) → shorter (less x n g) h ≡ less x (n + 1) (g + h)
+unfolding less shorter
+less-one x n g h =
+    let p : x .chars .0 - n - 1 ≡ x .chars .0 - (n + 1) = omega arith in
+    let q : x .glues .0 - g - h ≡ x .glues .0 - (g + h) = omega arith in
+    λ i. record { kind = x .kind; end = x .end; chars = record { 0 = p i }; count = x .count; glues = record { 0 = q i }; reach = x .reach }
+
+pub less-starts : (t : List ℕ) (at : ℕ) (x : Lexeme) → lexedAt at (tokens (charsFrom t at)) ≡ Token x → Less t at x 0 0
+less-starts t at x s = record { some = omega arith; glued = omega arith; stands = s ∙ ap Token (less-none x) }
+
+-- One more, where the word does not end with it.
+pub less-more : (t : List ℕ) (at : ℕ) (x : Lexeme) (n g c k m : ℕ) → x .kind ≡ Word → Less t at x n g → decodeAt t at ≡ Char c k → m ≡ g + glueOf c
+    → at + k < x .end .0 → Less t (at + k) x (n + 1) m
+unfolding less
+less-more t at x n g c k m w l d q e =
+    let s = word-shorter t at (less x n g) c k (l .stands) w d e in
+    record {
+      some = omega (arith, l .some, s .some);
+      glued = omega (arith, l .glued, s .glued);
+      stands = s .stands ∙ ap Token (less-one x n g (glueOf c)) ∙ ap (λ (h : ℕ). Token (less x (n + 1) h)) (sym q);
+    }

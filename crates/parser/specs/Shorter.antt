@@ -1,4 +1,4 @@
--- A word without its first character.
+-- A word without its first character, and without its first characters.
 -- Assumes nothing.
 use Prim.Native.Nat.{ℕ, _-_}
 use Rattle.parser.specs.declared.lexeme.Lexeme.{Lexeme}
@@ -10,6 +10,18 @@ shorter x g =
       kind = x .kind;
       end = x .end;
       chars = record { 0 = x .chars .0 - 1 };
+      count = x .count;
+      glues = record { 0 = x .glues .0 - g };
+      reach = x .reach;
+    }
+
+-- So many characters, of which so many glue.
+unfoldable pub less : Lexeme → (chars glues : ℕ) → Lexeme
+less x n g =
+    record {
+      kind = x .kind;
+      end = x .end;
+      chars = record { 0 = x .chars .0 - n };
       count = x .count;
       glues = record { 0 = x .glues .0 - g };
       reach = x .reach;

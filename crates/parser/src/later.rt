@@ -5,8 +5,9 @@ ghost use lib.ListN.{length};
 ghost use Rattle.meaning.specs.Tokens.{tokens};
 ghost use Rattle.meaning.specs.declared.tokens.TokenKind.the-variants.{Word};
 ghost use Rattle.parser.specs.Lexing.{charsFrom, lexedAt};
-ghost use Rattle.parser.specs.Shorter.{shorter};
+ghost use Rattle.parser.specs.Shorter.{less};
 ghost use Rattle.parser.specs.declared.lexeme.Lexed.the-variants.{Token};
+use crate::ascii::letter_len;
 use crate::characters::glue_of;
 use crate::lexeme::Lexed;
 use crate::lexeme::Lexeme;
@@ -15,21 +16,23 @@ use meaning::counts::Chars;
 use unicode::sequence::Decoded;
 use unicode::sequence::decode;
 
-// A word without its first character, of which so many glue.
-fn without_first(x: Lexeme, glue: u32) -> Lexeme
-    requires { ⌜ (1 ≤ x .chars .0) × (glue ≤ x .glues .0) ⌝ }
-    ensures { λ r. ⌜ r ≡ shorter x glue ⌝ }
+// A word without so many of its first characters, of which so many glue.
+fn without(x: Lexeme, chars: u32, glues: u32) -> Lexeme
+    requires { ⌜ (chars ≤ x .chars .0) × (glues ≤ x .glues .0) ⌝ }
+    ensures { λ r. ⌜ r ≡ less x chars glues ⌝ }
 {
     let kind = x.kind;
     let end = x.end;
     let count = x.count;
     let reach = x.reach;
+    let left = x.chars.0 - chars;
+    let gluing = x.glues.0 - glues;
     Lexeme {
         kind,
         end,
-        chars: Chars(x.chars.0 - 1),
+        chars: Chars(left),
         count,
-        glues: Chars(x.glues.0 - glue),
+        glues: Chars(gluing),
         reach,
     }
 }
@@ -39,21 +42,28 @@ pub fn token_after(text: &[u8], from: usize, x: Lexeme, at: usize) -> Lexed
     requires { ⌜ (length (now text) ≤ 65535) × (lexedAt from (tokens (charsFrom (now text) from)) ≡ Token x) × (x .kind ≡ Word) ⌝ }
     ensures { λ r. ⌜ r ≡ lexedAt at (tokens (charsFrom (now (text .entry)) at)) ⌝ }
 {
+    if x.end.0 as usize <= at {
+        return token_at(text, at);
+    }
     let mut pos = from;
-    let mut left = x;
+    let mut chars: u32 = 0;
+    let mut glues: u32 = 0;
     while pos < at {
+        let letter = letter_len(text, pos);
+        if 0 < letter {
+            pos += letter;
+            chars += 1;
+            continue;
+        }
         let Decoded::Char { cp, len } = decode(text, pos) else {
             return token_at(text, at);
         };
-        let next = pos + len as usize;
-        if left.end.0 as usize <= next {
-            return token_at(text, at);
-        }
-        left = without_first(left, glue_of(cp));
-        pos = next;
+        glues += glue_of(cp);
+        chars += 1;
+        pos += len as usize;
     }
     if pos == at {
-        return Lexed::Token(left);
+        return Lexed::Token(without(x, chars, glues));
     }
     token_at(text, at)
 }
