@@ -87,36 +87,42 @@ letter-plain t at e = let h = plain-char t at e in record { char = getD t at 0; 
 pub letter-long : (t : List ℕ) (at n : ℕ) → Long t at n → Letter t at n
 letter-long t at n x = record { char = x .char; is = x .is; glue = black-glue (x .char) (x .black) }
 
+pub spelled-plain : (t : List ℕ) (i j : ℕ) → Lettered t i j → Spelled t i j (j - i)
+spelled-plain t i j l = record { forward = omega (arith, l .forward); inside = l .inside; scans = l .scans }
+
 module _ (t : List ℕ) (from : ℕ) where
-  pub spelled-none : (k : ℕ) → k ≡ 0 → from ≤ length t → Spelled t from from k
-  spelled-none k e h = record {
+  pub spelled-none : from ≤ length t → Spelled t from from 0
+  spelled-none h = record {
     forward = omega arith;
     inside = h;
-    scans = λ n w. let z : n ≡ n + k = omega arith in ap (λ (m : ℕ). scanFrom inWord glueOf from m w (charsFrom t from)) z;
+    scans = λ n w. let z : n ≡ n + 0 = omega arith in ap (λ (m : ℕ). scanFrom inWord glueOf from m w (charsFrom t from)) z;
   }
 
-  -- One more.
-  spelled-char : (i k m c n : ℕ) → decodeAt t i ≡ Char c n → inWord c ≡ true → glueOf c ≡ 0 → m ≡ k + 1 → Spelled t from i k → Spelled t from (i + n) m
-  spelled-char i k m c n e g z q l =
-      let r = decode-at-within t i c n e in
+  -- One longer one more.
+  pub spelled-long : (i k n : ℕ) → Long t i n → Spelled t from i k → Spelled t from (i + n) (k + 1)
+  spelled-long i k n y l =
+      let c = y .char in
+      let r = decode-at-within t i c n (y .is) in
       record {
         forward = omega (arith, l .forward);
         inside = r .1;
         scans = λ x w.
-            let p : x + k + 1 ≡ x + m = omega arith in
-            let v : w + glueOf c ≡ w = omega arith in
-            l .scans x w ∙ scan-more inWord glueOf t i (x + k) w c n e g
+            let p : x + k + 1 ≡ x + (k + 1) = omega arith in
+            let v : w + glueOf c ≡ w = omega (arith, black-glue c (y .black)) in
+            l .scans x w ∙ scan-more inWord glueOf t i (x + k) w c n (y .is) (black-word c (y .black))
             ∙ (λ j. scanFrom inWord glueOf (i + n) (p j) (v j) (charsFrom t (i + n)));
       }
 
-  pub spelled-plain : (i k m : ℕ) → plainAt t i ≡ true → m ≡ k + 1 → Spelled t from i k → Spelled t from (i + 1) m
-  spelled-plain i k m e q l =
-      let h = plain-char t i e in
-      let b = getD t i 0 in
-      spelled-char i k m b 1 (h .1) (plain-word b (h .0)) (plain-glue b (h .0)) q l
-
-  pub spelled-long : (i k m n : ℕ) → Long t i n → m ≡ k + 1 → Spelled t from i k → Spelled t from (i + n) m
-  spelled-long i k m n x q l = spelled-char i k m (x .char) n (x .is) (black-word (x .char) (x .black)) (black-glue (x .char) (x .black)) q l
+  -- What is passed behind others.
+  pub spelled-on : (i j k m : ℕ) → Spelled t from i k → Spelled t i j m → Spelled t from j (k + m)
+  spelled-on i j k m s l =
+      record {
+        forward = omega (arith, s .forward, l .forward);
+        inside = l .inside;
+        scans = λ n w.
+            let p : n + k + m ≡ n + (k + m) = omega arith in
+            s .scans n w ∙ l .scans (n + k) w ∙ ap (λ (x : ℕ). scanFrom inWord glueOf j x w (charsFrom t j)) p;
+      }
 
 -- ---- what ends a word
 

@@ -5,6 +5,7 @@ ghost use Prim.Native.Nat.{_≤_, _<_};
 ghost use lib.ListN.{length};
 ghost use Rattle.parser.specs.Ascii.{plain, plainAt, spaceAt, Ends, Lettered, Spelled, Letter};
 use unicode::long::long_len;
+use unicode::long::wide_at;
 
 // 21 to 7F are of words, and none of them glues.
 pub fn is_plain(b: u8) -> bool
@@ -65,25 +66,42 @@ pub struct Letters {
     pub chars: u32,
 }
 
-// Letters of one byte, and longer ones that are told, are passed. Of a longer one all bytes but the first are counted apart.
-pub fn pass_letters(text: &[u8], from: usize) -> Letters
+// Letters of three bytes that the fewest tests tell are passed.
+fn pass_wide(text: &[u8], from: usize) -> Letters
     requires { ⌜ (length (now text) ≤ 65535) × (from ≤ length (now text)) ⌝ }
     ensures { λ r. ⌜ Spelled (now (text .entry)) from (r .end) (r .chars) ⌝ }
 {
     let mut end = from;
-    let mut extra: usize = 0;
+    let mut chars: u32 = 0;
+    while wide_at(text, end) {
+        end += 3;
+        chars += 1;
+    }
+    Letters { end, chars }
+}
+
+// Letters of one byte are passed, and then one of two bytes, or of three and what follows it, and so on.
+pub fn pass_letters(text: &[u8], from: usize) -> Letters
+    requires { ⌜ (length (now text) ≤ 65535) × (from ≤ length (now text)) ⌝ }
+    ensures { λ r. ⌜ Spelled (now (text .entry)) from (r .end) (r .chars) ⌝ }
+{
+    let mut at = from;
+    let mut passed: u32 = 0;
     loop {
-        if plain_at(text, end) {
-            end += 1;
-            continue;
-        }
+        let end = pass_plain(text, at);
+        let chars = passed + (end - at) as u32;
         let len = long_len(text, end);
         if len == 0 {
-            let chars = (end - from - extra) as u32;
             return Letters { end, chars };
         }
-        end += len;
-        extra += len - 1;
+        if len == 2 {
+            at = end + 2;
+            passed = chars + 1;
+            continue;
+        }
+        let wide = pass_wide(text, end + len);
+        at = wide.end;
+        passed = chars + 1 + wide.chars;
     }
 }
 
@@ -94,5 +112,8 @@ pub fn letter_len(text: &[u8], at: usize) -> usize
     if plain_at(text, at) {
         return 1;
     }
-    long_len(text, at)
+    if wide_at(text, at) {
+        return 3;
+    }
+    0
 }

@@ -3,16 +3,16 @@
 -- Assumes nothing.
 use mathlib.Core.Path.{_≡_, ap, _∙_}
 use mathlib.Core.Logic.{inl, inr}
-use mathlib.Core.Bool.{true, false, _||_}
+use mathlib.Core.Bool.{Bool, true, false, _&&_, _||_}
 use mathlib.Core.List.{List, [], _∷_}
 use Prim.Native.Nat.{ℕ, _+_, _≤_, _<_}
 use native.Mathlib.Omega.{arith}
 use native.Mathlib.Numerals.{add-one}
-use borrow.Author.Tests.{le-ltb, lt-ltb, ltb-true}
-use lib.Dec.{ltb}
+use borrow.Author.Tests.{le-ltb, lt-ltb, ltb-true, leb-true}
+use lib.Dec.{leb, ltb}
 use lib.ListN.{length, getD, take, drop}
 use lib.Seq.{drop-cons}
-use Rattle.basis.specs.Choice.{pick, by-either}
+use Rattle.basis.specs.Choice.{pick, and-true, by-either}
 use Rattle.basis.specs.Order.{by-lt}
 use Rattle.unicode.specs.Scalar.{Scalar}
 use Rattle.unicode.specs.Decoding.{seqLen, value, value2, value3, decodeHead, decodeAt}
@@ -90,6 +90,28 @@ module _ (a b c : ℕ) (s : Cont b) (t : Cont c) where
       by-lt a 0xED
       (λ h. high-triple (omega arith) (omega arith) (omega arith) (inl (omega arith)))
       (λ h. let g : 0xED < a = omega (arith, n) in high-triple (omega arith) (omega arith) (omega arith) (inr (omega arith)))
+
+-- The fewest tests: a lead from E3 to EC and a second byte from 81 on.
+abbrev pub wide : ℕ → ℕ → ℕ → Bool
+wide a b c = leb 0xE3 a && leb a 0xEC && leb 0x81 b && leb b 0xBF && leb 0x80 c && leb c 0xBF
+
+module _ (a b c : ℕ) (e : wide a b c ≡ true) where
+  wide-range : (0xE3 ≤ a) × (a ≤ 0xEC) × (0x81 ≤ b) × (b ≤ 0xBF) × (0x80 ≤ c) × (c ≤ 0xBF)
+  wide-range =
+      let p = leb 0xE3 a in
+      let q = leb a 0xEC in
+      let r = leb 0x81 b in
+      let s = leb b 0xBF in
+      let u = leb 0x80 c in
+      let five = and-true (p && q && r && s && u) (leb c 0xBF) e in
+      let four = and-true (p && q && r && s) u (five .0) in
+      let three = and-true (p && q && r) s (four .0) in
+      let two = and-true (p && q) r (three .0) in
+      let one = and-true p q (two .0) in
+      (leb-true 0xE3 a (one .0), leb-true a 0xEC (one .1), leb-true 0x81 b (two .1), leb-true b 0xBF (three .1), leb-true 0x80 c (four .1), leb-true c 0xBF (five .1))
+
+  pub wide-triple : Triple a b c
+  wide-triple = let r = wide-range in high-triple a b c (omega arith) (omega arith) (omega arith) (omega arith) (omega arith) (inl (omega arith))
 
 -- ---- at a position
 

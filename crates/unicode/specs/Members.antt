@@ -1,14 +1,16 @@
 -- The test of membership says what it should.
 -- Assumes nothing.
-use mathlib.Core.Path.{_≡_, refl, sym, _∙_}
+use mathlib.Core.Path.{_≡_, refl, sym, subst, _∙_}
 use mathlib.Core.Logic.{_↔_}
 use mathlib.Core.Bool.{Bool, true, false, _&&_, _||_, false≢true}
 use mathlib.Core.List.{List, [], _∷_, List·Memᴰ, List·Memᴰ·head, List·Memᴰ·tail}
-use Prim.Native.Nat.{ℕ, _+_, _<_}
+use Prim.Native.Nat.{ℕ, _+_, _-_, _≤_, _<_}
 use native.Mathlib.Omega.{arith}
 use lib.Dec.{eqb, leb}
 use borrow.Author.Tests.{eq-eqb, ne-eqb, eqb-true, leb-true}
 use Rattle.basis.specs.Choice.{by-either, either-first, either-second, and-true}
+use Rattle.basis.specs.Order.{by-lt, by-eq}
+use Rattle.basis.specs.Tables.{agree-below}
 use Rattle.unicode.specs.WhiteSpace.{whiteSpaces, member, isWhite}
 
 member-true : (c : ℕ) (l : List ℕ) → member c l ≡ true → List·Memᴰ c l
@@ -59,3 +61,21 @@ between-breaks c a b = in-gap 0x200A 0x2028 c whiteSpaces refl a b
 pub below-ideographs : (c : ℕ) → 0x205F < c → c < 0x3000 → isWhite c ≡ false
 unfolding isWhite whiteSpaces gap
 below-ideographs c a b = in-gap 0x205F 0x3000 c whiteSpaces refl a b
+
+-- ---- by tests of the number
+
+pub middle-white : (c : ℕ) → 0x00A0 < c → c < 0x2000 → isWhite c ≡ eqb c 0x1680
+unfolding isWhite whiteSpaces gap member
+middle-white c a b =
+    by-eq c 0x1680 (λ e. rw e refl)
+    (λ n. by-lt c 0x1680 (between-spaces c a) (λ h. in-gap 0x1680 0x2000 c whiteSpaces refl (omega (arith, n)) b) ∙ sym (ne-eqb c 0x1680 n))
+
+abbrev pub general : ℕ → Bool
+general c = leb c 0x200A || eqb c 0x2028 || eqb c 0x2029 || eqb c 0x202F || eqb c 0x205F || eqb c 0x3000
+
+pub general-white : (c : ℕ) → 0x2000 ≤ c → c ≤ 0x3000 → isWhite c ≡ general c
+unfolding isWhite whiteSpaces member
+general-white c a b =
+    let e : 0x2000 + (c - 0x2000) ≡ c = omega arith in
+    subst (λ (x : ℕ). isWhite x ≡ general x) e
+    (agree-below (λ (k : ℕ). isWhite (0x2000 + k)) (λ (k : ℕ). general (0x2000 + k)) 0x1001 tt (c - 0x2000) (omega arith))

@@ -2,8 +2,28 @@
 ghost use mathlib.Core.Path.{_≡_};
 ghost use mathlib.Core.Bool.{true};
 ghost use Prim.Native.Nat.{_<_};
-ghost use Rattle.unicode.specs.Long.{Triple, Long};
+ghost use Rattle.unicode.specs.Long.{wide, Triple, Long};
 use crate::sequence::is_cont;
+
+// What most of what is written in Chinese and Japanese is made of, in the fewest tests.
+fn is_wide(a: u8, b: u8, c: u8) -> bool
+    ensures { λ r. ⌜ r ≡ wide a b c ⌝ }
+{
+    (0xE3 <= a) & (a <= 0xEC) & (0x81 <= b) & (b <= 0xBF) & (0x80 <= c) & (c <= 0xBF)
+}
+
+// Do such bytes stand at a position.
+pub fn wide_at(text: &[u8], at: usize) -> bool
+    ensures { λ r. ⌜ (r ≡ true → Long (now (text .entry)) at 3) ⌝ }
+{
+    if text.len() < 3 {
+        return false;
+    }
+    if text.len() - 3 < at {
+        return false;
+    }
+    is_wide(text[at], text[at + 1], text[at + 2])
+}
 
 // Behind the lead E2: U+2010 to U+2027, which are dashes, quotes and dots, and from U+2080 on signs of all kinds.
 fn is_sign(b: u8, c: u8) -> bool
@@ -52,7 +72,7 @@ fn is_triple(a: u8, b: u8, c: u8) -> bool
     is_high(a, b, c)
 }
 
-// How many bytes the letter has that stands at a position, where it is told so. 0: it is not told.
+// How many bytes the letter has that stands at a position, these and others, where it is told so. 0: it is not told.
 pub fn long_len(text: &[u8], at: usize) -> usize
     ensures { λ r. ⌜ (0 < r → Long (now (text .entry)) at r) ⌝ }
 {

@@ -6,6 +6,7 @@ ghost use Rattle.unicode.specs.Decoding.{validPrefix};
 ghost use Rattle.unicode.specs.Places.{boundaryAt, countChars};
 ghost use Rattle.unicode.specs.Ascii.{Passed};
 use crate::long::long_len;
+use crate::long::wide_at;
 use crate::sequence::Decoded;
 use crate::sequence::decode;
 use crate::sequence::is_cont;
@@ -42,7 +43,19 @@ fn pass_ascii(text: &[u8], from: usize) -> usize
     at
 }
 
-// Letters of two and three bytes that are told by their bytes alone are passed.
+// Letters of three bytes that the fewest tests tell are passed.
+fn pass_wide(text: &[u8], from: usize) -> usize
+    requires { ⌜ from ≤ length (now text) ⌝ }
+    ensures { λ r. ⌜ Passed (now (text .entry)) from r ⌝ }
+{
+    let mut at = from;
+    while wide_at(text, at) {
+        at += 3;
+    }
+    at
+}
+
+// All letters of two and three bytes that are told by their bytes alone are passed.
 fn pass_long(text: &[u8], from: usize) -> usize
     requires { ⌜ from ≤ length (now text) ⌝ }
     ensures { λ r. ⌜ Passed (now (text .entry)) from r ⌝ }
@@ -53,7 +66,7 @@ fn pass_long(text: &[u8], from: usize) -> usize
         if len == 0 {
             return at;
         }
-        at += len;
+        at = pass_wide(text, at + len);
     }
 }
 

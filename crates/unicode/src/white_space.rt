@@ -1,5 +1,6 @@
 // The property White_Space of the Unicode Standard (PropList.txt).
 ghost use mathlib.Core.Path.{_≡_};
+ghost use Prim.Native.Nat.{_≤_};
 ghost use Rattle.unicode.specs.WhiteSpace.{isWhite};
 
 const WHITE: [u32; 25] = [
@@ -44,18 +45,26 @@ fn is_listed(c: u32) -> bool
     false
 }
 
-// Is a code point white space. The two great gaps of the table need no walk.
+// The same from U+2000 to U+3000, by a few tests.
+fn is_general(c: u32) -> bool
+    requires { ⌜ (0x2000 ≤ c) × (c ≤ 0x3000) ⌝ }
+    ensures { λ r. ⌜ r ≡ isWhite c ⌝ }
+{
+    (c <= 0x200A) | (c == 0x2028) | (c == 0x2029) | (c == 0x202F) | (c == 0x205F) | (c == 0x3000)
+}
+
+// Is a code point white space. The table is walked only below U+00A1.
 pub fn is_white_space(c: u32) -> bool
     ensures { λ r. ⌜ r ≡ isWhite c ⌝ }
 {
     if 0x3000 < c {
         return false;
     }
-    if c <= 0x00A0 {
-        return is_listed(c);
+    if 0x2000 <= c {
+        return is_general(c);
     }
-    if c < 0x1680 {
-        return false;
+    if 0x00A0 < c {
+        return c == 0x1680;
     }
     is_listed(c)
 }

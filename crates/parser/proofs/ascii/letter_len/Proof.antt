@@ -1,6 +1,7 @@
 -- `parser::ascii::letter_len` meets its contract.
 -- Assumes nothing.
 use mathlib.Core.Path.{_≡_, sym, _∙_}
+use native.Mathlib.Omega.{arith}
 use borrow.Author.Needs.{needs}
 use Rattle.parser.proofs.AsciiLaws.{letter-plain, letter-long}
 use Rattle.parser.proofs.ascii.letter_len.Statement.{statement}
@@ -12,11 +13,14 @@ plain-at-requires c κs = search needs
 returns : tie.Need-returns
 returns c = λ _. letter-plain _ _ (sym (c .before .plain-at .ensures) ∙ c .if1 .taken)
 
-long-len-requires : tie.Need-long-len-requires
-long-len-requires c κs = search needs
+wide-at-requires : tie.Need-wide-at-requires
+wide-at-requires c κs = search needs
 
 returns-2 : tie.Need-returns-2
-returns-2 c = λ h. letter-long _ _ _ (c .long-len .ensures h)
+returns-2 c = λ _. letter-long _ _ _ (c .before .wide-at .ensures (c .if2 .taken))
+
+returns-3 : tie.Need-returns-3
+returns-3 c = λ h. absurd (omega arith)
 
 pub letter-len-spec : {M : Type 1} → statement M
-letter-len-spec = tie.close (tie.spec plain-at-requires returns long-len-requires returns-2)
+letter-len-spec = tie.close (tie.spec plain-at-requires returns wide-at-requires returns-2 returns-3)

@@ -1,85 +1,119 @@
 -- `parser::ascii::pass_letters` meets its contract.
 -- Assumes nothing.
-use mathlib.Core.Path.{_≡_, sym, _∙_}
-use mathlib.Core.Bool.{true}
-use Prim.Native.Nat.{_+_, _-_, _≤_}
+use mathlib.Core.Path.{subst}
+use mathlib.Core.List.{List}
+use Prim.Native.Nat.{ℕ, _+_, _-_, _≤_}
 use native.Mathlib.Omega.{arith}
 use lib.ListN.{length}
 use borrow.Author.Needs.{needs}
 use Rattle.unicode.specs.Walk.{decode-at-within}
 use Rattle.unicode.specs.Long.{Long}
-use Rattle.parser.specs.Ascii.{plainAt, Spelled, plain-inside}
-use Rattle.parser.proofs.AsciiLaws.{spelled-none, spelled-plain, spelled-long}
+use Rattle.parser.specs.Ascii.{Spelled}
+use Rattle.parser.proofs.AsciiLaws.{spelled-plain, spelled-none, spelled-long, spelled-on}
 use Rattle.parser.proofs.ascii.pass_letters.Statement.{statement}
 use Rattle.parser.proofs.ascii.pass_letters.Tie as tie
 
 abbrev Inv-loop : tie.InvT-loop
-Inv-loop text from end₀ extra₀ end extra = Spelled text from end (end - from - extra) × (end ≤ length text) × (from + extra ≤ end)
+Inv-loop text from at₀ passed₀ at passed = Spelled text from at passed × (at ≤ length text)
 
 abbrev μ-loop : tie.MeasureT-loop
-μ-loop text from end₀ extra₀ end extra = length text - end
+μ-loop text from at₀ passed₀ at passed = length text - at
 
 loop-holds : tie.Need-loop-holds Inv-loop μ-loop
-loop-holds c = (spelled-none _ _ _ (omega arith) (omega arith), omega arith, omega arith)
+loop-holds c = (spelled-none _ _ (omega arith), omega arith)
 
-plain-at-requires : tie.Need-plain-at-requires Inv-loop μ-loop
-plain-at-requires c κs = search needs
+pass-plain-requires : tie.Need-pass-plain-requires Inv-loop μ-loop
+pass-plain-requires c κs = search needs
 
--- A plain byte that was told.
-plain : (c : tie.Then1 Inv-loop μ-loop) → plainAt (c .before .before .before .before .args .text .now) (c .before .before .loop .end) ≡ true
-plain c = sym (c .before .plain-at .ensures) ∙ c .if1 .taken
+-- In a turn, behind the letters of one byte: the text, where they end, and how many letters there were.
+abbrev Behind : Type 0
+Behind = tie.After-pass-plain Inv-loop μ-loop
 
-add-end : tie.Need-add-end Inv-loop μ-loop
-add-end c = omega (arith, plain-inside _ _ (plain c))
+abbrev T : Behind → List ℕ
+T c = c .before .before .before .args .text .now
 
-loop-less : tie.Need-loop-less Inv-loop μ-loop
-loop-less c = omega (arith, plain-inside _ _ (plain c))
+abbrev F : Behind → ℕ
+F c = c .before .before .before .args .from
 
-loop-again : tie.Need-loop-again Inv-loop μ-loop
-loop-again c =
-    let i = c .before .before .loop .inv in
-    (spelled-plain _ _ _ _ _ (plain c) (omega arith) (i .0), omega (arith, plain-inside _ _ (plain c)), omega arith)
+abbrev E : Behind → ℕ
+E c = c .pass-plain .result
+
+abbrev M : Behind → ℕ
+M c = c .before .loop .passed + (E c - c .before .loop .at)
+
+spelled : (c : Behind) → Spelled (T c) (F c) (E c) (M c)
+spelled c = spelled-on _ _ _ _ _ _ (c .before .loop .inv .0) (spelled-plain _ _ _ (c .pass-plain .ensures))
+
+-- No number grows past the text.
+small : (c : Behind) → (c .before .loop .at ≤ E c) × (E c ≤ length (T c)) × (M c ≤ E c) × (length (T c) ≤ 65535)
+small c = let s = spelled c in omega (arith, s .forward, s .inside, c .pass-plain .ensures .forward, c .before .before .before .pre .0)
+
+sub-chars : tie.Need-sub-chars Inv-loop μ-loop
+sub-chars c = omega (arith, small c)
+
+cast-chars : tie.Need-cast-chars Inv-loop μ-loop
+cast-chars c = omega (arith, small c)
+
+add-chars : tie.Need-add-chars Inv-loop μ-loop
+add-chars c = omega (arith, small c)
 
 long-len-requires : tie.Need-long-len-requires Inv-loop μ-loop
 long-len-requires c κs = search needs
 
-sub-chars : tie.Need-sub-chars Inv-loop μ-loop
-sub-chars c = search needs
-
-sub-chars-2 : tie.Need-sub-chars-2 Inv-loop μ-loop
-sub-chars-2 c = search needs
-
-cast-chars : tie.Need-cast-chars Inv-loop μ-loop
-cast-chars c = search needs
-
 returns : tie.Need-returns Inv-loop μ-loop
-returns c = c .before .before .before .before .loop .inv .0
+returns c = spelled (c .before .before)
 
 -- A longer letter that was told, and that its bytes lie in the text.
-told : (c : tie.Else2 Inv-loop μ-loop) → let l = c .before .before .before .before in Long (l .before .before .args .text .now) (l .loop .end) (c .before .long-len .result)
+told : (c : tie.Else1 Inv-loop μ-loop) → let b = c .before .before in Long (T b) (E b) (c .before .long-len .result)
 told c = c .before .long-len .ensures (omega arith)
 
-room : (c : tie.Else2 Inv-loop μ-loop)
-    → let l = c .before .before .before .before in (1 ≤ c .before .long-len .result) × (l .loop .end + c .before .long-len .result ≤ length (l .before .before .args .text .now))
-room c = let w = told c in decode-at-within _ _ (w .char) _ (w .is)
+room : (c : tie.Else1 Inv-loop μ-loop) → let b = c .before .before in (1 ≤ c .before .long-len .result) × (E b + c .before .long-len .result ≤ length (T b))
+room c = let x = told c in decode-at-within _ _ (x .char) _ (x .is)
 
-add-end-2 : tie.Need-add-end-2 Inv-loop μ-loop
-add-end-2 c = omega (arith, room c)
+longer : (c : tie.Else1 Inv-loop μ-loop) → let b = c .before .before in Spelled (T b) (F b) (E b + c .before .long-len .result) (M b + 1)
+longer c = spelled-long _ _ _ _ _ (told c) (spelled (c .before .before))
 
-sub-extra : tie.Need-sub-extra Inv-loop μ-loop
-sub-extra c = omega (arith, room c)
+add-at : tie.Need-add-at Inv-loop μ-loop
+add-at c = omega (arith, room (c .before), small (c .before .before .before))
 
-add-extra : tie.Need-add-extra Inv-loop μ-loop
-add-extra c = omega (arith, room c)
+add-passed : tie.Need-add-passed Inv-loop μ-loop
+add-passed c = omega (arith, small (c .before .before .before))
+
+loop-less : tie.Need-loop-less Inv-loop μ-loop
+loop-less c = omega (arith, room (c .before), small (c .before .before .before))
+
+-- Two bytes.
+loop-again : tie.Need-loop-again Inv-loop μ-loop
+loop-again c =
+    let b = c .before .before .before in
+    let s = subst (λ (n : ℕ). Spelled (T b) (F b) (E b + n) (M b + 1)) (c .if2 .taken) (longer (c .before)) in
+    (s, s .inside)
+
+add-pass-wide : tie.Need-add-pass-wide Inv-loop μ-loop
+add-pass-wide c = omega (arith, room (c .before), small (c .before .before .before))
+
+pass-wide-requires : tie.Need-pass-wide-requires Inv-loop μ-loop
+pass-wide-requires c κs = (small (c .before .before .before) .3, room (c .before) .1)
+
+-- Three bytes, and what is passed behind them.
+further : (c : tie.After-pass-wide Inv-loop μ-loop)
+    → let e = c .before .before in let b = e .before .before in Spelled (T b) (F b) (c .pass-wide .result .end) (M b + 1 + c .pass-wide .result .chars)
+further c = spelled-on _ _ _ _ _ _ (longer (c .before .before)) (c .pass-wide .ensures)
+
+add-passed-2 : tie.Need-add-passed-2 Inv-loop μ-loop
+add-passed-2 c = omega (arith, small (c .before .before .before .before))
+
+add-passed-3 : tie.Need-add-passed-3 Inv-loop μ-loop
+add-passed-3 c = let s = further (c .before) in omega (arith, s .forward, s .inside, small (c .before .before .before .before .before))
 
 loop-less-2 : tie.Need-loop-less-2 Inv-loop μ-loop
-loop-less-2 c = omega (arith, room c)
+loop-less-2 c =
+    let e = c .before .before .before in
+    let p = c .before .pass-wide .ensures in
+    omega (arith, room e, small (e .before .before), p .forward, p .inside)
 
 loop-again-2 : tie.Need-loop-again-2 Inv-loop μ-loop
-loop-again-2 c =
-    let i = c .before .before .before .before .loop .inv in
-    let r = room c in
-    (spelled-long _ _ _ _ _ _ (told c) (omega arith) (i .0), r .1, omega arith)
+loop-again-2 c = let s = further (c .before) in (s, s .inside)
 
 pub pass-letters-spec : {M : Type 1} → statement M
 pass-letters-spec =
@@ -88,17 +122,19 @@ pass-letters-spec =
     Inv-loop
     μ-loop
     loop-holds
-    plain-at-requires
-    add-end
+    pass-plain-requires
+    sub-chars
+    cast-chars
+    add-chars
+    long-len-requires
+    returns
+    add-at
+    add-passed
     loop-less
     loop-again
-    long-len-requires
-    sub-chars
-    sub-chars-2
-    cast-chars
-    returns
-    add-end-2
-    sub-extra
-    add-extra
+    add-pass-wide
+    pass-wide-requires
+    add-passed-2
+    add-passed-3
     loop-less-2
     loop-again-2)

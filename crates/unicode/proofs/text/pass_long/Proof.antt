@@ -4,7 +4,7 @@ use Prim.Native.Nat.{_+_, _-_, _≤_}
 use native.Mathlib.Omega.{arith}
 use lib.ListN.{length}
 use borrow.Author.Needs.{needs}
-use Rattle.unicode.specs.Ascii.{Passed, pass-none, pass-char}
+use Rattle.unicode.specs.Ascii.{Passed, pass-none, pass-char, pass-on}
 use Rattle.unicode.specs.Long.{Long}
 use Rattle.unicode.specs.Walk.{decode-at-within}
 use Rattle.unicode.proofs.text.pass_long.Statement.{statement}
@@ -33,14 +33,22 @@ room : (c : tie.Else1 Inv-loop μ-loop)
     → (1 ≤ c .before .long-len .result) × (c .before .before .loop .at + c .before .long-len .result ≤ length (c .before .before .before .before .args .text .now))
 room c = let w = told c in decode-at-within _ _ (w .char) _ (w .is)
 
-add-at : tie.Need-add-at Inv-loop μ-loop
-add-at c = omega (arith, room c)
+add-pass-wide : tie.Need-add-pass-wide Inv-loop μ-loop
+add-pass-wide c = omega (arith, room c)
+
+pass-wide-requires : tie.Need-pass-wide-requires Inv-loop μ-loop
+pass-wide-requires c κs = room c .1
 
 loop-less : tie.Need-loop-less Inv-loop μ-loop
-loop-less c = omega (arith, room c)
+loop-less c = let p = c .pass-wide .ensures in omega (arith, room (c .before), p .forward, p .inside)
 
 loop-again : tie.Need-loop-again Inv-loop μ-loop
-loop-again c = let w = told c in let r = room c in (pass-char _ _ _ (w .char) _ (w .is) (r .1) (c .before .before .loop .inv .0), r .1)
+loop-again c =
+    let e = c .before in
+    let w = told e in
+    let p = pass-on _ _ _ _ (pass-char _ _ _ (w .char) _ (w .is) (room e .1) (e .before .before .loop .inv .0)) (c .pass-wide .ensures) in
+    (p, p .inside)
 
 pub pass-long-spec : {M : Type 1} → statement M
-pass-long-spec = tie.close (tie.spec Inv-loop μ-loop loop-holds long-len-requires returns add-at loop-less loop-again)
+pass-long-spec =
+    tie.close (tie.spec Inv-loop μ-loop loop-holds long-len-requires returns add-pass-wide pass-wide-requires loop-less loop-again)
