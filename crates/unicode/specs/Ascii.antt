@@ -1,6 +1,6 @@
 -- Text that is passed without decoding: bytes below 80, each a character by itself (Table 3-6), and other characters that are told.
 -- Assumes nothing.
-use mathlib.Core.Path.{_≡_, subst}
+use mathlib.Core.Path.{_≡_}
 use mathlib.Core.Bool.{Bool, true, _&&_}
 use mathlib.Core.List.{List, [], _∷_}
 use Prim.Native.Nat.{ℕ, suc, _+_, _-_, _≤_, _<_}
@@ -41,23 +41,11 @@ module _ (t : List ℕ) (from : ℕ) where
         prefix = omega (arith, p .forward, p .prefix, prefix-at-more t i (getD t i 0) 1 (decode-ascii t i h l));
       }
 
-  -- Four bytes more.
-  pub pass-four : (i : ℕ) → i + 4 ≤ length t
-      → ltb (getD t i 0) 0x80 && ltb (getD t (i + 1) 0) 0x80 && (ltb (getD t (i + 2) 0) 0x80 && ltb (getD t (i + 3) 0) 0x80) ≡ true
-      → Passed t from i → Passed t from (i + 4)
-  pass-four i h e p =
-      let low : ℕ → Bool = λ k. ltb (getD t (i + k) 0) 0x80 in
-      let all = and-true (ltb (getD t i 0) 0x80 && low 1) (low 2 && low 3) e in
-      let front = and-true (ltb (getD t i 0) 0x80) (low 1) (all .0) in
-      let back = and-true (low 2) (low 3) (all .1) in
-      let one = pass-one i (omega arith) (ltb-true (getD t i 0) 0x80 (front .0)) p in
-      let two = pass-one (i + 1) (omega arith) (ltb-true (getD t (i + 1) 0) 0x80 (front .1)) one in
-      let two' : i + 1 + 1 ≡ i + 2 = omega arith in
-      let three = pass-one (i + 2) (omega arith) (ltb-true (getD t (i + 2) 0) 0x80 (back .0)) (subst (Passed t from) two' two) in
-      let three' : i + 2 + 1 ≡ i + 3 = omega arith in
-      let four = pass-one (i + 3) (omega arith) (ltb-true (getD t (i + 3) 0) 0x80 (back .1)) (subst (Passed t from) three' three) in
-      let four' : i + 3 + 1 ≡ i + 4 = omega arith in
-      subst (Passed t from) four' four
+  -- One byte more of a stretch that is tested byte by byte.
+  pub pass-tested : (i : ℕ) (all : Bool) → i < length t → (all ≡ true → Passed t from i) → all && ltb (getD t i 0) 0x80 ≡ true → Passed t from (i + 1)
+  pass-tested i all h p e =
+      let both = and-true all (ltb (getD t i 0) 0x80) e in
+      pass-one i h (ltb-true (getD t i 0) 0x80 (both .1)) (p (both .0))
 
   -- One character more.
   pub pass-char : (i c n : ℕ) → decodeAt t i ≡ Char c n → i + n ≤ length t → Passed t from i → Passed t from (i + n)

@@ -1,6 +1,7 @@
 // A text of bytes: how much of it is UTF-8, where its characters begin, and how many there are.
-ghost use Prim.Native.Nat.{_≤_};
+ghost use Prim.Native.Nat.{_≤_, _<_};
 ghost use mathlib.Core.Path.{_≡_};
+ghost use mathlib.Core.Bool.{true};
 ghost use lib.ListN.{length};
 ghost use Rattle.unicode.specs.Decoding.{validPrefix};
 ghost use Rattle.unicode.specs.Places.{boundaryAt, countChars};
@@ -11,19 +12,32 @@ use crate::sequence::Decoded;
 use crate::sequence::decode;
 use crate::sequence::is_cont;
 
-// Bytes below 80, each a character by itself, are passed four at a time while four are left.
-fn pass_fours(text: &[u8], from: usize) -> usize
-    requires { ⌜ from ≤ length (now text) ⌝ }
+// Is every byte of a stretch below 80, a character by itself. All are looked at, with no branch, so that it is done many bytes at a time.
+fn all_ascii(text: &[u8], from: usize, to: usize) -> bool
+    requires { ⌜ (from ≤ to) × (to ≤ length (now text)) ⌝ }
+    ensures { λ r. ⌜ (r ≡ true → Passed (now (text .entry)) from to) ⌝ }
+{
+    let mut all = true;
+    let mut i = from;
+    while i < to {
+        all = all & (text[i] < 0x80);
+        i += 1;
+    }
+    all
+}
+
+// Blocks of so many bytes below 80 are passed, while there are any.
+fn pass_blocks(text: &[u8], from: usize, block: usize) -> usize
+    requires { ⌜ (from ≤ length (now text)) × (0 < block) ⌝ }
     ensures { λ r. ⌜ Passed (now (text .entry)) from r ⌝ }
 {
     let mut at = from;
-    while 4 <= text.len() - at {
-        let front = (text[at] < 0x80) & (text[at + 1] < 0x80);
-        let back = (text[at + 2] < 0x80) & (text[at + 3] < 0x80);
-        if !(front & back) {
+    while block <= text.len() - at {
+        let next = at + block;
+        if !all_ascii(text, at, next) {
             return at;
         }
-        at += 4;
+        at = next;
     }
     at
 }
@@ -33,7 +47,8 @@ fn pass_ascii(text: &[u8], from: usize) -> usize
     requires { ⌜ from ≤ length (now text) ⌝ }
     ensures { λ r. ⌜ Passed (now (text .entry)) from r ⌝ }
 {
-    let mut at = pass_fours(text, from);
+    let large = pass_blocks(text, from, 32);
+    let mut at = pass_blocks(text, large, 8);
     while at < text.len() {
         if 0x80 <= text[at] {
             return at;

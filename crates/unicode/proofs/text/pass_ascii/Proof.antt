@@ -4,21 +4,26 @@ use Prim.Native.Nat.{_-_, _≤_}
 use native.Mathlib.Omega.{arith}
 use lib.ListN.{length}
 use borrow.Author.Needs.{needs}
-use Rattle.unicode.specs.Ascii.{Passed, pass-one}
+use Rattle.unicode.specs.Ascii.{Passed, pass-one, pass-on}
 use Rattle.unicode.proofs.text.pass_ascii.Statement.{statement}
 use Rattle.unicode.proofs.text.pass_ascii.Tie as tie
 
 abbrev Inv-loop : tie.InvT-loop
-Inv-loop text from at₀ at = Passed text from at × (at ≤ length text)
+Inv-loop text from large at₀ at = Passed text from at × (at ≤ length text)
 
 abbrev μ-loop : tie.MeasureT-loop
-μ-loop text from at₀ at = length text - at
+μ-loop text from large at₀ at = length text - at
 
-pass-fours-requires : tie.Need-pass-fours-requires Inv-loop μ-loop
-pass-fours-requires c κs = search needs
+pass-blocks-requires : tie.Need-pass-blocks-requires Inv-loop μ-loop
+pass-blocks-requires c κs = (search needs, omega arith)
+
+pass-blocks-requires-2 : tie.Need-pass-blocks-requires-2 Inv-loop μ-loop
+pass-blocks-requires-2 c κs = (c .pass-blocks .ensures .inside, omega arith)
 
 loop-holds : tie.Need-loop-holds Inv-loop μ-loop
-loop-holds c = (c .pass-fours .ensures, c .pass-fours .ensures .inside)
+loop-holds c =
+    let small = c .pass-blocks2 .ensures in
+    (pass-on _ _ _ _ (c .before .pass-blocks .ensures) small, small .inside)
 
 shared-slice-read-if1 : tie.Need-shared-slice-read-if1 Inv-loop μ-loop
 shared-slice-read-if1 c = search needs
@@ -35,7 +40,7 @@ loop-less c = search needs
 loop-again : tie.Need-loop-again Inv-loop μ-loop
 loop-again c =
     let l = c .before .before .before in
-    let f = l .before .before .before in
+    let f = l .before .before .before .before in
     (pass-one (f .args .text .now) (f .args .from) (l .loop .at) (omega arith) (omega arith) (l .loop .inv .0), omega arith)
 
 returns-2 : tie.Need-returns-2 Inv-loop μ-loop
@@ -47,7 +52,8 @@ pass-ascii-spec =
     (tie.spec
     Inv-loop
     μ-loop
-    pass-fours-requires
+    pass-blocks-requires
+    pass-blocks-requires-2
     loop-holds
     shared-slice-read-if1
     returns

@@ -1,0 +1,58 @@
+-- `unicode::text::pass_blocks` meets its contract.
+-- Assumes nothing.
+use Prim.Native.Nat.{_-_, _≤_}
+use native.Mathlib.Omega.{arith}
+use lib.ListN.{length}
+use borrow.Author.Needs.{needs}
+use borrow.Author.Tests.{not-false}
+use Rattle.unicode.specs.Ascii.{Passed, pass-none, pass-on}
+use Rattle.unicode.proofs.text.pass_blocks.Statement.{statement}
+use Rattle.unicode.proofs.text.pass_blocks.Tie as tie
+
+abbrev Inv-loop : tie.InvT-loop
+Inv-loop text from block at₀ at = Passed text from at × (at ≤ length text)
+
+abbrev μ-loop : tie.MeasureT-loop
+μ-loop text from block at₀ at = length text - at
+
+loop-holds : tie.Need-loop-holds Inv-loop μ-loop
+loop-holds c = (pass-none _ _ (omega arith), omega arith)
+
+sub-loop : tie.Need-sub-loop Inv-loop μ-loop
+sub-loop c = search needs
+
+add-next : tie.Need-add-next Inv-loop μ-loop
+add-next c = search needs
+
+all-ascii-requires : tie.Need-all-ascii-requires Inv-loop μ-loop
+all-ascii-requires c κs = (omega arith, omega arith)
+
+returns : tie.Need-returns Inv-loop μ-loop
+returns c = c .before .before .before .loop .inv .0
+
+loop-less : tie.Need-loop-less Inv-loop μ-loop
+loop-less c = search needs
+
+loop-again : tie.Need-loop-again Inv-loop μ-loop
+loop-again c =
+    let s = c .before in
+    let l = s .before .before in
+    (pass-on _ _ _ _ (l .loop .inv .0) (s .all-ascii .ensures (not-false _ (c .if1 .left))), omega arith)
+
+returns-2 : tie.Need-returns-2 Inv-loop μ-loop
+returns-2 c = c .before .loop .inv .0
+
+pub pass-blocks-spec : {M : Type 1} → statement M
+pass-blocks-spec =
+    tie.close
+    (tie.spec
+    Inv-loop
+    μ-loop
+    loop-holds
+    sub-loop
+    add-next
+    all-ascii-requires
+    returns
+    loop-less
+    loop-again
+    returns-2)
