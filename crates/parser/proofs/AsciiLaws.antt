@@ -9,16 +9,16 @@ use borrow.Author.Tests.{lt-ltb, le-ltb, ne-eqb, eqb-true}
 use lib.Dec.{eqb}
 use lib.ListN.{length, getD}
 use Rattle.basis.specs.Choice.{pick, by-either}
-use Rattle.unicode.specs.Decoding.{decodeAt}
+use Rattle.unicode.specs.Decoding.{value2, decodeAt}
 use Rattle.unicode.specs.Ascii.{decode-ascii}
 use Rattle.unicode.specs.Walk.{decode-at-within, decode-at-end}
-use Rattle.unicode.specs.Long.{Black, Long}
+use Rattle.unicode.specs.Long.{Black, Long, decode-two}
 use Rattle.unicode.specs.declared.sequence.Decoded.the-variants.{Char}
 use Rattle.meaning.specs.Characters.{glue, inWord, inRun}
 use Rattle.parser.specs.Lexing.{charsFrom}
 use Rattle.parser.specs.Scanning.{glueOf, scanFrom}
-use Rattle.parser.specs.Ascii.{plain, plainAt, Ends, Lettered, Spelled, Letter, plain-range, plain-char}
-use Rattle.parser.proofs.CharacterLaws.{ascii-word, ascii-run, high-word, high-run}
+use Rattle.parser.specs.Ascii.{plain, plainAt, Ends, Glues, Lettered, Spelled, Letter, plain-range, plain-char}
+use Rattle.parser.proofs.CharacterLaws.{ascii-word, ascii-run, high-word, high-run, no-break}
 use Rattle.parser.proofs.ScanLaws.{scan-more, scan-stop}
 
 -- Of words, not of space runs, and gluing nothing.
@@ -141,3 +141,12 @@ module _ (t : List ℕ) (at : ℕ) where
       by-either (eqb b 0x20) (eqb b 0x0A) o
       (λ p. ends 0x20 (eqb-true b 0x20 p) (omega arith) space-no-word)
       (λ p. ends 0x0A (eqb-true b 0x0A p) (omega arith) (ascii-word 0x0A (omega arith)))
+
+-- ---- what glues
+
+pub glues-here : (t : List ℕ) (at : ℕ) → at + 2 ≤ length t → getD t at 0 ≡ 0xC2 → getD t (at + 1) 0 ≡ 0xA0 → Glues t at
+unfolding glueOf glue pick
+glues-here t at h p q =
+    let d : decodeAt t at ≡ Char 0x00A0 2 =
+    decode-two t at h (record { lead = omega arith; second = omega arith }) ∙ (λ i. Char (value2 (p i) (q i)) 2) in
+    record { inside = h; scans = λ n w. scan-more inWord glueOf t at n w 0x00A0 2 d (no-break 0x00A0 refl .0) }

@@ -41,6 +41,11 @@ pub record Spelled (t : List ℕ) (from to chars : ℕ) : Type 0 where
 pub record Ends (t : List ℕ) (at : ℕ) : Type 0 where
   pub scans : (n w : ℕ) → scanFrom inWord glueOf at n w (charsFrom t at) ≡ scannedAt at n w 1
 
+-- A word goes on over a character of two bytes that glues.
+pub record Glues (t : List ℕ) (at : ℕ) : Type 0 where
+  pub inside : at + 2 ≤ length t
+  pub scans : (n w : ℕ) → scanFrom inWord glueOf at n w (charsFrom t at) ≡ scanFrom inWord glueOf (at + 2) (n + 1) (w + 1) (charsFrom t (at + 2))
+
 -- A letter of so many bytes stands at a position.
 pub record Letter (t : List ℕ) (at n : ℕ) : Type 0 where
   pub char : ℕ

@@ -3,7 +3,7 @@ ghost use mathlib.Core.Path.{_≡_};
 ghost use mathlib.Core.Bool.{true};
 ghost use Prim.Native.Nat.{_≤_, _<_};
 ghost use lib.ListN.{length};
-ghost use Rattle.parser.specs.Ascii.{plain, plainAt, spaceAt, Ends, Lettered, Spelled, Letter};
+ghost use Rattle.parser.specs.Ascii.{plain, plainAt, spaceAt, Ends, Glues, Lettered, Spelled, Letter};
 use unicode::long::long_len;
 use unicode::long::wide_at;
 
@@ -43,6 +43,25 @@ pub fn ends_at(text: &[u8], at: usize) -> bool
     }
     let b = text[at];
     (b == 0x20) | (b == 0x0A)
+}
+
+// Does U+00A0, which glues, stand at a position.
+pub fn glue_at(text: &[u8], at: usize) -> bool
+    ensures { λ r. ⌜ (r ≡ true → Glues (now (text .entry)) at) ⌝ }
+{
+    if text.len() <= at {
+        return false;
+    }
+    if text[at] != 0xC2 {
+        return false;
+    }
+    if text.len() - at < 2 {
+        return false;
+    }
+    if text[at + 1] != 0xA0 {
+        return false;
+    }
+    true
 }
 
 // Bytes of words are passed, to the first that is none of them.

@@ -6,6 +6,7 @@ ghost use Rattle.meaning.specs.Characters.{inWord, inRun};
 ghost use Rattle.parser.specs.Lexing.{charsFrom};
 ghost use Rattle.parser.specs.Scanning.{glueOf, spaceOf, scannedAt, scanFrom};
 use crate::ascii::ends_at;
+use crate::ascii::glue_at;
 use crate::ascii::pass_letters;
 use crate::ascii::plain_at;
 use crate::characters::glue_of;
@@ -52,6 +53,12 @@ pub fn scan_word(text: &[u8], from: usize, first: u32) -> Scanned
         let passed = chars + letters.chars;
         if ends_at(text, end) {
             return ended(end, passed, weight, 1);
+        }
+        if glue_at(text, end) {
+            weight += 1;
+            chars = passed + 1;
+            at = end + 2;
+            continue;
         }
         match decode(text, end) {
             Decoded::Char { cp, len } => {

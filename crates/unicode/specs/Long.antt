@@ -128,16 +128,21 @@ module _ (t : List ℕ) (i : ℕ) where
       two-bytes (omega arith)
       ∙ ap (λ (l : List ℕ). getD t i 0 ∷ getD t (i + 1) 0 ∷ l) (drop-cons t (i + 2) 0 (omega arith) ∙ rw (← (add-one (i + 2)), f))
 
-  pub long-two : i + 2 ≤ length t → 0xC3 ≤ getD t i 0 → getD t i 0 < 0xE0 → Cont (getD t (i + 1) 0) → Long t i 2
+  pub decode-two : i + 2 ≤ length t → Two (getD t i 0) (getD t (i + 1) 0) → decodeAt t i ≡ Char (value2 (getD t i 0) (getD t (i + 1) 0)) 2
   unfolding decodeAt decodeHead seqLen pick value
+  decode-two h x =
+      let a = getD t i 0 in
+      let b = getD t (i + 1) 0 in
+      let l = x .lead in
+      rw (two-bytes h, le-ltb a 0x80 (omega arith), le-ltb a 0xC0 (omega arith), lt-ltb a 0xE0 (omega arith)) (char-is (a ∷ b ∷ []) (two-is a b x))
+
+  pub long-two : i + 2 ≤ length t → 0xC3 ≤ getD t i 0 → getD t i 0 < 0xE0 → Cont (getD t (i + 1) 0) → Long t i 2
   long-two h lo hi s =
       let a = getD t i 0 in
       let b = getD t (i + 1) 0 in
       record {
         char = value2 a b;
-        is =
-            rw (two-bytes h, le-ltb a 0x80 (omega arith), le-ltb a 0xC0 (omega arith), lt-ltb a 0xE0 hi)
-            (char-is (a ∷ b ∷ []) (two-is a b (record { lead = omega arith; second = s })));
+        is = decode-two h (record { lead = omega arith; second = s });
         black = black-low (value2 a b) (omega arith) (omega arith);
       }
 

@@ -13,6 +13,7 @@ use Rattle.unicode.specs.declared.sequence.Decoded.the-variants.{Char}
 use Rattle.meaning.specs.Characters.{inWord}
 use Rattle.parser.specs.Lexing.{charsFrom}
 use Rattle.parser.specs.Scanning.{glueOf, scanFrom}
+use Rattle.parser.specs.Ascii.{Glues}
 use Rattle.parser.proofs.ScanLaws.{scan-more, scan-stop, scan-end, glue-one, char-room}
 use Rattle.parser.proofs.scan.scan_word.Statement.{statement}
 use Rattle.parser.proofs.scan.scan_word.Tie as tie
@@ -71,6 +72,32 @@ returns c =
     let b = e .before in
     c .ended .ensures ∙ sym (e .ends-at .ensures (c .before .if1 .taken) .scans (M b) (W b)) ∙ left b
 
+glue-at-requires : tie.Need-glue-at-requires Inv-loop μ-loop
+glue-at-requires c κs = search needs
+
+-- What glues, told by its bytes.
+glues : (c : tie.Then2 Inv-loop μ-loop) → let b = c .before .before .before .before in Glues (T b) (E b)
+glues c = c .before .glue-at .ensures (c .if2 .taken)
+
+add-weight : tie.Need-add-weight Inv-loop μ-loop
+add-weight c = omega (arith, bounds (c .before .before .before .before))
+
+add-chars : tie.Need-add-chars Inv-loop μ-loop
+add-chars c = omega (arith, bounds (c .before .before .before .before))
+
+add-at : tie.Need-add-at Inv-loop μ-loop
+add-at c = omega (arith, glues c .inside)
+
+loop-less : tie.Need-loop-less Inv-loop μ-loop
+loop-less c = omega (arith, glues c .inside, bounds (c .before .before .before .before))
+
+loop-again : tie.Need-loop-again Inv-loop μ-loop
+loop-again c =
+    let b = c .before .before .before .before in
+    let g = glues c in
+    let k = bounds b in
+    (sym (g .scans (M b) (W b)) ∙ left b, g .inside, omega arith, omega arith)
+
 decode-requires : tie.Need-decode-requires Inv-loop μ-loop
 decode-requires c κs = search needs
 
@@ -85,7 +112,7 @@ abbrev Read : Type 0
 Read = tie.After-known-told Inv-loop μ-loop
 
 abbrev B : Read → Behind
-B c = c .before .before .before .before .before .before
+B c = c .before .before .before .before .before .before .before .before
 
 abbrev C : Read → ℕ
 C c = c .before .cp .given .0 .0
@@ -107,7 +134,7 @@ returns-2 c =
     let i = c .before .before in
     let r = i .before in
     c .ended2 .ensures
-    ∙ sym (scan-stop inWord glueOf (T (B r)) _ _ _ _ _ (read r) (sym (i .in-word .ensures) ∙ not-true _ (c .before .if2 .taken)))
+    ∙ sym (scan-stop inWord glueOf (T (B r)) _ _ _ _ _ (read r) (sym (i .in-word .ensures) ∙ not-true _ (c .before .if3 .taken)))
     ∙ left (B r)
 
 glue-of-requires : tie.Need-glue-of-requires Inv-loop μ-loop
@@ -120,30 +147,30 @@ R c = c .before .before .before
 one : (c : tie.After-glue-of Inv-loop μ-loop) → c .glue-of .result ≤ 1
 one c = omega (arith, c .glue-of .ensures, glue-one (C (R c)))
 
-add-weight : tie.Need-add-weight Inv-loop μ-loop
-add-weight c = omega (arith, one c)
+add-weight-2 : tie.Need-add-weight-2 Inv-loop μ-loop
+add-weight-2 c = omega (arith, one c)
 
-add-chars : tie.Need-add-chars Inv-loop μ-loop
-add-chars c = omega (arith, bounds (B (R c)))
+add-chars-2 : tie.Need-add-chars-2 Inv-loop μ-loop
+add-chars-2 c = omega (arith, bounds (B (R c)))
 
 cast-at : tie.Need-cast-at Inv-loop μ-loop
 cast-at c = search needs
 
-add-at : tie.Need-add-at Inv-loop μ-loop
-add-at c = omega (arith, room (R c))
+add-at-2 : tie.Need-add-at-2 Inv-loop μ-loop
+add-at-2 c = omega (arith, room (R c))
 
-loop-less : tie.Need-loop-less Inv-loop μ-loop
-loop-less c = omega (arith, room (R c), bounds (B (R c)))
+loop-less-2 : tie.Need-loop-less-2 Inv-loop μ-loop
+loop-less-2 c = omega (arith, room (R c), bounds (B (R c)))
 
-loop-again : tie.Need-loop-again Inv-loop μ-loop
-loop-again c =
+loop-again-2 : tie.Need-loop-again-2 Inv-loop μ-loop
+loop-again-2 c =
     let i = c .before .before in
     let r = R c in
     let b = B r in
     let k = bounds b in
     let h = room r in (
       ap (λ (w : ℕ). scanFrom inWord glueOf (E b + N r) (M b + 1) (W b + w) (charsFrom (T b) (E b + N r))) (c .glue-of .ensures)
-          ∙ sym (scan-more inWord glueOf (T b) _ _ _ _ _ (read r) (sym (i .in-word .ensures) ∙ not-false _ (c .before .if2 .left)))
+          ∙ sym (scan-more inWord glueOf (T b) _ _ _ _ _ (read r) (sym (i .in-word .ensures) ∙ not-false _ (c .before .if3 .left)))
           ∙ left b,
       omega arith,
       omega arith,
@@ -154,27 +181,27 @@ enum-told : tie.Need-enum-told Inv-loop μ-loop
 enum-told c = search needs
 
 ended-requires-3 : tie.Need-ended-requires-3 Inv-loop μ-loop
-ended-requires-3 c κs = omega (arith, bounds (c .before .before .before .before .before))
+ended-requires-3 c κs = omega (arith, bounds (c .before .before .before .before .before .before .before))
 
 returns-3 : tie.Need-returns-3 Inv-loop μ-loop
 returns-3 c =
     let d = c .before .before .before in
     c .ended3 .ensures
     ∙ sym (scan-end inWord glueOf _ _ _ _ (ap isChar (sym (d .decode .ensures) ∙ c .before .enum-told .given .1)))
-    ∙ left (d .before .before .before)
+    ∙ left (d .before .before .before .before .before)
 
 enum-told-2 : tie.Need-enum-told-2 Inv-loop μ-loop
 enum-told-2 c = search needs
 
 ended-requires-4 : tie.Need-ended-requires-4 Inv-loop μ-loop
-ended-requires-4 c κs = omega (arith, bounds (c .before .before .before .before .before))
+ended-requires-4 c κs = omega (arith, bounds (c .before .before .before .before .before .before .before))
 
 returns-4 : tie.Need-returns-4 Inv-loop μ-loop
 returns-4 c =
     let d = c .before .before .before in
     c .ended4 .ensures
     ∙ sym (scan-end inWord glueOf _ _ _ _ (ap isChar (sym (d .decode .ensures) ∙ c .before .enum-told2 .given .1)))
-    ∙ left (d .before .before .before)
+    ∙ left (d .before .before .before .before .before)
 
 pub scan-word-spec : {M : Type 1} → statement M
 scan-word-spec =
@@ -188,18 +215,24 @@ scan-word-spec =
     ends-at-requires
     ended-requires
     returns
+    glue-at-requires
+    add-weight
+    add-chars
+    add-at
+    loop-less
+    loop-again
     decode-requires
     enum-known-cp
     in-word-requires
     ended-requires-2
     returns-2
     glue-of-requires
-    add-weight
-    add-chars
+    add-weight-2
+    add-chars-2
     cast-at
-    add-at
-    loop-less
-    loop-again
+    add-at-2
+    loop-less-2
+    loop-again-2
     enum-told
     ended-requires-3
     returns-3
