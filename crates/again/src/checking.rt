@@ -3,16 +3,16 @@ use crate::meeting::less;
 use crate::rest::rest_fits;
 use checks::settings::check_settings;
 use checks::text::check_text;
+use meaning::answers::Affected;
 use meaning::counts::Offset;
 use meaning::edit::Edit;
 use meaning::line::Entry;
 use meaning::refusals::Checked;
 use meaning::refusals::Refusal;
 use meaning::settings::Settings;
-use table::affected::unaffected_lines;
 use table::affected::whole_length;
 use table::entries::read_entry;
-use table::well_formed::check_table;
+use table::well_formed::look_over;
 use table::well_formed::text_length;
 use unicode::text::is_boundary;
 ghost use mathlib.Core.Path.{_≡_};
@@ -21,8 +21,9 @@ ghost use Rattle.unicode.specs.Decoding.{decodeAll};
 ghost use Rattle.meaning.specs.Checks.{checkUtf8};
 ghost use Rattle.meaning.specs.Table.{entriesIn};
 ghost use Rattle.meaning.specs.WellFormed.{checkTable};
-ghost use Rattle.meaning.specs.Edit.{checkWhole};
+ghost use Rattle.meaning.specs.Edit.{unaffected, checkWhole};
 ghost use Rattle.meaning.specs.declared.refusals.Checked.the-variants.{Good};
+ghost use Rattle.table.specs.Looking.{lookedOver};
 ghost use Rattle.again.specs.Checking.{wholeOf, endsFit, lengthFits, checkFirst, checkLent, checkBefore};
 
 // Refusal 3 of the edited whole, where the old text has so many bytes.
@@ -42,14 +43,14 @@ fn whole_of(text: Offset, edit: Edit) -> Checked
     Checked::Good
 }
 
-// The same from the table and its check: a table that is refused says nothing of a length.
-fn check_whole(table: &[u32], lines: usize, edit: Edit, checked: Checked) -> Checked
-    requires { ⌜ checked ≡ checkTable lines (now table) ⌝ }
-    ensures { λ r. ⌜ r ≡ checkWhole checked (entriesIn lines (now (table .entry))) edit ⌝ }
+// The same from the table and the look over it: a table that is refused says nothing of a length.
+fn check_whole(table: &[u32], lines: usize, edit: Edit, looked: Affected) -> Checked
+    requires { ⌜ looked ≡ lookedOver (edit .from .0) (checkTable lines (now table)) (entriesIn lines (now table)) ⌝ }
+    ensures { λ r. ⌜ r ≡ checkWhole (checkTable lines (now (table .entry))) (entriesIn lines (now (table .entry))) edit ⌝ }
 {
-    match checked {
-        Checked::Good => whole_of(text_length(table, lines), edit),
-        Checked::Refused(_) => Checked::Good,
+    match looked {
+        Affected::Line(_) => whole_of(text_length(table, lines), edit),
+        Affected::Refused(_) => Checked::Good,
     }
 }
 
@@ -79,58 +80,57 @@ fn ends_fit(part: &[u8], edit: Edit, e: Entry) -> bool
     is_boundary(part, front as usize) & is_boundary(part, end as usize)
 }
 
-// Refusals 5 and 6 of the first affected line.
-fn check_first(part: &[u8], table: &[u32], lines: usize, edit: Edit) -> Checked
-    requires { ⌜ (checkUtf8 (now part) ≡ Good) × (checkTable lines (now table) ≡ Good) ⌝ }
-    ensures { λ r. ⌜ r ≡ checkFirst (now (part .entry)) (now (table .entry)) lines edit ⌝ }
+// Refusals 5 and 6 of the first affected line, line k, which is answered.
+fn check_first(part: &[u8], table: &[u32], lines: usize, edit: Edit, k: usize) -> Affected
+    requires { ⌜ (checkUtf8 (now part) ≡ Good) × (checkTable lines (now table) ≡ Good) × (k ≡ length (unaffected (edit .from .0) (entriesIn lines (now table)))) ⌝ }
+    ensures { λ r. ⌜ r ≡ lookedOver (edit .from .0) (checkFirst (now (part .entry)) (now (table .entry)) lines edit) (entriesIn lines (now (table .entry))) ⌝ }
 {
-    let a = edit.from;
-    let k = unaffected_lines(table, lines, a);
     if lines <= k {
-        return Checked::Refused(Refusal::BadEdit);
+        return Affected::Refused(Refusal::BadEdit);
     }
     let e = read_entry(table, k);
     if !rest_fits(part, e) {
-        return Checked::Refused(Refusal::BadLine(k as u64));
+        return Affected::Refused(Refusal::BadLine(k as u64));
     }
     if !length_fits(text_length(table, lines), edit, e, part.len()) {
-        return Checked::Refused(Refusal::BadEdit);
+        return Affected::Refused(Refusal::BadEdit);
     }
     if !ends_fit(part, edit, e) {
-        return Checked::Refused(Refusal::BadEdit);
+        return Affected::Refused(Refusal::BadEdit);
     }
-    Checked::Good
+    Affected::Line(k as u64)
 }
 
-// Refusals 3 to 6.
-fn check_lent(part: &[u8], table: &[u32], lines: usize, edit: Edit) -> Checked
-    ensures { λ r. ⌜ r ≡ checkLent (now (part .entry)) (now (table .entry)) lines edit ⌝ }
+// Refusals 3 to 6, or the first affected line.
+fn check_lent(part: &[u8], table: &[u32], lines: usize, edit: Edit) -> Affected
+    ensures { λ r. ⌜ r ≡ lookedOver (edit .from .0) (checkLent (now (part .entry)) (now (table .entry)) lines edit) (entriesIn lines (now (table .entry))) ⌝ }
 {
     if 65535 < part.len() {
-        return Checked::Refused(Refusal::TextTooLong(part.len() as u64));
+        return Affected::Refused(Refusal::TextTooLong(part.len() as u64));
     }
-    let checked = check_table(table, lines);
-    let whole = check_whole(table, lines, edit, checked);
+    let a = edit.from;
+    let looked = look_over(table, lines, a);
+    let whole = check_whole(table, lines, edit, looked);
     if let Checked::Refused(r) = whole {
-        return Checked::Refused(r);
+        return Affected::Refused(r);
     }
     let text = check_text(part);
     if let Checked::Refused(r) = text {
-        return Checked::Refused(r);
+        return Affected::Refused(r);
     }
-    if let Checked::Refused(r) = checked {
-        return Checked::Refused(r);
+    match looked {
+        Affected::Line(k) => check_first(part, table, lines, edit, k as usize),
+        Affected::Refused(r) => Affected::Refused(r),
     }
-    check_first(part, table, lines, edit)
 }
 
-// Refusals 1 to 6.
-pub fn check_before(s: Settings, part: &[u8], table: &[u32], lines: usize, edit: Edit) -> Checked
-    ensures { λ r. ⌜ r ≡ checkBefore s (now (part .entry)) (now (table .entry)) lines edit ⌝ }
+// Refusals 1 to 6, or the first affected line.
+pub fn check_before(s: Settings, part: &[u8], table: &[u32], lines: usize, edit: Edit) -> Affected
+    ensures { λ r. ⌜ r ≡ lookedOver (edit .from .0) (checkBefore s (now (part .entry)) (now (table .entry)) lines edit) (entriesIn lines (now (table .entry))) ⌝ }
 {
     let settings = check_settings(s);
     if let Checked::Refused(r) = settings {
-        return Checked::Refused(r);
+        return Affected::Refused(r);
     }
     check_lent(part, table, lines, edit)
 }

@@ -3,27 +3,35 @@ use crate::checking::check_before;
 use crate::rest::held_of;
 use crate::stop::find_stop;
 use crate::writing::write_again;
+use meaning::answers::Affected;
 use meaning::answers::Relaid;
 use meaning::edit::Edit;
-use meaning::refusals::Checked;
 use meaning::refusals::Refusal;
 use meaning::settings::Settings;
-use table::affected::unaffected_lines;
 use table::entries::read_entry;
 use table::moving::move_lines;
 ghost use mathlib.Core.Path.{_≡_};
+ghost use lib.ListN.{length};
+ghost use Rattle.meaning.specs.Table.{entriesIn};
+ghost use Rattle.meaning.specs.Edit.{unaffected};
 ghost use Rattle.meaning.specs.Calls.{relayAnswer, relayTable};
 ghost use Rattle.meaning.specs.declared.refusals.Checked.the-variants.{Good};
 ghost use Rattle.again.specs.Checking.{checkBefore};
 
-// Refusal 8; else the lines that are kept are moved to where they stand now, and the lines laid are written before them.
-fn lay_lines(s: Settings, part: &[u8], table: &mut [u32], lines: usize, edit: Edit) -> Relaid
-    requires { ⌜ checkBefore s (now part) (now table) lines edit ≡ Good ⌝ }
+// Refusal 8; else the lines that are kept are moved to where they stand now, and the lines laid, from the first affected one on, line k,
+// are written before them.
+fn lay_lines(
+    s: Settings,
+    part: &[u8],
+    table: &mut [u32],
+    lines: usize,
+    edit: Edit,
+    k: usize,
+) -> Relaid
+    requires { ⌜ (checkBefore s (now part) (now table) lines edit ≡ Good) × (k ≡ length (unaffected (edit .from .0) (entriesIn lines (now table)))) ⌝ }
     ensures { λ r. ⌜ r ≡ relayAnswer s (now (part .entry)) (now (table .entry)) lines edit ⌝ }
     ensures { λ r. ⌜ now (table .exit) ≡ relayTable s (now (part .entry)) (now (table .entry)) lines edit ⌝ }
 {
-    let a = edit.from;
-    let k = unaffected_lines(table, lines, a);
     let e = read_entry(table, k);
     let rest = held_of(part, e);
     let base = e.start;
@@ -45,9 +53,8 @@ pub fn lay_again(s: Settings, part: &[u8], table: &mut [u32], lines: usize, edit
     ensures { λ r. ⌜ r ≡ relayAnswer s (now (part .entry)) (now (table .entry)) lines edit ⌝ }
     ensures { λ r. ⌜ now (table .exit) ≡ relayTable s (now (part .entry)) (now (table .entry)) lines edit ⌝ }
 {
-    let checked = check_before(s, part, table, lines, edit);
-    if let Checked::Refused(r) = checked {
-        return Relaid::Refused(r);
+    match check_before(s, part, table, lines, edit) {
+        Affected::Line(k) => lay_lines(s, part, table, lines, edit, k as usize),
+        Affected::Refused(r) => Relaid::Refused(r),
     }
-    lay_lines(s, part, table, lines, edit)
 }

@@ -4,7 +4,6 @@ use Prim.Native.Nat.{ℕ, _+_, _-_}
 use mathlib.Core.Path.{_≡_, refl}
 use mathlib.Core.Bool.{_&&_}
 use mathlib.Core.List.{List, [], _∷_}
-use native.Mathlib.Omega.{arith}
 use lib.Dec.{leb}
 use lib.ListN.{length}
 use Rattle.basis.specs.Choice.{pick, by-test}
@@ -42,13 +41,6 @@ module _ (t : List ℕ) (lines : ℕ) (ed : Edit) where
   pub affected-bad : (r : Refusal) → checkTable lines t ≡ Refused r → checkAffected t lines ed ≡ Refused r
   unfolding checkAffected checkWhole firstOf
   affected-bad r h = rw h
-
-  pub affected-good : checkAffected t lines ed ≡ Good → checkTable lines t ≡ Good
-  affected-good h = known (checkTable lines t) refl
-    where
-      known : (c : Checked) → checkTable lines t ≡ c → checkTable lines t ≡ Good
-      known Good e = e
-      known (Refused r) e = absurd (let f = affected-bad r e in let z : _≡_ {A = ℕ} 0 1 = cc in omega arith)
 
   -- What the call answers.
   pub affected-line : checkAffected t lines ed ≡ Good

@@ -121,7 +121,7 @@ module _ (lines : ℕ) (t : List ℕ) (h : checkTable lines t ≡ Good) where
   pub table-count : lines ≤ 65536
   table-count = omega (arith, few-lines (textLength old) 0 old table-lines, table-text, entries-length lines t)
 
-pub table-some : (lines : ℕ) (t : List ℕ) → checkTable lines t ≡ Good → 1 ≤ lines
+pub reach-some : (lines : ℕ) (t : List ℕ) → 1 ≤ lastReach (entriesIn lines t) → 1 ≤ lines
 unfolding lastReach entriesIn
-table-some zero t h = omega (arith, table-reach zero t h)
-table-some (suc m) t h = omega arith
+reach-some zero t h = omega arith
+reach-some (suc m) t h = omega arith

@@ -4,6 +4,8 @@ pub mod Moving
 pub mod MovableLines
 pub mod LinesFrom
 pub mod OneLine
+pub mod Passing
+pub mod Looking
 pub mod GoodTable
 pub mod GoodSettings
 pub mod EditAlone

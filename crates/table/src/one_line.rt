@@ -51,7 +51,7 @@ fn rest_good(length: Offset, prior: LineBefore, e: Entry) -> bool
     }
 }
 
-fn ending_good(last: bool, ending: u32) -> bool
+pub fn ending_good(last: bool, ending: u32) -> bool
     ensures { λ r. ⌜ r ≡ endingAt last ending ⌝ }
 {
     if last {

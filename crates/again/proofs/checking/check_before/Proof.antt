@@ -1,8 +1,11 @@
--- `check_before` meets its contract.
+-- `again::checking::check_before` meets its contract.
 -- Assumes nothing.
-use mathlib.Core.Path.{sym, _∙_}
-use Rattle.again.specs.Checking.{settings-first, then-lent}
+use mathlib.Core.Path.{sym, ap, _∙_}
 use borrow.Author.Needs.{needs}
+use Rattle.meaning.specs.Table.{entriesIn}
+use Rattle.meaning.specs.declared.refusals.Checked.{Checked}
+use Rattle.table.specs.Looking.{lookedOver, looked-bad}
+use Rattle.again.specs.Checking.{settings-first, then-lent}
 use Rattle.again.proofs.checking.check_before.Statement.{statement}
 use Rattle.again.proofs.checking.check_before.Tie as tie
 
@@ -15,7 +18,7 @@ enum-known-settings c = search needs
 returns : tie.Need-returns
 returns c =
     let r = c .before in
-    settings-first _ _ _ _ _ _ (sym (r .before .before .check-settings .ensures) ∙ r .settings .given .1)
+    looked-bad _ _ _ _ (sym (settings-first _ _ _ _ _ _ (sym (r .before .before .check-settings .ensures) ∙ r .settings .given .1)))
 
 enum-told : tie.Need-enum-told
 enum-told c = search needs
@@ -26,7 +29,11 @@ check-lent-requires c κs = search needs
 returns-2 : tie.Need-returns-2
 returns-2 c =
     let good = c .before in
-    c .check-lent .ensures ∙ then-lent _ _ _ _ _ (sym (good .before .before .check-settings .ensures) ∙ good .enum-told .given .1)
+    let checked = good .before .before in
+    let a = checked .before .before .before .args in
+    c .check-lent .ensures
+    ∙ ap (λ (x : Checked). lookedOver (a .edit .from .0) x (entriesIn (a .lines) (a .table .now)))
+    (then-lent _ _ _ _ _ (sym (checked .check-settings .ensures) ∙ good .enum-told .given .1))
 
 pub check-before-spec : {M : Type 1} → statement M
 check-before-spec =

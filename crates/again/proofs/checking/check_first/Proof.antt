@@ -1,27 +1,23 @@
--- `check_first` meets its contract.
+-- `again::checking::check_first` meets its contract.
 -- Assumes nothing.
 use mathlib.Core.Path.{sym, _∙_}
 use native.Mathlib.Omega.{arith}
+use borrow.Author.Needs.{needs}
 use borrow.Author.Tests.{not-true, not-false}
 use Rattle.table.specs.GoodTable.{table-room}
+use Rattle.table.specs.Looking.{looked-line, looked-bad}
 use Rattle.again.specs.Checking.{no-line, bad-rest}
 use Rattle.again.proofs.CheckLaws.{edit-length, edit-ends, edit-fits}
-use borrow.Author.Needs.{needs}
 use Rattle.again.proofs.checking.check_first.Statement.{statement}
 use Rattle.again.proofs.checking.check_first.Tie as tie
 
-unaffected-lines-requires : tie.Need-unaffected-lines-requires
-unaffected-lines-requires c κs = table-room _ _ (c .before .before .before .pre .1)
-
 returns : tie.Need-returns
 returns c =
-    let k = c .before in
-    no-line _ _ _ _ (k .unaffected-lines .ensures) _ (c .if1 .taken)
+    let s = c .before .before .before in
+    looked-bad _ _ _ _ (sym (no-line _ _ _ _ (s .pre .2) _ (c .if1 .taken)))
 
 read-entry-requires : tie.Need-read-entry-requires
-read-entry-requires c κs =
-    let start = c .before .before .before .before .before in
-    omega (arith, c .if1 .left, table-room _ _ (start .pre .1))
+read-entry-requires c κs = omega (arith, c .if1 .left, table-room _ _ (c .before .before .before .pre .1))
 
 rest-fits-requires : tie.Need-rest-fits-requires
 rest-fits-requires c κs = search needs
@@ -31,12 +27,12 @@ returns-2 c =
     let fits = c .before in
     let e = fits .before in
     let some = e .before in
-    let k = some .before in
-    bad-rest _ _ _ _ (k .unaffected-lines .ensures) _ (some .if1 .left) _ (e .read-entry .ensures)
-    (sym (fits .rest-fits .ensures) ∙ not-true (fits .rest-fits .result) (c .if2 .taken))
+    let s = some .before .before .before in
+    looked-bad _ _ _ _ (sym (bad-rest _ _ _ _ (s .pre .2) _ (some .if1 .left) _ (e .read-entry .ensures)
+    (sym (fits .rest-fits .ensures) ∙ not-true (fits .rest-fits .result) (c .if2 .taken))))
 
 text-length-requires : tie.Need-text-length-requires
-text-length-requires c κs = table-room _ _ (c .before .before .before .before .before .before .before .before .pre .1)
+text-length-requires c κs = table-room _ _ (c .before .before .before .before .before .before .pre .1)
 
 length-fits-requires : tie.Need-length-fits-requires
 length-fits-requires c κs = search needs
@@ -49,10 +45,10 @@ returns-3 c =
     let fits = good .before in
     let e = fits .before in
     let some = e .before in
-    let k = some .before in
-    edit-length _ _ _ _ (k .unaffected-lines .ensures) _ (some .if1 .left) _ (e .read-entry .ensures)
+    let s = some .before .before .before in
+    looked-bad _ _ _ _ (sym (edit-length _ _ _ _ (s .pre .2) _ (some .if1 .left) _ (e .read-entry .ensures)
     (sym (fits .rest-fits .ensures) ∙ not-false (fits .rest-fits .result) (good .if2 .left)) _ (text .text-length .ensures)
-    (sym (length .length-fits .ensures) ∙ not-true (length .length-fits .result) (c .if3 .taken))
+    (sym (length .length-fits .ensures) ∙ not-true (length .length-fits .result) (c .if3 .taken))))
 
 ends-fit-requires : tie.Need-ends-fit-requires
 ends-fit-requires c κs = search needs
@@ -67,11 +63,11 @@ returns-4 c =
     let fits = good .before in
     let e = fits .before in
     let some = e .before in
-    let k = some .before in
-    edit-ends _ _ _ _ (k .unaffected-lines .ensures) _ (some .if1 .left) _ (e .read-entry .ensures)
+    let s = some .before .before .before in
+    looked-bad _ _ _ _ (sym (edit-ends _ _ _ _ (s .pre .2) _ (some .if1 .left) _ (e .read-entry .ensures)
     (sym (fits .rest-fits .ensures) ∙ not-false (fits .rest-fits .result) (good .if2 .left)) _ (text .text-length .ensures)
     (sym (length .length-fits .ensures) ∙ not-false (length .length-fits .result) (long .if3 .left))
-    (sym (ends .ends-fit .ensures) ∙ not-true (ends .ends-fit .result) (c .if4 .taken))
+    (sym (ends .ends-fit .ensures) ∙ not-true (ends .ends-fit .result) (c .if4 .taken))))
 
 returns-5 : tie.Need-returns-5
 returns-5 c =
@@ -83,17 +79,16 @@ returns-5 c =
     let fits = good .before in
     let e = fits .before in
     let some = e .before in
-    let k = some .before in
-    edit-fits _ _ _ _ (k .unaffected-lines .ensures) _ (some .if1 .left) _ (e .read-entry .ensures)
+    let s = some .before .before .before in
+    looked-line _ _ _ _ (sym (edit-fits _ _ _ _ (s .pre .2) _ (some .if1 .left) _ (e .read-entry .ensures)
     (sym (fits .rest-fits .ensures) ∙ not-false (fits .rest-fits .result) (good .if2 .left)) _ (text .text-length .ensures)
     (sym (length .length-fits .ensures) ∙ not-false (length .length-fits .result) (long .if3 .left))
-    (sym (ends .ends-fit .ensures) ∙ not-false (ends .ends-fit .result) (c .if4 .left))
+    (sym (ends .ends-fit .ensures) ∙ not-false (ends .ends-fit .result) (c .if4 .left)))) (s .pre .2)
 
 pub check-first-spec : {M : Type 1} → statement M
 check-first-spec =
     tie.close
     (tie.spec
-    unaffected-lines-requires
     returns
     read-entry-requires
     rest-fits-requires

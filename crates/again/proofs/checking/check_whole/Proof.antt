@@ -1,19 +1,24 @@
--- `check_whole` meets its contract.
+-- `again::checking::check_whole` meets its contract.
 -- Assumes nothing.
-use mathlib.Core.Path.{sym, _∙_}
-use Rattle.table.specs.GoodTable.{table-room}
-use Rattle.again.proofs.CheckLaws.{whole-none, whole-some}
+use mathlib.Core.Path.{_≡_, sym, _∙_}
 use borrow.Author.Needs.{needs}
+use Rattle.meaning.specs.WellFormed.{checkTable}
+use Rattle.meaning.specs.declared.refusals.Checked.the-variants.{Good}
+use Rattle.table.specs.GoodTable.{table-room}
+use Rattle.table.specs.Looking.{look-says}
+use Rattle.again.proofs.CheckLaws.{whole-none, whole-some}
 use Rattle.again.proofs.checking.check_whole.Statement.{statement}
 use Rattle.again.proofs.checking.check_whole.Tie as tie
 
 enum-told : tie.Need-enum-told
 enum-told c = search needs
 
+-- The table is good, since a line was found.
+good : (c : tie.After-enum-told) → let a = c .before .before .before .args in checkTable (a .lines) (a .table .now) ≡ Good
+good c = look-says _ _ _ _ (sym (c .enum-told .given .1) ∙ c .before .before .before .pre) .0
+
 text-length-requires : tie.Need-text-length-requires
-text-length-requires c κs =
-    let start = c .before .before .before in
-    table-room _ _ (sym (start .pre) ∙ c .enum-told .given .1)
+text-length-requires c κs = table-room _ _ (good c)
 
 whole-of-requires : tie.Need-whole-of-requires
 whole-of-requires c κs = search needs
@@ -24,11 +29,10 @@ enum-told-2 c = search needs
 returns : tie.Need-returns
 returns c =
     let text = c .before in
-    let good = text .before in
-    c .whole-of .ensures ∙ whole-some _ _ _ (good .enum-told .given .1) _ (text .text-length .ensures)
+    c .whole-of .ensures ∙ whole-some _ _ _ (good (text .before)) _ (text .text-length .ensures)
 
 returns-2 : tie.Need-returns-2
-returns-2 c = whole-none _ _ _ _ (c .enum-told2 .given .1)
+returns-2 c = whole-none _ _ _ _ (look-says _ _ _ _ (sym (c .enum-told2 .given .1) ∙ c .before .before .before .pre))
 
 pub check-whole-spec : {M : Type 1} → statement M
 check-whole-spec =

@@ -8,49 +8,40 @@ use borrow.Author.Needs.{needs}
 use Rattle.again.proofs.relay.lay_lines.Statement.{statement}
 use Rattle.again.proofs.relay.lay_lines.Tie as tie
 
-unaffected-lines-requires : tie.Need-unaffected-lines-requires
-unaffected-lines-requires c κs =
-    let start = c .before .before .before .before in
-    table-room _ _ (all-good _ _ _ _ _ (start .pre) .table-is)
-
 read-entry-requires : tie.Need-read-entry-requires
 read-entry-requires c κs =
-    let k = c .before in
-    let start = k .before .before .before .before .before in
-    let g = all-good _ _ _ _ _ (start .pre) in
-    omega (arith, table-room _ _ (g .table-is), is-affected _ _ _ _ _ g _ (k .unaffected-lines .ensures))
+    let start = c .before .before .before in
+    let g = all-good _ _ _ _ _ (start .pre .0) in
+    omega (arith, table-room _ _ (g .table-is), is-affected _ _ _ _ _ g _ (start .pre .1))
 
 held-of-requires : tie.Need-held-of-requires
 held-of-requires c κs =
-    let k = c .before .before in
-    let start = k .before .before .before .before .before in
-    let g = all-good _ _ _ _ _ (start .pre) in
-    let first = k .unaffected-lines .ensures in
+    let start = c .before .before .before .before in
+    let g = all-good _ _ _ _ _ (start .pre .0) in
+    let first = start .pre .1 in
     (g .utf8, rest-good _ _ _ _ _ g _ first _ (c .read-entry .ensures), short-part _ _ _ _ _ g _ first)
 
 find-stop-requires : tie.Need-find-stop-requires
 find-stop-requires c κs =
     let h = c .before .before in
     let e = h .before in
-    let k = e .before .before in
-    let start = k .before .before .before .before .before in
-    find-ready _ _ _ _ _ (all-good _ _ _ _ _ (start .pre)) _ (k .unaffected-lines .ensures) _ (e .read-entry .ensures) _ (h .held-of .ensures)
+    let start = e .before .before .before .before in
+    find-ready _ _ _ _ _ (all-good _ _ _ _ _ (start .pre .0)) _ (start .pre .1) _ (e .read-entry .ensures) _ (h .held-of .ensures)
 
 -- What is known once laying has found where it stops.
 sought : (f : tie.After-find-stop) →
     let h = f .before .before .before in
     let e = h .before in
-    let k = e .before .before in
-    let a = k .before .before .before .before .before .args in
-    Sought (a .s) (a .part .now) (a .table .now) (a .lines) (a .edit) (k .unaffected-lines .result) (e .read-entry .result) (h .held-of .result)
+    let a = e .before .before .before .before .args in
+    Sought (a .s) (a .part .now) (a .table .now) (a .lines) (a .edit) (a .k) (e .read-entry .result) (h .held-of .result)
     (f .find-stop .result)
 sought f =
     let h = f .before .before .before in
     let e = h .before in
-    let k = e .before .before in
+    let start = e .before .before .before .before in
     record {
-      good = k .before .before .before .before .before .pre;
-      first = k .unaffected-lines .ensures;
+      good = start .pre .0;
+      first = start .pre .1;
       entry = e .read-entry .ensures;
       resumes = h .held-of .ensures;
       finds = f .find-stop .ensures;
@@ -65,8 +56,8 @@ add-to c = omega (arith, counts-low _ _ _ _ _ _ _ _ _ (sought (c .before)))
 add-if1 : tie.Need-add-if1
 add-if1 c = omega (arith, counts-low _ _ _ _ _ _ _ _ _ (sought (c .before)))
 
-add-t25 : tie.Need-add-t25
-add-t25 c = omega (arith, counts-low _ _ _ _ _ _ _ _ _ (sought (c .before .before)))
+add-t22 : tie.Need-add-t22
+add-t22 c = omega (arith, counts-low _ _ _ _ _ _ _ _ _ (sought (c .before .before)))
 
 same-length : tie.Need-same-length
 same-length c = search needs
@@ -83,8 +74,8 @@ write-again-requires c κs =
     let room = m .before .before in
     write-ready _ _ _ _ _ _ _ _ _ (sought (room .before .before)) (room .if1 .left) _ (m .move-lines .ensures) (m .move-lines .kept .0)
 
-add-t21 : tie.Need-add-t21
-add-t21 c = omega (arith, counts-low _ _ _ _ _ _ _ _ _ (sought (c .before .before .before .before .before .before .before .before .before .before)))
+add-t18 : tie.Need-add-t18
+add-t18 c = omega (arith, counts-low _ _ _ _ _ _ _ _ _ (sought (c .before .before .before .before .before .before .before .before .before .before)))
 
 same-length-2 : tie.Need-same-length-2
 same-length-2 c = search needs
@@ -101,18 +92,17 @@ pub lay-lines-spec : {M : Type 1} → statement M
 lay-lines-spec =
     tie.close
     (tie.spec
-    unaffected-lines-requires
     read-entry-requires
     held-of-requires
     find-stop-requires
     sub-left
     add-to
     add-if1
-    add-t25
+    add-t22
     same-length
     returns
     move-lines-requires
     write-again-requires
-    add-t21
+    add-t18
     same-length-2
     returns-2)

@@ -1,32 +1,25 @@
--- `table::affected::unaffected_lines` meets its contract.
+-- `table::search::affected_from` meets its contract.
 -- Assumes nothing.
 use Prim.Native.Nat.{_+_, _-_, _≤_}
-use mathlib.Core.List.{List}
-use mathlib.Core.Path.{_≡_, ap}
+use mathlib.Core.Path.{_≡_, refl}
 use native.Mathlib.Omega.{arith}
 use borrow.Author.Needs.{needs}
 use lib.ListN.{length}
-use Rattle.meaning.specs.declared.line.Entry.{Entry}
 use Rattle.meaning.specs.Edit.{unaffected}
-use Rattle.meaning.specs.Table.{entriesIn}
-use Rattle.table.specs.LinesFrom.{linesFrom, lines-all}
+use Rattle.table.specs.LinesFrom.{linesFrom}
 use Rattle.table.proofs.EditLaws.{search-past, search-met, search-end}
-use Rattle.table.proofs.affected.unaffected_lines.Statement.{statement}
-use Rattle.table.proofs.affected.unaffected_lines.Tie as tie
+use Rattle.table.proofs.search.affected_from.Statement.{statement}
+use Rattle.table.proofs.search.affected_from.Tie as tie
 
 abbrev Inv-loop : tie.InvT-loop
-Inv-loop table lines a k₀ k =
-    (length (unaffected (a .0) (entriesIn lines table)) ≡ k + length (unaffected (a .0) (linesFrom table lines k))) × (k ≤ lines)
+Inv-loop table lines j a k₀ k =
+    (j + length (unaffected (a .0) (linesFrom table lines j)) ≡ k + length (unaffected (a .0) (linesFrom table lines k))) × (k ≤ lines)
 
 abbrev μ-loop : tie.MeasureT-loop
-μ-loop table lines a k₀ k = lines - k
+μ-loop table lines j a k₀ k = lines - k
 
 loop-holds : tie.Need-loop-holds Inv-loop μ-loop
-loop-holds c =
-    let a = c .args in (
-      omega (arith, ap (λ (es : List Entry). length (unaffected (a .a .0) es)) (lines-all (a .table .now) (a .lines))),
-      search needs,
-    )
+loop-holds c = (refl, search needs)
 
 mul-if1 : tie.Need-mul-if1 Inv-loop μ-loop
 mul-if1 c = search needs
@@ -66,8 +59,8 @@ returns-2 c =
     let a = l .before .args in
     omega (arith, search-end (a .table .now) (a .lines) (l .loop .k) (a .a .0) (c .loop-test .left))
 
-pub unaffected-lines-spec : {M : Type 1} → statement M
-unaffected-lines-spec =
+pub affected-from-spec : {M : Type 1} → statement M
+affected-from-spec =
     tie.close
     (tie.spec
     Inv-loop

@@ -1,0 +1,74 @@
+-- `table::passing::pass_lines` meets its contract.
+-- Assumes nothing.
+use Prim.Native.Nat.{_-_, _*_, _/_}
+use mathlib.Core.Path.{_≡_, subst}
+use native.Mathlib.Omega.{arith}
+use borrow.Author.Needs.{needs}
+use borrow.Author.Tests.{not-false}
+use Rattle.table.specs.Passing.{Passed}
+use Rattle.table.proofs.PassTurns.{pass-none, pass-next}
+use Rattle.table.proofs.passing.pass_lines.Statement.{statement}
+use Rattle.table.proofs.passing.pass_lines.Tie as tie
+
+abbrev Inv-loop : tie.InvT-loop
+Inv-loop table lines j text most last at₀ at = Passed table lines text most j (at / 10) × (at ≡ 10 * (at / 10))
+
+abbrev μ-loop : tie.MeasureT-loop
+μ-loop table lines j text most last at₀ at = last - at
+
+mul-last : tie.Need-mul-last Inv-loop μ-loop
+mul-last c = search needs
+
+sub-last : tie.Need-sub-last Inv-loop μ-loop
+sub-last c = search needs
+
+mul-at : tie.Need-mul-at Inv-loop μ-loop
+mul-at c = search needs
+
+loop-holds : tie.Need-loop-holds Inv-loop μ-loop
+loop-holds c =
+    let a = c .before .args in
+    let e : a .j ≡ 10 * a .j / 10 = omega arith in
+    (subst (Passed (a .table .now) (a .lines) (a .text) (a .most) (a .j)) e (pass-none _ _ _ _ _ (omega arith)), omega arith)
+
+line-passes-requires : tie.Need-line-passes-requires Inv-loop μ-loop
+line-passes-requires c κs = let l = c .before .loop .inv in (omega (arith, l .0 .forward), omega arith, search needs)
+
+returns : tie.Need-returns Inv-loop μ-loop
+returns c = c .before .before .before .loop .inv .0
+
+add-at : tie.Need-add-at Inv-loop μ-loop
+add-at c = search needs
+
+loop-less : tie.Need-loop-less Inv-loop μ-loop
+loop-less c = search needs
+
+loop-again : tie.Need-loop-again Inv-loop μ-loop
+loop-again c =
+    let p = c .before in
+    let l = p .before .before in
+    let a = l .before .before .args in (
+      pass-next (a .table .now) (a .lines) (a .text) (a .most) (a .j) (l .loop .at) (l .loop .inv .1) (omega arith)
+          (p .line-passes .ensures (not-false _ (c .if1 .left))) (l .loop .inv .0),
+      omega arith,
+    )
+
+returns-2 : tie.Need-returns-2 Inv-loop μ-loop
+returns-2 c = c .before .loop .inv .0
+
+pub pass-lines-spec : {M : Type 1} → statement M
+pass-lines-spec =
+    tie.close
+    (tie.spec
+    Inv-loop
+    μ-loop
+    mul-last
+    sub-last
+    mul-at
+    loop-holds
+    line-passes-requires
+    returns
+    add-at
+    loop-less
+    loop-again
+    returns-2)

@@ -1,0 +1,13 @@
+-- `table::passing::start_fits` meets its contract.
+-- Assumes nothing.
+use mathlib.Core.Path.{refl}
+use Rattle.table.specs.Passing.{startFits}
+use Rattle.table.proofs.passing.start_fits.Statement.{statement}
+use Rattle.table.proofs.passing.start_fits.Tie as tie
+
+returns : tie.Need-returns
+unfolding startFits
+returns c = refl
+
+pub start-fits-spec : {M : Type 1} → statement M
+start-fits-spec = tie.close (tie.spec returns)

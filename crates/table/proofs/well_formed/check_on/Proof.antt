@@ -1,0 +1,107 @@
+-- `table::well_formed::check_on` meets its contract.
+-- Assumes nothing.
+use Prim.Native.Nat.{_-_, _*_, _≤_}
+use mathlib.Core.Path.{_≡_, refl, sym, _∙_}
+use native.Mathlib.Omega.{arith}
+use borrow.Author.Needs.{needs}
+use borrow.Author.Tests.{not-true, not-false}
+use Rattle.table.specs.Passing.{before, checkFrom}
+use Rattle.table.proofs.LineByLine.{lines-done, line-bad}
+use Rattle.table.proofs.PassTurns.{line-on}
+use Rattle.table.proofs.well_formed.check_on.Statement.{statement}
+use Rattle.table.proofs.well_formed.check_on.Tie as tie
+
+abbrev Inv-loop : tie.InvT-loop
+Inv-loop table lines text j k₀ k =
+    (checkFrom table lines (text .0) k ≡ checkFrom table lines (text .0) j) × (1 ≤ k) × (k ≤ lines)
+
+abbrev μ-loop : tie.MeasureT-loop
+μ-loop table lines text j k₀ k = lines - k
+
+loop-holds : tie.Need-loop-holds Inv-loop μ-loop
+loop-holds c = (refl, search needs, search needs)
+
+read-entry-requires : tie.Need-read-entry-requires Inv-loop μ-loop
+read-entry-requires c κs = search needs
+
+mul-at : tie.Need-mul-at Inv-loop μ-loop
+mul-at c = search needs
+
+sub-from : tie.Need-sub-from Inv-loop μ-loop
+sub-from c = search needs
+
+mul-from : tie.Need-mul-from Inv-loop μ-loop
+mul-from c = search needs
+
+shared-slice-read-from : tie.Need-shared-slice-read-from Inv-loop μ-loop
+shared-slice-read-from c = search needs
+
+sub-reached : tie.Need-sub-reached Inv-loop μ-loop
+sub-reached c = search needs
+
+mul-reached : tie.Need-mul-reached Inv-loop μ-loop
+mul-reached c = search needs
+
+shared-slice-read-reached : tie.Need-shared-slice-read-reached Inv-loop μ-loop
+shared-slice-read-reached c = search needs
+
+add-next : tie.Need-add-next Inv-loop μ-loop
+add-next c = search needs
+
+entry-good-requires : tie.Need-entry-good-requires Inv-loop μ-loop
+entry-good-requires c κs = search needs
+
+returns : tie.Need-returns Inv-loop μ-loop
+returns c =
+    let g = c .before in
+    let r = g .before .before .before in
+    let l = r .before .before in
+    let s = l .before .before in
+    sym (line-bad (s .args .table .now) (s .args .lines) (l .loop .k) (r .before .loop-test .taken) (r .read-entry .result)
+    (r .read-entry .ensures) (s .args .text .0) (before (s .args .table .now) (10 * l .loop .k))
+    (sym (g .entry-good .ensures) ∙ not-true (g .entry-good .result) (c .if1 .taken))) ∙ l .loop .inv .0
+
+loop-less : tie.Need-loop-less Inv-loop μ-loop
+loop-less c = search needs
+
+loop-again : tie.Need-loop-again Inv-loop μ-loop
+loop-again c =
+    let g = c .before in
+    let r = g .before .before .before in
+    let l = r .before .before in
+    let s = l .before .before in (
+      sym (line-on (s .args .table .now) (s .args .lines) (s .args .text .0) (l .loop .k) (r .before .loop-test .taken)
+          (r .read-entry .result) (r .read-entry .ensures)
+          (sym (g .entry-good .ensures) ∙ not-false (g .entry-good .result) (c .if1 .left))) ∙ l .loop .inv .0,
+      omega arith,
+      search needs,
+    )
+
+returns-2 : tie.Need-returns-2 Inv-loop μ-loop
+returns-2 c =
+    let l = c .before in
+    let s = l .before .before in
+    sym (lines-done (s .args .table .now) (s .args .lines) (l .loop .k) (s .args .text .0)
+    (before (s .args .table .now) (10 * l .loop .k)) (c .loop-test .left)) ∙ l .loop .inv .0
+
+pub check-on-spec : {M : Type 1} → statement M
+check-on-spec =
+    tie.close
+    (tie.spec
+    Inv-loop
+    μ-loop
+    loop-holds
+    read-entry-requires
+    mul-at
+    sub-from
+    mul-from
+    shared-slice-read-from
+    sub-reached
+    mul-reached
+    shared-slice-read-reached
+    add-next
+    entry-good-requires
+    returns
+    loop-less
+    loop-again
+    returns-2)
