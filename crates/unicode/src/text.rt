@@ -31,8 +31,12 @@ fn pass_blocks(text: &[u8], from: usize, block: usize) -> usize
     requires { ⌜ (from ≤ length (now text)) × (0 < block) ⌝ }
     ensures { λ r. ⌜ Passed (now (text .entry)) from r ⌝ }
 {
+    if text.len() < block {
+        return from;
+    }
+    let last = text.len() - block;
     let mut at = from;
-    while block <= text.len() - at {
+    while at <= last {
         let next = at + block;
         if !all_ascii(text, at, next) {
             return at;

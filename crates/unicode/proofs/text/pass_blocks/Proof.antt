@@ -10,16 +10,19 @@ use Rattle.unicode.proofs.text.pass_blocks.Statement.{statement}
 use Rattle.unicode.proofs.text.pass_blocks.Tie as tie
 
 abbrev Inv-loop : tie.InvT-loop
-Inv-loop text from block at₀ at = Passed text from at × (at ≤ length text)
+Inv-loop text from block last at₀ at = Passed text from at × (at ≤ length text)
 
 abbrev μ-loop : tie.MeasureT-loop
-μ-loop text from block at₀ at = length text - at
+μ-loop text from block last at₀ at = length text - at
+
+returns : tie.Need-returns Inv-loop μ-loop
+returns c = pass-none _ _ (omega arith)
+
+sub-last : tie.Need-sub-last Inv-loop μ-loop
+sub-last c = search needs
 
 loop-holds : tie.Need-loop-holds Inv-loop μ-loop
 loop-holds c = (pass-none _ _ (omega arith), omega arith)
-
-sub-loop : tie.Need-sub-loop Inv-loop μ-loop
-sub-loop c = search needs
 
 add-next : tie.Need-add-next Inv-loop μ-loop
 add-next c = search needs
@@ -27,8 +30,8 @@ add-next c = search needs
 all-ascii-requires : tie.Need-all-ascii-requires Inv-loop μ-loop
 all-ascii-requires c κs = (omega arith, omega arith)
 
-returns : tie.Need-returns Inv-loop μ-loop
-returns c = c .before .before .before .loop .inv .0
+returns-2 : tie.Need-returns-2 Inv-loop μ-loop
+returns-2 c = c .before .before .before .loop .inv .0
 
 loop-less : tie.Need-loop-less Inv-loop μ-loop
 loop-less c = search needs
@@ -37,10 +40,10 @@ loop-again : tie.Need-loop-again Inv-loop μ-loop
 loop-again c =
     let s = c .before in
     let l = s .before .before in
-    (pass-on _ _ _ _ (l .loop .inv .0) (s .all-ascii .ensures (not-false _ (c .if1 .left))), omega arith)
+    (pass-on _ _ _ _ (l .loop .inv .0) (s .all-ascii .ensures (not-false _ (c .if2 .left))), omega arith)
 
-returns-2 : tie.Need-returns-2 Inv-loop μ-loop
-returns-2 c = c .before .loop .inv .0
+returns-3 : tie.Need-returns-3 Inv-loop μ-loop
+returns-3 c = c .before .loop .inv .0
 
 pub pass-blocks-spec : {M : Type 1} → statement M
 pass-blocks-spec =
@@ -48,11 +51,12 @@ pass-blocks-spec =
     (tie.spec
     Inv-loop
     μ-loop
+    returns
+    sub-last
     loop-holds
-    sub-loop
     add-next
     all-ascii-requires
-    returns
+    returns-2
     loop-less
     loop-again
-    returns-2)
+    returns-3)
