@@ -8,4 +8,5 @@ pub mod Signs
 pub mod Upright
 pub mod Adding
 pub mod MovedParts
+pub mod InPlace
 pub mod MoveTurns

@@ -10,13 +10,20 @@ ghost use mathlib.Core.Path.{_≡_};
 ghost use Rattle.meaning.specs.Edit.{moved, movedRest, movedEntry};
 ghost use Rattle.table.specs.Moving.{MovableEdit, MovableOffset, MovableEntry, Movable, lineMoved, linesMoved};
 
-// An offset behind the replaced bytes.
+// An offset behind the replaced bytes, as a number of a table.
+fn moved_number(x: u32, edit: Edit) -> u32
+    requires { ⌜ MovableEdit edit × MovableOffset edit x ⌝ }
+    ensures { λ r. ⌜ r ≡ moved edit x ⌝ }
+{
+    let replaced = edit.to.0 - edit.from.0;
+    x + edit.inserted.0 - replaced
+}
+
 fn moved_offset(x: Offset, edit: Edit) -> Offset
     requires { ⌜ MovableEdit edit × MovableOffset edit (x .0) ⌝ }
     ensures { λ r. ⌜ r .0 ≡ moved edit (x .0) ⌝ }
 {
-    let replaced = edit.to.0 - edit.from.0;
-    Offset(x.0 + edit.inserted.0 - replaced)
+    Offset(moved_number(x.0, edit))
 }
 
 // An end of 0 says that there is no rest, and stays.
@@ -51,11 +58,32 @@ pub fn moved_entry(e: Entry, edit: Edit) -> Entry
     after
 }
 
+// Line k, moved where it stands: its other numbers are not touched.
+fn move_here(table: &mut [u32], k: usize, edit: Edit)
+    requires { ⌜ Movable (now table) k k 1 edit ⌝ }
+    ensures { λ _. ⌜ now (table .exit) ≡ lineMoved (now (table .entry)) k k edit ⌝ }
+{
+    let at = 10 * k;
+    let start = table[at];
+    let end = table[at + 1];
+    let reach = table[at + 9];
+    table[at] = moved_number(start, edit);
+    table[at + 9] = moved_number(reach, edit);
+    if end == 0 {
+        return;
+    }
+    table[at + 1] = moved_number(end, edit);
+}
+
 // Line `from`, moved, written to line `to`.
 fn move_line(table: &mut [u32], from: usize, to: usize, edit: Edit)
     requires { ⌜ Movable (now table) from to 1 edit ⌝ }
     ensures { λ _. ⌜ now (table .exit) ≡ lineMoved (now (table .entry)) from to edit ⌝ }
 {
+    if from == to {
+        move_here(table, to, edit);
+        return;
+    }
     let old = read_entry(table, from);
     let after = moved_entry(old, edit);
     write_entry(table, to, after);

@@ -1,0 +1,77 @@
+-- A line moved where it stands: start, rest and reach are stored, and the other numbers are as they were.
+-- Assumes nothing.
+use Prim.Native.Nat.{ℕ, zero, suc, _+_, _*_, _≤_}
+use mathlib.Core.Path.{_≡_, sym, ap, subst, _∙_}
+use mathlib.Core.List.{List, [], _∷_}
+use native.Mathlib.Nat.{add-zero}
+use native.Mathlib.Omega.{arith}
+use borrow.Author.Tests.{eq-eqb, ne-eqb}
+use lib.ListN.{length, getD, set, drop}
+use lib.Seq.{set-getD, set-comm, getD-set-other}
+use Rattle.basis.specs.Choice.{pick}
+use Rattle.meaning.specs.Table.{ofEntry, entryIn}
+use Rattle.meaning.specs.Edit.{moved, movedRest, movedEntry}
+use Rattle.meaning.specs.declared.edit.Edit.{Edit}
+use Rattle.meaning.specs.declared.line.Entry.{Entry}
+use Rattle.table.specs.Numbers.{putNumbers, storedFrom, stored, stored-are}
+use Rattle.table.specs.Moving.{MovableEntry, Movable, lineMoved, line-movable}
+use Rattle.table.proofs.Reading.{entryFrom, entry-from}
+
+module _ (t : List ℕ) (i : ℕ) where
+  -- So many of the table's own numbers, from number n of a line on, and then others.
+  abbrev own : (n count : ℕ) → List ℕ → List ℕ
+  own n zero xs = xs
+  own n (suc c) xs = getD t (i + n) 0 ∷ own (suc n) c xs
+
+  -- To store a number where it stands changes nothing.
+  own-number : (u : List ℕ) (j : ℕ) → getD u j 0 ≡ getD t j 0 → set u j (getD t j 0) ≡ u
+  own-number u j q = ap (set u j) (sym q) ∙ set-getD u j 0
+
+  own-stored : (c n : ℕ) (u xs : List ℕ) → ((q : ℕ) → n ≤ q → getD u (i + q) 0 ≡ getD t (i + q) 0)
+      → storedFrom u i n (own n c xs) ≡ storedFrom u i (n + c) xs
+  own-stored zero n u xs h = ap (λ (m : ℕ). storedFrom u i m xs) (sym (add-zero n))
+  own-stored (suc c) n u xs h =
+      let e : suc n + c ≡ n + suc c = omega arith in
+      ap (λ (v : List ℕ). storedFrom v i (suc n) (own (suc n) c xs)) (own-number u (i + n) (h n (omega arith)))
+      ∙ own-stored c (suc n) u xs (λ q p. h q (omega arith))
+      ∙ ap (λ (m : ℕ). storedFrom u i m xs) e
+
+  module _ (room : i + 10 ≤ length t) (a b z : ℕ) where
+    -- The first two numbers of a line and its last.
+    three-stored : set (set (set t i a) (i + 1) b) (i + 9) z ≡ putNumbers t i (a ∷ b ∷ own 2 7 (z ∷ []))
+    three-stored =
+        let u = set (set t i a) (i + 1) b in
+        sym (own-stored 7 2 u (z ∷ []) (λ q p. getD-set-other (set t i a) (i + 1) (i + q) b 0 (λ e. omega arith) ∙ getD-set-other t i (i + q) a 0 (λ e. omega arith)))
+        ∙ stored-are (a ∷ b ∷ own 2 7 (z ∷ [])) t i room
+
+module _ (t : List ℕ) (k : ℕ) (ed : Edit) (m : Movable t k k 1 ed) where
+  abbrev at : ℕ
+  at = 10 * k
+
+  pub here-movable : MovableEntry ed (entryFrom t (10 * k))
+  here-movable = subst (MovableEntry ed) (sym (entry-from t (10 * k))) (line-movable t k k ed m)
+
+  room : at + 10 ≤ length t
+  room = omega (arith, m .to-room)
+
+  -- The two or three numbers that the code has stored.
+  module _ (start reach : ℕ) (s : start ≡ moved ed (getD t (10 * k) 0)) (r : reach ≡ moved ed (getD t (10 * k + 9) 0)) where
+    all-three : (end : ℕ) → end ≡ movedRest ed (entryFrom t at .rest) .end .0
+        → set (set (set t at start) (at + 1) end) (at + 9) reach ≡ lineMoved t k k ed
+    unfolding ofEntry movedEntry movedRest
+    all-three end e =
+        three-stored t at room start end reach
+        ∙ (λ j. putNumbers t at (s j ∷ e j ∷ own t at 2 7 (r j ∷ [])))
+        ∙ ap (λ (x : Entry). putNumbers t at (ofEntry (movedEntry ed x))) (entry-from t at)
+
+    pub moved-two : getD t (10 * k + 1) 0 ≡ 0 → set (set t (10 * k) start) (10 * k + 9) reach ≡ lineMoved t k k ed
+    unfolding movedRest pick
+    moved-two z =
+        let same = own-number t at (set t at start) (at + 1) (getD-set-other t at (at + 1) start 0 (λ e. omega arith)) in
+        ap (λ (u : List ℕ). set u (at + 9) reach) (sym same) ∙ all-three (getD t (at + 1) 0) (rw (eq-eqb _ _ z) z)
+
+    pub moved-three : (getD t (10 * k + 1) 0 ≡ 0 → ⊥) → (end : ℕ) → end ≡ moved ed (getD t (10 * k + 1) 0)
+        → set (set (set t (10 * k) start) (10 * k + 9) reach) (10 * k + 1) end ≡ lineMoved t k k ed
+    unfolding movedRest pick
+    moved-three d end e =
+        set-comm (set t at start) (at + 9) (at + 1) reach end (λ q. omega arith) ∙ all-three end (rw (ne-eqb _ _ d) e)
