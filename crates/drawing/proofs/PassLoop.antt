@@ -29,7 +29,7 @@ use Rattle.drawing.specs.PassDrawn.{DrawRoom, none-drawn, go-drawn, stop
 use Rattle.drawing.specs.DrawnBounds.{tok-few}
 use Rattle.drawing.specs.DrawingOn.{PenReady, Strode}
 use Rattle.drawing.specs.declared.pen.Pen.{Pen}
-use Rattle.drawing.specs.declared.strides.Going.{Going}
+use Rattle.drawing.specs.declared.going.Going.{Going}
 use Rattle.drawing.proofs.TokenEvents.{tok-narrow}
 use Rattle.drawing.proofs.OnwardEvents.{pen-rest}
 
@@ -54,7 +54,7 @@ module _ {t : List ℕ} {s : Settings} {goal : Sheet} {ev : List ℕ} {p : Place
     pub drawing-strode : Drawing t s goal u (g .place) (g .at) held (g .pen)
     drawing-strode = record { draws = f .onward .same ∙ d .draws; ready = f .onward .ready }
 
-    module _ (w : g .waits ≡ 0 → ⊥) where
+    module _ (w : g .waits .next .0 ≡ 0 → ⊥) where
       pub waits-ready : PenReady s (g .place) t (g .at) nothingResumed (g .pen) × Waits s (g .place) t (g .at) (g .waits)
       waits-ready = (pen-rest (f .onward .ready) (f .waits w .1), f .waits w .0)
 

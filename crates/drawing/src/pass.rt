@@ -65,7 +65,7 @@ pub fn draw_pass(
     let mut seen = Foreseen::Nothing;
     loop {
         let g = draw_unless(text, s, p, at, held, pen, seen, events);
-        if g.waits != 0 {
+        if g.waits.next.0 != 0 {
             let last = draw_waiting(text, s, g, events);
             return last.next;
         }

@@ -1,4 +1,7 @@
-// Words of ASCII that fit, drawn in strides of a space and a word.
+// Words that fit, drawn in strides of a space and a word.
+use crate::going::Going;
+use crate::going::stands_at;
+use crate::pairs::draw_pair;
 use crate::pen::Pen;
 use crate::pen::put_one;
 use meaning::cursor::Place;
@@ -7,13 +10,14 @@ use meaning::settings::Settings;
 use parser::ascii::plain_at;
 use rendering::cursor::fits;
 use rendering::cursor::room;
+use rendering::going::plain_waits;
+use rendering::going::strode;
 use rendering::look::Foreseen;
 use rendering::plain_words::stride_end;
 use rendering::plain_words::word_within;
 use rendering::space_config::lesser;
 use rendering::space_config::spaces_width;
 use rendering::step::Resumed;
-use rendering::strides::strode;
 use rendering::words::word_place;
 ghost use Prim.Native.Nat.{_+_, _≤_};
 ghost use mathlib.Core.Path.{_≡_};
@@ -27,14 +31,6 @@ ghost use Rattle.rendering.specs.Foreseeing.{ForeseesFrom};
 ghost use Rattle.drawing.specs.Drawn.{drawnFrom};
 ghost use Rattle.drawing.specs.Sheet.{sheet, drawnOn};
 ghost use Rattle.drawing.specs.DrawingOn.{PenReady, Strode};
-
-// Where the drawing of a line stands between two tokens, and the end of the plain word behind one space there that does not fit, or 0.
-pub struct Going {
-    pub place: Place,
-    pub at: usize,
-    pub pen: Pen,
-    pub waits: usize,
-}
 
 // One space, and the word behind it.
 fn put_stride(events: &mut [u32], pen: Pen, at: usize, end: usize, space: u32, letters: u32) -> Pen
@@ -57,6 +53,7 @@ fn draw_strides(
 ) -> Going
     requires { ⌜ PenReady s p (now text) from nothingResumed start × (p .empty ≡ false) ⌝ }
     ensures { λ r. ⌜ Strode s (now (text .entry)) nothingResumed (now (events .entry)) p from start (now (events .exit)) r ⌝ }
+    ensures { λ r. ⌜ r .place .empty ≡ false ⌝ }
 {
     let edge = p.cursor.width.0;
     let single = p.spaces.width.0;
@@ -67,24 +64,19 @@ fn draw_strides(
     loop {
         let end = stride_end(text, at);
         if end == 0 {
-            let place = strode(p, position, extra);
-            return Going {
-                place,
-                at,
-                pen,
-                waits: 0,
-            };
+            return stands_at(strode(p, position, extra), at, pen);
         }
         let one = lesser(1, extra);
         let space = single + one;
         let letters = (end - (at + 1)) as u32 * s.glyph.0;
         if edge - position < space + letters {
             let place = strode(p, position, extra);
+            let waits = plain_waits(at + 1, end);
             return Going {
                 place,
                 at,
                 pen,
-                waits: end,
+                waits,
             };
         }
         pen = put_stride(events, pen, at, end, space, letters);
@@ -107,34 +99,36 @@ fn draw_first(text: &[u8], s: Settings, p: Place, at: usize, pen: Pen, events: &
             let n = (end - at) as u32;
             let place = word_place(glyph, p, n, 0);
             let printed = put_one(events, pen, EventKind::Printed, at, end, 0, n * glyph);
-            return Going {
-                place,
-                at: end,
-                pen: printed,
-                waits: 0,
-            };
+            return stands_at(place, end, printed);
         }
     }
-    Going {
-        place: p,
-        at,
-        pen,
-        waits: 0,
-    }
+    stands_at(p, at, pen)
 }
 
-// Plain words as far as they fit.
+// Words as far as they fit: plain ones in strides, others behind one space by themselves.
 fn draw_words(text: &[u8], s: Settings, p: Place, at: usize, pen: Pen, events: &mut [u32]) -> Going
     requires { ⌜ PenReady s p (now text) at nothingResumed pen ⌝ }
     ensures { λ r. ⌜ Strode s (now (text .entry)) nothingResumed (now (events .entry)) p at pen (now (events .exit)) r ⌝ }
 {
-    let g = draw_first(text, s, p, at, pen, events);
-    let q = g.place;
-    let printed = g.pen;
-    if q.empty {
-        return g;
+    let mut g = draw_first(text, s, p, at, pen, events);
+    loop {
+        let q = g.place;
+        let printed = g.pen;
+        if q.empty {
+            return g;
+        }
+        let far = draw_strides(text, s, q, g.at, printed, events);
+        if far.waits.next.0 != 0 {
+            return far;
+        }
+        let v = far.place;
+        let before = far.pen;
+        let here = far.at;
+        g = draw_pair(text, s, v, here, before, events);
+        if g.at == here {
+            return g;
+        }
     }
-    draw_strides(text, s, q, g.at, printed, events)
 }
 
 // The same of a line that may have a rest to resume first.
@@ -153,12 +147,7 @@ fn draw_on(
     if rest.chars.0 == 0 {
         return draw_words(text, s, p, at, pen, events);
     }
-    Going {
-        place: p,
-        at,
-        pen,
-        waits: 0,
-    }
+    stands_at(p, at, pen)
 }
 
 // The same where a look may be known, which is kept for the white space that comes next.
@@ -177,12 +166,7 @@ pub fn draw_unless(
     ensures { λ r. ⌜ ForeseesFrom s (r .place) (now (text .entry)) (r .at) rest seen ⌝ }
 {
     if let Foreseen::Known(_) = seen {
-        return Going {
-            place: p,
-            at,
-            pen,
-            waits: 0,
-        };
+        return stands_at(p, at, pen);
     }
     draw_on(text, s, p, at, rest, pen, events)
 }
@@ -200,8 +184,9 @@ pub fn draw_waiting(text: &[u8], s: Settings, g: Going, events: &mut [u32]) -> P
     if !fits(cursor, wide) {
         return pen;
     }
+    let next = g.waits.next.0 as usize;
     if s.trailing == 1 {
-        return put_one(events, pen, EventKind::Space, g.at, g.at + 1, 1, wide);
+        return put_one(events, pen, EventKind::Space, g.at, next, 1, wide);
     }
-    put_one(events, pen, EventKind::Space, g.at, g.at + 1, 1, 0)
+    put_one(events, pen, EventKind::Space, g.at, next, 1, 0)
 }

@@ -82,10 +82,14 @@ module _ (c : ℕ) (x : Black c) where
   black-run = let h = x .high in high-run c (omega arith) (x .shown) no-glue ∙ x .solid
 
 pub letter-plain : (t : List ℕ) (at : ℕ) → plainAt t at ≡ true → Letter t at 1
-letter-plain t at e = let h = plain-char t at e in record { char = getD t at 0; is = h .1; glue = plain-glue (getD t at 0) (h .0) }
+letter-plain t at e =
+    let h = plain-char t at e in
+    let b = getD t at 0 in
+    record { char = b; is = h .1; word = plain-word b (h .0); glue = plain-glue b (h .0) }
 
 pub letter-long : (t : List ℕ) (at n : ℕ) → Long t at n → Letter t at n
-letter-long t at n x = record { char = x .char; is = x .is; glue = black-glue (x .char) (x .black) }
+letter-long t at n x =
+    record { char = x .char; is = x .is; word = black-word (x .char) (x .black); glue = black-glue (x .char) (x .black) }
 
 pub spelled-plain : (t : List ℕ) (i j : ℕ) → Lettered t i j → Spelled t i j (j - i)
 spelled-plain t i j l = record { forward = omega (arith, l .forward); inside = l .inside; scans = l .scans }

@@ -39,6 +39,11 @@ letter-of shy e = absurd (false≢true e)
 letter-of zwsp e = absurd (false≢true e)
 letter-of blank e = absurd (false≢true e)
 
+-- A character of words is none of space runs.
+pub word-no-run : (c : ℕ) → inWord c ≡ true → inRun c ≡ false
+unfolding inWord inRun
+word-no-run c e = rw (letter-of (classOf c) e)
+
 -- None of the tests that come before a space run's holds of a character.
 pub record Left (c : ℕ) : Type 0 where
   pub word : inWord c ≡ false
@@ -155,9 +160,9 @@ pub lexed-none : (t : List ℕ) (at : ℕ) → isChar (decodeAt t at) ≡ false 
 unfolding lexedAt
 lexed-none t at e = rw (chars-none t at e, tokens-none)
 
--- The same where a byte of ASCII or a longer letter is told.
+-- The same where a byte of ASCII or a longer letter is told, and where white space is that counts as a space.
 module _ (t : List ℕ) (at : ℕ) where
-  letter-lexed : (c n : ℕ) → decodeAt t at ≡ Char c n → inWord c ≡ true → glueOf c ≡ 0
+  pub letter-lexed : (c n : ℕ) → decodeAt t at ≡ Char c n → inWord c ≡ true → glueOf c ≡ 0
       → Token (wordOf (scanFrom inWord glueOf (at + n) 1 0 (charsFrom t (at + n)))) ≡ lexedAt at (tokens (charsFrom t at))
   letter-lexed c n d e z =
       let cs = charsFrom t (at + n) in
@@ -173,15 +178,18 @@ module _ (t : List ℕ) (at : ℕ) where
   pub long-lexed : (n : ℕ) → Long t at n → Token (wordOf (scanFrom inWord glueOf (at + n) 1 0 (charsFrom t (at + n)))) ≡ lexedAt at (tokens (charsFrom t at))
   long-lexed n x = letter-lexed (x .char) n (x .is) (black-word (x .char) (x .black)) (black-glue (x .char) (x .black))
 
+  pub blank-lexed : (c n : ℕ) → decodeAt t at ≡ Char c n → Left c
+      → Token (blankOf (scanFrom inRun spaceOf (at + n) 1 1 (charsFrom t (at + n)))) ≡ lexedAt at (tokens (charsFrom t at))
+  blank-lexed c n d l = lexed-char t at c n d _ (blank-is at n c (charsFrom t (at + n)) (decode-at-bytes t at c n d) l)
+
   pub space-lexed : spaceAt t at ≡ true → Token (blankOf (scanFrom inRun spaceOf (at + 1) 1 1 (charsFrom t (at + 1)))) ≡ lexedAt at (tokens (charsFrom t at))
   space-lexed e =
-      let d = space-char t at e in
-      let left : Left 0x20 = record {
+      blank-lexed 0x20 1 (space-char t at e)
+      (record {
         word = space-no-word;
         lf = λ q. omega arith;
         cr = λ q. omega arith;
         ht = λ q. omega arith;
         shy = λ q. omega arith;
         zwsp = λ q. omega arith;
-      } in
-      lexed-char t at 0x20 1 d _ (blank-is at 1 0x20 (charsFrom t (at + 1)) (decode-at-bytes t at 0x20 1 d) left)
+      })

@@ -3,6 +3,7 @@ pub mod ScanLaws
 pub mod AsciiLaws
 pub mod RunLaws
 pub mod LexerLaws
+pub mod PairLaws
 pub mod PartLaws
 pub mod ShorterLaws
 pub mod NextLaws

@@ -50,6 +50,7 @@ pub record Glues (t : List ℕ) (at : ℕ) : Type 0 where
 pub record Letter (t : List ℕ) (at n : ℕ) : Type 0 where
   pub char : ℕ
   pub is : decodeAt t at ≡ Char char n
+  pub word : inWord char ≡ true
   pub glue : glueOf char ≡ 0
 
 pub plain-range : (b : ℕ) → plain b ≡ true → (0x20 < b) × (b < 0x80)

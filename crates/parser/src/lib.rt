@@ -5,6 +5,7 @@ pub mod count;
 pub mod later;
 pub mod lexeme;
 pub mod lexer;
+pub mod pair;
 pub mod part;
 pub mod reader;
 pub mod scan;

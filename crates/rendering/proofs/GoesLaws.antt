@@ -17,13 +17,15 @@ use Rattle.rendering.specs.Stepping.{ranFrom}
 use Rattle.rendering.specs.Unrolled.{farther, nothingResumed}
 use Rattle.rendering.specs.Running.{PassReady, none-fits}
 use Rattle.rendering.specs.PlainWords.{Stride, Found}
-use Rattle.rendering.specs.Strides.{goingAt, strodePlace, printedLast, justPrinted, Onward, Waits, Goes, StrideReady, WaitReady}
+use Rattle.rendering.specs.Strides.{waitingAt, goingAt, strodePlace, printedLast, justPrinted, Onward, Waits, Goes, StrideReady, WaitReady}
 use Rattle.rendering.specs.Foreseeing.{ForeseesFrom}
 use Rattle.rendering.specs.declared.look.Foreseen.{Foreseen}
 use Rattle.rendering.specs.declared.look.Foreseen.the-variants.{Nothing}
 use Rattle.rendering.specs.declared.step.Resumed.{Resumed}
 use Rattle.rendering.specs.declared.step.Ended.{Ended}
-use Rattle.rendering.specs.declared.strides.Going.{Going}
+use Rattle.rendering.specs.declared.going.Waiting.{Waiting}
+use Rattle.rendering.specs.declared.going.Going.{Going}
+use Rattle.rendering.proofs.PlainLaws.{plainWord, plain-pair}
 use Rattle.rendering.proofs.OnwardLaws.{onward-none, onward-on}
 
 -- ---- just after a print
@@ -55,32 +57,52 @@ module _ {s : Settings} {p : Place} {t : List ℕ} {from : ℕ} {m : Measure} (r
       let here = onward-none (subst (λ (n : Measure). PassReady s p t from nothingResumed n) (sym (e .1)) (r .0)) in
       subst (λ (b : Bool). Onward s p t from nothingResumed first (record { cursor = p .cursor; spaces = p .spaces; empty = b }) from first) (e .0) here
 
-  pub strides-end : {q v : Place} {n o : Measure} (at waits : ℕ) {g : Going} → v ≡ q → o ≡ n → g ≡ goingAt v o at waits
-      → Onward s p t from nothingResumed first q at n → Found waits (Waits s q t at waits) → Goes s p t from nothingResumed m g
+  pub strides-end : {q v : Place} {n o : Measure} (at : ℕ) (waits : Waiting) {g : Going} → v ≡ q → o ≡ n → g ≡ goingAt v o at waits
+      → Onward s p t from nothingResumed first q at n → q .empty ≡ false → Found (waits .next .0) (Waits s q t at waits)
+      → Goes s p t from nothingResumed m g × (g .place .empty ≡ false)
   unfolding goingAt
-  strides-end {q} {v} {n} {o} at waits a b is there w =
+  strides-end {q} {v} {n} {o} at waits a b is there d w =
       let e = printed-is p m (r .1) in
-      subst (Goes s p t from nothingResumed m) (sym (is ∙ (λ i. goingAt (a i) (b i) at waits)))
-      (record {
-        onward = subst (λ (k : Measure). Onward s p t from nothingResumed k q at n) (e .1) there;
-        waits = λ d. (w d, refl, refl);
-      })
+      subst (λ (g : Going). Goes s p t from nothingResumed m g × (g .place .empty ≡ false)) (sym (is ∙ (λ i. goingAt (a i) (b i) at waits))) (
+        record {
+          onward = subst (λ (k : Measure). Onward s p t from nothingResumed k q at n) (e .1) there;
+          waits = λ h. (w h, refl, refl);
+        },
+        d,
+      )
+
+pub none-waits : {X : Type 0} (w : Waiting) → w ≡ waitingAt 0 0 0 → Found (w .next .0) X
+unfolding waitingAt
+none-waits w e d = absurd (d (ap (λ (v : Waiting). v .next .0) e))
 
 -- One that does not fit.
 pub stride-waits : {s : Settings} {p : Place} {t : List ℕ} {at : ℕ} {m : Measure} → PassReady s p t at nothingResumed m → p .empty ≡ false → (end : ℕ)
     → Stride t at end → (one wide : ℕ) → one ≡ min 1 (p .spaces .extra .0) → wide ≡ p .spaces .width .0 + one + (end - (at + 1)) * s .glyph .0
-    → p .cursor .width .0 - p .cursor .position .0 < wide → Waits s p t at end
-unfolding spacesWidth
-stride-waits r e end w one wide f g h = record { stride = w; empty = e; over = omega (arith, r .place) }
+    → p .cursor .width .0 - p .cursor .position .0 < wide → (v : Waiting) → v ≡ waitingAt (at + 1) (at + 1 + 1) (end + 1) → Waits s p t at v
+unfolding spacesWidth waitingAt
+stride-waits {s} {p} {t} {at} r e end w one wide f g h v is =
+    subst (Waits s p t at) (sym is)
+    (record { word = plainWord (at + 1) end; pair = plain-pair t at end w; reach = refl; empty = e; over = omega (arith, r .place) })
 
 -- ---- one after the other
 
 module _ {s : Settings} {t : List ℕ} {r : Resumed} where
   -- Nothing waits there.
-  pub goes-to : {p : Place} {at : ℕ} {m : Measure} {q : Place} {n : Measure} (to : ℕ) {g : Going} → g ≡ goingAt q n to 0 → Onward s p t at r m q to n
-      → Goes s p t at r m g
+  pub goes-to : {p : Place} {at : ℕ} {m : Measure} {q : Place} {n : Measure} (to : ℕ) {w : Waiting} {g : Going} → w ≡ waitingAt 0 0 0 → g ≡ goingAt q n to w
+      → Onward s p t at r m q to n → Goes s p t at r m g
   unfolding goingAt
-  goes-to {p} {at} {m} to is there = subst (Goes s p t at r m) (sym is) (record { onward = there; waits = λ d. absurd (d refl) })
+  goes-to {p} {at} {m} to {w} none is there = subst (Goes s p t at r m) (sym is) (record { onward = there; waits = none-waits w none })
+
+  -- A word waits there.
+  pub goes-wait : {p : Place} {at : ℕ} {m : Measure} (w : Waiting) {g : Going} → g ≡ goingAt p m at w → PassReady s p t at r m → r ≡ nothingResumed
+      → Waits s p t at w → Goes s p t at r m g
+  unfolding goingAt
+  goes-wait {p} {at} {m} w is h e x =
+      subst (Goes s p t at r m) (sym is)
+      (record { onward = onward-none h; waits = λ _. (x, ap (λ (k : Resumed). k .chars .0) e, ap (λ (k : Resumed). k .count .0) e) })
+
+  pub goes-here : {p : Place} {at : ℕ} {m : Measure} {g : Going} → Goes s p t at r m g → Goes s (g .place) t (g .at .0) r (g .measure) g
+  goes-here f = record { onward = onward-none (f .onward .ready); waits = f .waits }
 
   pub goes-on : {p : Place} {at : ℕ} {m : Measure} {q : Place} {to : ℕ} {n : Measure} {g : Going} → Onward s p t at r m q to n → Goes s q t to r n g
       → Goes s p t at r m g
@@ -126,7 +148,7 @@ module _ {s : Settings} {p : Place} {t : List ℕ} {at : ℕ} {r : Resumed} {m :
 
 -- ---- where a word waits
 
-module _ {s : Settings} {p : Place} {t : List ℕ} {at : ℕ} {r : Resumed} {m : Measure} {g : Going} (f : Goes s p t at r m g) (d : g .waits .0 ≡ 0 → ⊥) where
+module _ {s : Settings} {p : Place} {t : List ℕ} {at : ℕ} {r : Resumed} {m : Measure} {g : Going} (f : Goes s p t at r m g) (d : g .waits .next .0 ≡ 0 → ⊥) where
   pub waits-ready : WaitReady s t g
   waits-ready = (rest-none (f .onward .ready) (f .waits d .1), f .waits d .0)
 
@@ -139,10 +161,10 @@ module _ {s : Settings} {p : Place} {t : List ℕ} {at : ℕ} {r : Resumed} {m :
 
 -- ---- where a look may be known
 
-pub stays-foreseen : (s : Settings) (p : Place) (t : List ℕ) (at : ℕ) (r : Resumed) (m : Measure) (f : Foreseen) (g : Going) → g ≡ goingAt p m at 0
+pub stays-foreseen : (s : Settings) (p : Place) (t : List ℕ) (at : ℕ) (r : Resumed) (m : Measure) (f : Foreseen) (w : Waiting) (g : Going) → g ≡ goingAt p m at w
     → ForeseesFrom s p t at r f → ForeseesFrom s (g .place) t (g .at .0) r f
 unfolding goingAt
-stays-foreseen s p t at r m f g is h = rw is h
+stays-foreseen s p t at r m f w g is h = rw is h
 
 pub nothing-foreseen : (s : Settings) (p : Place) (t : List ℕ) (at : ℕ) (r : Resumed) (f : Foreseen) → f ≡ Nothing → ForeseesFrom s p t at r f
 nothing-foreseen s p t at r f e = rw e tt

@@ -8,6 +8,7 @@ pub mod LayLaws
 pub mod LookLaws
 pub mod MoveLaws
 pub mod OnwardLaws
+pub mod PairLaws
 pub mod PassLaws
 pub mod PlainLaws
 pub mod RestLaws

@@ -1,17 +1,19 @@
 -- A pass that goes on over a token. What that looked at, the pass after it looks at too, so nothing is kept of it.
 -- Assumes nothing.
-use mathlib.Core.Path.{_≡_, refl, sym, _∙_}
-use mathlib.Core.List.{List, [], _∷_}
+use mathlib.Core.Path.{_≡_, refl, sym, subst, _∙_}
+use mathlib.Core.List.{List, [], _∷_, _++_}
 use Prim.Native.Nat.{ℕ, _+_, _≤_, max}
 use native.Mathlib.Omega.{arith}
-use Rattle.meaning.specs.Tokens.{Tok, tokens, charsOf, sizeOf, needOf}
+use Rattle.basis.specs.Choice.{pick}
+use Rattle.unicode.specs.Encoding.{bytes, size}
+use Rattle.meaning.specs.Tokens.{Tok, newLine, carriageReturn, tab, softHyphen, space, word, ender, tokens, charsOf, sizeOf, needOf}
 use Rattle.meaning.specs.LineIter.{Step, go, stop, step, Ran, passOn, process}
 use Rattle.meaning.specs.Line.{heldTokens}
 use Rattle.meaning.specs.declared.settings.Settings.{Settings}
 use Rattle.meaning.specs.declared.cursor.Place.{Place}
 use Rattle.meaning.specs.declared.line.Measure.{Measure}
-use Rattle.laws.specs.Spell.{spell, Sound}
-use Rattle.laws.specs.TokenLaws.{tokens-sound, sound-size}
+use Rattle.laws.specs.Spell.{textOf, spell, SoundTok, Sound}
+use Rattle.laws.specs.TokenLaws.{tokens-cover, tokens-sound}
 use Rattle.parser.specs.Lexing.{charsFrom, lexedAt}
 use Rattle.parser.specs.declared.lexeme.Lexeme.{Lexeme}
 use Rattle.parser.specs.declared.lexeme.Lexed.the-variants.{Token}
@@ -31,17 +33,31 @@ on-reach : (here n : ℕ) (x : Step) (more : Place → Ran) → here ≤ passOn 
 on-reach here n (go q ds r) more = omega arith
 on-reach here n (stop e ds k h d r) more = omega arith
 
+-- A token has at least the bytes of its first character.
+first-bytes : (u : Tok) (cs : List ℕ) → SoundTok u cs → ender (textOf u ++ cs) ≤ sizeOf u
+unfolding ender sizeOf size bytes pick
+first-bytes newLine cs h = omega arith
+first-bytes carriageReturn cs h = omega arith
+first-bytes tab cs h = omega arith
+first-bytes softHyphen cs h = omega arith
+first-bytes (space [] n e) cs h = absurd (omega arith)
+first-bytes (space (c ∷ ws) n e) cs h = omega arith
+first-bytes (word [] e) cs h = absurd (omega arith)
+first-bytes (word (c ∷ ws) e) cs h = omega arith
+
 module _ (s : Settings) (p : Place) (t : List ℕ) (at : ℕ) (m : Measure) where
-  tokens-reach : (ts : List Tok) → Sound ts → at + 1 ≤ process s p at ts .reach
-  unfolding process needOf
+  tokens-reach : (ts : List Tok) → Sound ts → at + ender (spell ts) ≤ process s p at ts .reach
+  unfolding process needOf spell ender
   tokens-reach [] h = omega arith
   tokens-reach (u ∷ ts) h =
-      omega (arith, sound-size u (spell ts) (h .0), on-reach (at + needOf u) (charsOf u) (step s p at u ts) (λ q. process s q (at + sizeOf u) ts))
+      omega (arith, first-bytes u (spell ts) (h .0), on-reach (at + needOf u) (charsOf u) (step s p at u ts) (λ q. process s q (at + sizeOf u) ts))
 
-  -- What stands at its offset is looked at, be it the text's end.
-  pub looks-on : at + 1 ≤ ranFrom s p t at 0 0 m .reach .0
+  -- The character at its offset is looked at, be it the text's end.
+  pub looks-on : at + ender (charsFrom t at) ≤ ranFrom s p t at 0 0 m .reach .0
   unfolding ranFrom endedAt heldTokens
-  looks-on = tokens-reach (tokens (charsFrom t at)) (tokens-sound (charsFrom t at))
+  looks-on =
+      let cs = charsFrom t at in
+      subst (λ (ds : List ℕ). at + ender ds ≤ process s p at (tokens cs) .reach) (tokens-cover cs) (tokens-reach (tokens cs) (tokens-sound cs))
 
   first-reach : (u : Tok) (ts : List Tok) → heldTokens 0 0 (charsFrom t at) ≡ u ∷ ts → at + needOf u ≤ ranFrom s p t at 0 0 m .reach .0
   unfolding ranFrom endedAt process

@@ -1,6 +1,6 @@
 -- Words of ASCII and a single space before one, as they are read.
 -- Assumes nothing.
-use mathlib.Core.Path.{_≡_, sym, ap, _∙_}
+use mathlib.Core.Path.{_≡_, refl, sym, ap, _∙_}
 use mathlib.Core.Bool.{Bool, true, false}
 use mathlib.Core.List.{List}
 use Prim.Native.Nat.{ℕ, _+_, _-_, _≤_, _<_}
@@ -15,19 +15,19 @@ use Rattle.unicode.specs.Ascii.{decode-ascii}
 use Rattle.unicode.specs.Walk.{isChar}
 use Rattle.meaning.specs.Characters.{inWord, inRun}
 use Rattle.meaning.specs.Tokens.{tokens}
-use Rattle.meaning.specs.declared.tokens.TokenKind.the-variants.{Whitespace, Word}
+use Rattle.meaning.specs.declared.tokens.TokenKind.the-variants.{Word}
 use Rattle.parser.specs.Lexing.{charsFrom, lexedAt}
 use Rattle.parser.specs.Scanning.{glueOf, spaceOf, scannedAt, scanFrom, wordOf, blankOf}
 use Rattle.parser.specs.Ascii.{plainAt, spaceAt, plain-char}
+use Rattle.parser.specs.Pairs.{oneSpace, PairAt}
 use Rattle.parser.specs.declared.lexeme.Lexeme.{Lexeme}
 use Rattle.parser.specs.declared.lexeme.Lexed.the-variants.{Token}
-use Rattle.rendering.specs.PlainWords.{isEnder, enderAt, PlainWord}
+use Rattle.rendering.specs.PlainWords.{isEnder, enderAt, PlainWord, Stride}
 use Rattle.parser.proofs.CharacterLaws.{ascii-word}
 use Rattle.parser.proofs.ScanLaws.{scan-stop, scan-end}
 use Rattle.parser.proofs.AsciiLaws.{plain-run}
 use Rattle.parser.proofs.LexerLaws.{plain-lexed, space-lexed}
 
--- The two as lexemes.
 abbrev pub plainWord : (from end : ℕ) → Lexeme
 plainWord from end =
     record {
@@ -37,17 +37,6 @@ plainWord from end =
       count = record { 0 = 0 };
       glues = record { 0 = 0 };
       reach = record { 0 = end + 1 };
-    }
-
-abbrev pub oneSpace : (at : ℕ) → Lexeme
-oneSpace at =
-    record {
-      kind = Whitespace;
-      end = record { 0 = at + 1 };
-      chars = record { 0 = 1 };
-      count = record { 0 = 1 };
-      glues = record { 0 = 0 };
-      reach = record { 0 = at + 1 + 1 };
     }
 
 -- ---- what ends a word
@@ -84,9 +73,18 @@ module _ (t : List ℕ) (at : ℕ) where
       ∙ ap (λ s. Token (wordOf s)) (w .letters .scans 1 0 ∙ scan-ends t end (1 + (end - (at + 1))) 0 (w .ends))
       ∙ ap (λ (k : ℕ). Token (wordOf (scannedAt end k 0 1))) n
 
-  pub space-read : spaceAt t at ≡ true → plainAt t (at + 1) ≡ true → lexedAt at (tokens (charsFrom t at)) ≡ Token (oneSpace at)
+  space-read : spaceAt t at ≡ true → plainAt t (at + 1) ≡ true → lexedAt at (tokens (charsFrom t at)) ≡ Token (oneSpace (at + 1) (at + 1 + 1))
   unfolding blankOf scannedAt
   space-read e f =
       let h = plain-char t (at + 1) f in
       let b = getD t (at + 1) 0 in
       sym (space-lexed t at e) ∙ ap (λ s. Token (blankOf s)) (scan-stop inRun spaceOf t (at + 1) 1 1 b 1 (h .1) (plain-run b (h .0)))
+
+pub plain-pair : (t : List ℕ) (at end : ℕ) → Stride t at end → PairAt t at (at + 1) (at + 1 + 1) (plainWord (at + 1) end)
+plain-pair t at end w =
+    record {
+      space = space-read t at (w .space) (w .word .first);
+      word = plain-read t (at + 1) end (w .word);
+      kind = refl;
+      farther = omega (arith, w .word .letters .forward);
+    }

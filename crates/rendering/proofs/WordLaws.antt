@@ -11,7 +11,7 @@ use lib.ListN.{length, take, length-take}
 use lib.Seq.{length-take-le, take-length, take-take}
 use Rattle.basis.specs.Choice.{pick}
 use Rattle.unicode.specs.Encoding.{size}
-use Rattle.meaning.specs.Tokens.{word, charsOf, sizeOf}
+use Rattle.meaning.specs.Tokens.{word, ender, charsOf, sizeOf}
 use Rattle.meaning.specs.Cursor.{roomOf, fitsIn}
 use Rattle.meaning.specs.Words.{glues}
 use Rattle.meaning.specs.LineIter.{cutWord, onWord, step}
@@ -46,6 +46,7 @@ pub record WordAt (t : List ℕ) (at : ℕ) (x : Lexeme) : Type 0 where
   pub end : x .end .0 ≡ at + size (wordAt t at x)
   pub few : x .chars .0 ≤ x .end .0 - at
   pub fewer : x .glues .0 ≤ x .chars .0
+  pub ends : x .reach .0 ≤ x .end .0 + ender (charsFrom t (x .end .0))
 
 tok-word : (t : List ℕ) (at : ℕ) (x : Lexeme) → x .kind ≡ Word → tokOf t at x ≡ word (wordAt t at x) (x .reach .0 - x .end .0)
 unfolding tokOf
@@ -60,7 +61,8 @@ word-at t at x h k =
     let chars : x .chars .0 ≡ length ws = ap (λ (y : Lexeme). y .chars .0) is in
     let gl : x .glues .0 ≡ glues ws = ap (λ (y : Lexeme). y .glues .0) is in
     let end : x .end .0 ≡ at + size ws = ap (λ (y : Lexeme). y .end .0) is in
-    record { tok = e; chars = chars; glues = gl; end = end; few = omega (arith, length-size ws); fewer = omega (arith, glues-length ws) }
+    let sound = rw e at (h .sound) in
+    record { tok = e; chars = chars; glues = gl; end = end; few = omega (arith, length-size ws); fewer = omega (arith, glues-length ws); ends = omega arith }
 
 -- ---- the numbers fit their types
 

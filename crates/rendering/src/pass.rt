@@ -91,7 +91,7 @@ pub fn run_pass(
     let mut seen = Foreseen::Nothing;
     loop {
         let g = strides_unless(text, s, p, at, held, sum, seen);
-        if g.waits.0 != 0 {
+        if g.waits.next.0 != 0 {
             return looked_to(reach, ends_waiting(text, s, g));
         }
         let here = g.place;

@@ -146,17 +146,16 @@ module _ (t : List ℕ) (i : ℕ) where
         black = black-low (value2 a b) (omega arith) (omega arith);
       }
 
-  pub long-three : i + 3 ≤ length t → Triple (getD t i 0) (getD t (i + 1) 0) (getD t (i + 2) 0) → Long t i 3
+  pub decode-three : i + 3 ≤ length t → Three (getD t i 0) (getD t (i + 1) 0) (getD t (i + 2) 0)
+      → decodeAt t i ≡ Char (value3 (getD t i 0) (getD t (i + 1) 0) (getD t (i + 2) 0)) 3
   unfolding decodeAt decodeHead seqLen pick value
-  long-three h x =
+  decode-three h x =
       let a = getD t i 0 in
       let b = getD t (i + 1) 0 in
       let c = getD t (i + 2) 0 in
-      let l = x .three .lead in
-      record {
-        char = value3 a b c;
-        is =
-            rw (three-bytes h, le-ltb a 0x80 (omega arith), le-ltb a 0xC0 (omega arith), le-ltb a 0xE0 (omega arith), lt-ltb a 0xF0 (omega arith))
-            (char-is (a ∷ b ∷ c ∷ []) (three-is a b c (x .three)));
-        black = x .black;
-      }
+      let l = x .lead in
+      rw (three-bytes h, le-ltb a 0x80 (omega arith), le-ltb a 0xC0 (omega arith), le-ltb a 0xE0 (omega arith), lt-ltb a 0xF0 (omega arith))
+      (char-is (a ∷ b ∷ c ∷ []) (three-is a b c x))
+
+  pub long-three : i + 3 ≤ length t → Triple (getD t i 0) (getD t (i + 1) 0) (getD t (i + 2) 0) → Long t i 3
+  long-three h x = record { char = value3 (getD t i 0) (getD t (i + 1) 0) (getD t (i + 2) 0); is = decode-three h (x .three); black = x .black }

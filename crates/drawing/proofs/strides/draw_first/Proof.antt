@@ -77,24 +77,26 @@ put-one-requires c κs =
       omega (arith, w .inside, r .short),
     )
 
+stands-at-requires : tie.Need-stands-at-requires
+stands-at-requires c κs = search needs
+
 same-length : tie.Need-same-length
 same-length c = search needs
 
 returns : tie.Need-returns
 returns c =
-    let f = c .before .before in
+    let f = c .before .before .before in
     let q = f .before .before in
     let i = q .before in
     let s = begin (i .before .before) in
-    strode-to 0 refl
+    strode-to (c .stands-at .ensures) refl
     (drew-word (s .pre) (s .args .events .now) _ (f .put-one .result) _ (found i .0) (fitting i) _ (q .word-place .ensures) (f .put-one .ensures))
-    (λ d. absurd (d refl))
+
+stands-at-requires-2 : tie.Need-stands-at-requires-2
+stands-at-requires-2 c κs = search needs
 
 returns-2 : tie.Need-returns-2
-returns-2 c = strode-to 0 refl (drew-none (begin (c .before .before) .pre)) (λ d. absurd (d refl))
-
-returns-3 : tie.Need-returns-3
-returns-3 c = strode-to 0 refl (drew-none (c .before .before .before .before .pre)) (λ d. absurd (d refl))
+returns-2 c = strode-to (c .stands-at2 .ensures) refl (drew-none (c .before .before .before .before .before .pre))
 
 pub draw-first-spec : {M : Type 1} → statement M
 draw-first-spec =
@@ -109,7 +111,8 @@ draw-first-spec =
     word-place-requires
     mul-put-one
     put-one-requires
+    stands-at-requires
     same-length
     returns
-    returns-2
-    returns-3)
+    stands-at-requires-2
+    returns-2)

@@ -20,8 +20,11 @@ returns c =
     let i = g .before .before in
     strode-rest (i .before .before .before .before .pre) (i .if1 .taken) (g .draw-words .ensures)
 
+stands-at-requires : tie.Need-stands-at-requires
+stands-at-requires c κs = search needs
+
 returns-2 : tie.Need-returns-2
-returns-2 c = strode-to 0 refl (drew-none (c .before .before .before .before .pre)) (λ d. absurd (d refl))
+returns-2 c = strode-to (c .stands-at .ensures) refl (drew-none (c .before .before .before .before .before .pre))
 
 pub draw-on-spec : {M : Type 1} → statement M
-draw-on-spec = tie.close (tie.spec draw-words-requires same-length returns returns-2)
+draw-on-spec = tie.close (tie.spec draw-words-requires same-length returns stands-at-requires returns-2)

@@ -1,16 +1,17 @@
 -- `drawing::strides::draw_strides` meets its contract.
 -- Assumes nothing.
-use mathlib.Core.Path.{_≡_, refl, _∙_}
+use mathlib.Core.Path.{_≡_, refl, ap, _∙_}
 use Prim.Native.Nat.{_+_, _-_, _*_, _≤_}
 use native.Mathlib.Omega.{arith}
 use lib.ListN.{length}
+use Rattle.meaning.specs.declared.cursor.Place.{Place}
 use Rattle.rendering.specs.FineLaws.{times-bound}
 use Rattle.rendering.specs.Unrolled.{nothingResumed}
 use Rattle.rendering.specs.PlainWords.{Stride}
 use Rattle.rendering.specs.Strides.{strodePlace}
 use Rattle.rendering.proofs.GoesLaws.{stride-waits}
 use Rattle.drawing.specs.DrawingOn.{Drew}
-use Rattle.drawing.proofs.OnwardEvents.{drew-start, drew-on, drew-stride, strode-to}
+use Rattle.drawing.proofs.OnwardEvents.{drew-start, drew-on, drew-stride, strode-to, strode-waits, strode-full}
 use borrow.Author.Needs.{needs}
 use Rattle.drawing.proofs.strides.draw_strides.Statement.{statement}
 use Rattle.drawing.proofs.strides.draw_strides.Tie as tie
@@ -48,11 +49,16 @@ stride-end-requires c κs = c .loop .inv .0 .ready .pass .short
 strode-requires : tie.Need-strode-requires Inv-loop μ-loop
 strode-requires c κs = search needs
 
+stands-at-requires : tie.Need-stands-at-requires Inv-loop μ-loop
+stands-at-requires c κs = search needs
+
 same-length : tie.Need-same-length Inv-loop μ-loop
-same-length c = c .before .before .before .loop .inv .1
+same-length c = c .before .before .before .before .loop .inv .1
 
 returns : tie.Need-returns Inv-loop μ-loop
-returns c = strode-to 0 (c .strode .ensures) (c .before .before .before .loop .inv .0) (λ d. absurd (d refl))
+returns c =
+    let q = c .before in
+    (strode-to (c .stands-at .ensures) (q .strode .ensures) (q .before .before .before .loop .inv .0), strode-full _ _ (c .stands-at .ensures) (q .strode .ensures) refl)
 
 lesser-requires : tie.Need-lesser-requires Inv-loop μ-loop
 lesser-requires c κs = search needs
@@ -83,17 +89,35 @@ add-if2 c = record { fits = omega (arith, thin (c .before), wide (c .before .bef
 strode-requires-2 : tie.Need-strode-requires-2 Inv-loop μ-loop
 strode-requires-2 c κs = search needs
 
+-- Where the word waits.
+waiting : (c : tie.After-strode2 Inv-loop μ-loop) →
+    let e = c .before .before .before .before in
+    (e .before .before .loop .at + 1 ≤ 65535) × (e .before .stride-end .result ≤ 65535)
+waiting c =
+    let e = c .before .before .before .before in
+    let w = found e .word .letters in
+    omega (arith, begin (e .before) .pre .0 .pass .short, w .inside, w .forward)
+
+add-plain-waits : tie.Need-add-plain-waits Inv-loop μ-loop
+add-plain-waits c = record { fits = omega (arith, waiting c) }
+
+plain-waits-requires : tie.Need-plain-waits-requires Inv-loop μ-loop
+plain-waits-requires c κs = waiting c
+
 same-length-2 : tie.Need-same-length-2 Inv-loop μ-loop
-same-length-2 c = c .before .before .before .before .before .before .loop .inv .1
+same-length-2 c = c .before .before .before .before .before .before .before .loop .inv .1
 
 returns-2 : tie.Need-returns-2 Inv-loop μ-loop
 returns-2 c =
-    let i = c .before in
+    let q = c .before in
+    let i = q .before in
     let k = i .before .before in
     let e = k .before in
-    let l = e .before .before in
-    strode-to (e .before .stride-end .result) (c .strode2 .ensures) (l .loop .inv .0)
-    (λ d. (stride-waits (l .loop .inv .0 .ready .pass) refl _ (found e) _ _ (k .lesser .ensures) refl (i .if2 .taken), refl, refl))
+    let l = e .before .before in (
+      strode-waits (c .plain-waits .result) (q .strode2 .ensures) (l .loop .inv .0)
+          (stride-waits (l .loop .inv .0 .ready .pass) refl _ (found e) _ _ (k .lesser .ensures) refl (i .if2 .taken) _ (c .plain-waits .ensures), refl, refl),
+      ap (λ (z : Place). z .empty) (q .strode2 .ensures),
+    )
 
 put-stride-requires : tie.Need-put-stride-requires Inv-loop μ-loop
 put-stride-requires c κs =
@@ -148,6 +172,7 @@ draw-strides-spec =
     loop-holds
     stride-end-requires
     strode-requires
+    stands-at-requires
     same-length
     returns
     lesser-requires
@@ -159,6 +184,8 @@ draw-strides-spec =
     sub-if2
     add-if2
     strode-requires-2
+    add-plain-waits
+    plain-waits-requires
     same-length-2
     returns-2
     put-stride-requires

@@ -2,7 +2,7 @@
 -- Assumes nothing.
 use mathlib.Core.Path.{refl}
 use Rattle.rendering.proofs.GoesLaws.{nothing-foreseen}
-use Rattle.drawing.proofs.OnwardEvents.{drew-none, strode-to}
+use Rattle.drawing.proofs.OnwardEvents.{stays-foreseen, drew-none, strode-to}
 use borrow.Author.Needs.{needs}
 use Rattle.drawing.proofs.strides.draw_unless.Statement.{statement}
 use Rattle.drawing.proofs.strides.draw_unless.Tie as tie
@@ -10,8 +10,14 @@ use Rattle.drawing.proofs.strides.draw_unless.Tie as tie
 enum-told : tie.Need-enum-told
 enum-told c = search needs
 
+stands-at-requires : tie.Need-stands-at-requires
+stands-at-requires c κs = search needs
+
 returns : tie.Need-returns
-returns c = let h = c .before .before .before .before .pre in (strode-to 0 refl (drew-none (h .0)) (λ d. absurd (d refl)), h .1)
+returns c =
+    let b = c .before .before .before .before .before in
+    let a = b .args in
+    (strode-to (c .stands-at .ensures) refl (drew-none (b .pre .0)), stays-foreseen (a .s) (a .p) (a .text .now) (a .at) (a .rest) (a .seen) (a .pen) _ (c .stands-at .ensures) (b .pre .1))
 
 enum-told-2 : tie.Need-enum-told-2
 enum-told-2 c = search needs
@@ -32,4 +38,4 @@ returns-2 c =
 
 pub draw-unless-spec : {M : Type 1} → statement M
 draw-unless-spec =
-    tie.close (tie.spec enum-told returns enum-told-2 draw-on-requires same-length returns-2)
+    tie.close (tie.spec enum-told stands-at-requires returns enum-told-2 draw-on-requires same-length returns-2)

@@ -6,6 +6,7 @@ use Prim.Native.Nat.{_+_, _≤_, _<_}
 use native.Mathlib.Omega.{arith}
 use Rattle.meaning.specs.Cursor.{fitsIn}
 use Rattle.rendering.specs.FineLaws.{fits-room}
+use Rattle.rendering.proofs.OnwardLaws.{read-pending}
 use Rattle.drawing.specs.Sheet.{sheet, drawnOn, on-none}
 use Rattle.drawing.proofs.StrideEvents.{waits-wide, waits-thin, waits-cut}
 use Rattle.drawing.proofs.WordEvents.{was-false, was-true}
@@ -23,16 +24,16 @@ fitting c = sym (c .before .fits2 .ensures) ∙ was-true _ (c .if1 .left)
 -- What a put of the space asks.
 asked : (c : tie.Else1) →
     let g = begin (c .before .before) .args .g in
-    (g .pen .next ≤ 1000000000) × (g .pen .x .0 + c .before .before .spaces-width .result < 4294967296) × (g .at ≤ 65535) × (g .at + 1 ≤ 65535)
+    (g .pen .next ≤ 1000000000) × (g .pen .x .0 + c .before .before .spaces-width .result < 4294967296) × (g .at ≤ 65535) × (g .waits .next .0 ≤ 65535)
 asked c =
     let s = begin (c .before .before) in
     let h = s .pre .0 in
     let r = h .pass in
-    let w = s .pre .1 .stride .word .letters in (
+    let w = read-pending _ _ _ (s .pre .1 .pair .space) .stands in (
       omega (arith, h .few, r .inside, r .short),
       omega (arith, h .narrow, r .inside, r .short, r .place .0, fits-room (s .args .g .place .cursor) _ (fitting c)),
       omega (arith, r .inside, r .short),
-      omega (arith, w .forward, w .inside, r .short),
+      omega (arith, w .within, r .short),
     )
 
 spaces-width-requires : tie.Need-spaces-width-requires
@@ -50,8 +51,8 @@ returns c =
     ∙ ap (drawnOn sh)
     (sym (waits-cut (s .pre .0 .pass) _ (s .pre .1) _ (w .spaces-width .ensures) (sym (c .before .fits2 .ensures) ∙ was-false _ (c .if1 .taken))))
 
-add-put-one : tie.Need-add-put-one
-add-put-one c = record { fits = omega (arith, asked (c .before .before .before .before) .3) }
+cast-next : tie.Need-cast-next
+cast-next c = search needs
 
 put-one-requires : tie.Need-put-one-requires
 put-one-requires c κs = asked (c .before .before .before .before)
@@ -62,16 +63,13 @@ same-length c = search needs
 returns-2 : tie.Need-returns-2
 returns-2 c =
     let f = c .before .before in
-    let i = f .before .before .before in
-    let e = i .before .before in
+    let i = f .before .before in
+    let e = i .before .before .before in
     let w = e .before .before in
     let s = begin w in
     f .put-one .ensures
     ∙ ap (drawnOn (sheet (s .args .events .now) (s .args .g .pen)))
     (sym (waits-wide (s .pre .0 .pass) _ (s .pre .1) _ (w .spaces-width .ensures) (fitting e) (i .if2 .taken)))
-
-add-put-one-2 : tie.Need-add-put-one-2
-add-put-one-2 c = record { fits = omega (arith, asked (c .before .before .before .before) .3) }
 
 put-one-requires-2 : tie.Need-put-one-requires-2
 put-one-requires-2 c κs =
@@ -84,8 +82,8 @@ same-length-2 c = search needs
 returns-3 : tie.Need-returns-3
 returns-3 c =
     let f = c .before .before in
-    let i = f .before .before .before in
-    let e = i .before .before in
+    let i = f .before .before in
+    let e = i .before .before .before in
     let w = e .before .before in
     let s = begin w in
     f .put-one2 .ensures
@@ -99,11 +97,10 @@ draw-waiting-spec =
     spaces-width-requires
     fits-requires
     returns
-    add-put-one
+    cast-next
     put-one-requires
     same-length
     returns-2
-    add-put-one-2
     put-one-requires-2
     same-length-2
     returns-3)

@@ -8,19 +8,13 @@ use Rattle.rendering.proofs.strides.ends_waiting.Statement.{statement}
 use Rattle.rendering.proofs.strides.ends_waiting.Tie as tie
 
 abbrev begin : tie.After-spaces-width → tie.Start
-begin c = c .before .before .before .before .before .before .before
-
-add-next : tie.Need-add-next
-add-next c = search needs
+begin c = c .before .before .before .before .before .before
 
 spaces-width-requires : tie.Need-spaces-width-requires
 spaces-width-requires c κs = search needs
 
 fits-requires : tie.Need-fits-requires
 fits-requires c κs = search needs
-
-add-ends-before : tie.Need-add-ends-before
-add-ends-before c = search needs
 
 ends-before-requires : tie.Need-ends-before-requires
 ends-before-requires c κs = search needs
@@ -33,12 +27,9 @@ returns c =
     let s = begin w in
     c .ends-before .ensures ∙ waits-cut (s .pre .0) _ (s .pre .1) _ (w .spaces-width .ensures) (sym (f .fits2 .ensures) ∙ not-true _ (i .if1 .taken))
 
-add-far : tie.Need-add-far
-add-far c = let s = begin (c .before .before .before) in record { fits = omega (arith, s .pre .1 .stride .word .letters .inside, s .pre .0 .short) }
-
 noted-space-requires : tie.Need-noted-space-requires
 noted-space-requires c κs =
-    let i = c .before .before .before in
+    let i = c .before .before in
     let f = i .before in
     let s = begin (f .before) in
     let r = s .pre .0 in
@@ -50,7 +41,7 @@ ends-before-requires-2 c κs = search needs
 returns-2 : tie.Need-returns-2
 returns-2 c =
     let n = c .before in
-    let i = n .before .before .before .before in
+    let i = n .before .before .before in
     let f = i .before in
     let w = f .before in
     let s = begin w in
@@ -59,7 +50,7 @@ returns-2 c =
 
 noted-space-requires-2 : tie.Need-noted-space-requires-2
 noted-space-requires-2 c κs =
-    let r = begin (c .before .before .before .before .before) .pre .0 in
+    let r = begin (c .before .before .before .before) .pre .0 in
     omega (arith, r .small, r .inside, r .short)
 
 ends-before-requires-3 : tie.Need-ends-before-requires-3
@@ -68,7 +59,7 @@ ends-before-requires-3 c κs = search needs
 returns-3 : tie.Need-returns-3
 returns-3 c =
     let n = c .before in
-    let i = n .before .before .before .before in
+    let i = n .before .before .before in
     let f = i .before in
     let w = f .before in
     let s = begin w in
@@ -79,13 +70,10 @@ pub ends-waiting-spec : {M : Type 1} → statement M
 ends-waiting-spec =
     tie.close
     (tie.spec
-    add-next
     spaces-width-requires
     fits-requires
-    add-ends-before
     ends-before-requires
     returns
-    add-far
     noted-space-requires
     ends-before-requires-2
     returns-2

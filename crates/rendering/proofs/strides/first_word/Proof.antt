@@ -60,23 +60,30 @@ word-place-requires c κs =
     let i = c .before .before in
     (begin (i .before .before) .pre .place, fitting i)
 
+nothing-waits-requires : tie.Need-nothing-waits-requires
+nothing-waits-requires c κs = search needs
+
 stands-at-requires : tie.Need-stands-at-requires
 stands-at-requires c κs =
-    let i = c .before .before .before in
+    let i = c .before .before .before .before in
     omega (arith, found i .0 .letters .inside, begin (i .before .before) .pre .short)
 
 returns : tie.Need-returns
 returns c =
-    let q = c .before in
+    let q = c .before .before in
     let n = q .before in
     let i = n .before .before in
-    goes-to _ (c .stands-at .ensures) (plain-goes (begin (i .before .before) .pre) _ (found i .0) (fitting i) _ _ (q .word-place .ensures) (n .word-measure .ensures))
+    goes-to _ (c .before .nothing-waits .ensures) (c .stands-at .ensures)
+    (plain-goes (begin (i .before .before) .pre) _ (found i .0) (fitting i) _ _ (q .word-place .ensures) (n .word-measure .ensures))
+
+nothing-waits-requires-2 : tie.Need-nothing-waits-requires-2
+nothing-waits-requires-2 c κs = search needs
 
 stands-at-requires-2 : tie.Need-stands-at-requires-2
-stands-at-requires-2 c κs = let r = c .before .before .before .pre in omega (arith, r .inside, r .short)
+stands-at-requires-2 c κs = let r = c .before .before .before .before .pre in omega (arith, r .inside, r .short)
 
 returns-2 : tie.Need-returns-2
-returns-2 c = goes-to _ (c .stands-at2 .ensures) (onward-none (c .before .before .before .before .pre))
+returns-2 c = goes-to _ (c .before .nothing-waits2 .ensures) (c .stands-at2 .ensures) (onward-none (c .before .before .before .before .before .pre))
 
 pub first-word-spec : {M : Type 1} → statement M
 first-word-spec =
@@ -90,7 +97,9 @@ first-word-spec =
     cast-n
     word-measure-requires
     word-place-requires
+    nothing-waits-requires
     stands-at-requires
     returns
+    nothing-waits-requires-2
     stands-at-requires-2
     returns-2)

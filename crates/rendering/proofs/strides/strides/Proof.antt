@@ -10,7 +10,7 @@ use Rattle.rendering.specs.PlainWords.{Stride}
 use Rattle.rendering.specs.Strides.{strodePlace, Onward}
 use Rattle.rendering.proofs.OnwardLaws.{onward-on}
 use Rattle.rendering.proofs.StrideLaws.{stride-goes}
-use Rattle.rendering.proofs.GoesLaws.{strides-start, strides-end, stride-waits}
+use Rattle.rendering.proofs.GoesLaws.{strides-start, strides-end, none-waits, stride-waits}
 use Rattle.rendering.proofs.strides.strides.Statement.{statement}
 use Rattle.rendering.proofs.strides.strides.Tie as tie
 
@@ -35,6 +35,15 @@ wide c =
     let w = found c .word .letters in
     times-bound {n = 65535} (c .before .stride-end .result - (c .before .before .loop .at + 1)) (s .args .s .glyph .0) (omega (arith, w .inside, s .pre .0 .short)) (s .pre .0 .settings .1)
 
+-- Where it waits.
+waiting : (c : tie.After-printed-at2 Inv-loop μ-loop) →
+    let e = c .before .before .before .before .before in
+    (e .before .before .loop .at + 1 ≤ 65535) × (e .before .stride-end .result ≤ 65535)
+waiting c =
+    let e = c .before .before .before .before .before in
+    let w = found e .word .letters in
+    omega (arith, begin (e .before) .pre .0 .short, w .inside, w .forward)
+
 loop-holds : tie.Need-loop-holds Inv-loop μ-loop
 loop-holds c = strides-start (c .before .pre)
 
@@ -47,16 +56,21 @@ strode-requires c κs = search needs
 printed-at-requires : tie.Need-printed-at-requires Inv-loop μ-loop
 printed-at-requires c κs = search needs
 
+nothing-waits-requires : tie.Need-nothing-waits-requires Inv-loop μ-loop
+nothing-waits-requires c κs = search needs
+
 stands-at-requires : tie.Need-stands-at-requires Inv-loop μ-loop
 stands-at-requires c κs =
-    let i = c .before .before .before .before .loop .inv .ready in
+    let i = c .before .before .before .before .before .loop .inv .ready in
     omega (arith, i .inside, i .short)
 
 returns : tie.Need-returns Inv-loop μ-loop
 returns c =
-    let a = c .before in
+    let w = c .before in
+    let a = w .before in
     let l = a .before .before .before .before in
-    strides-end (l .before .before .pre) (l .loop .at) 0 (a .before .strode .ensures) (a .printed-at .ensures) (c .stands-at .ensures) (l .loop .inv) (λ d. absurd (d refl))
+    strides-end (l .before .before .pre) (l .loop .at) (w .nothing-waits .result) (a .before .strode .ensures) (a .printed-at .ensures) (c .stands-at .ensures) (l .loop .inv) refl
+    (none-waits _ (w .nothing-waits .ensures))
 
 lesser-requires : tie.Need-lesser-requires Inv-loop μ-loop
 lesser-requires c κs = search needs
@@ -93,21 +107,25 @@ strode-requires-2 c κs = search needs
 printed-at-requires-2 : tie.Need-printed-at-requires-2 Inv-loop μ-loop
 printed-at-requires-2 c κs = search needs
 
+add-plain-waits : tie.Need-add-plain-waits Inv-loop μ-loop
+add-plain-waits c = omega (arith, waiting c)
+
+plain-waits-requires : tie.Need-plain-waits-requires Inv-loop μ-loop
+plain-waits-requires c κs = waiting c
+
 stands-at-requires-2 : tie.Need-stands-at-requires-2 Inv-loop μ-loop
-stands-at-requires-2 c κs =
-    let e = c .before .before .before .before .before in
-    let i = e .before .before .loop .inv .ready in
-    omega (arith, i .inside, i .short, found e .word .letters .inside)
+stands-at-requires-2 c κs = omega (arith, waiting (c .before))
 
 returns-2 : tie.Need-returns-2 Inv-loop μ-loop
 returns-2 c =
-    let a = c .before in
+    let w = c .before in
+    let a = w .before in
     let i = a .before .before in
     let k = i .before .before in
     let e = k .before in
     let l = e .before .before in
-    strides-end (l .before .before .pre) (l .loop .at) (e .before .stride-end .result) (a .before .strode2 .ensures) (a .printed-at2 .ensures) (c .stands-at2 .ensures) (l .loop .inv)
-    (λ d. stride-waits (l .loop .inv .ready) refl _ (found e) _ _ (k .lesser .ensures) refl (i .if2 .taken))
+    strides-end (l .before .before .pre) (l .loop .at) (w .plain-waits .result) (a .before .strode2 .ensures) (a .printed-at2 .ensures) (c .stands-at2 .ensures) (l .loop .inv) refl
+    (λ d. stride-waits (l .loop .inv .ready) refl _ (found e) _ _ (k .lesser .ensures) refl (i .if2 .taken) _ (w .plain-waits .ensures))
 
 add-position : tie.Need-add-position Inv-loop μ-loop
 add-position c =
@@ -149,6 +167,7 @@ strides-spec =
     stride-end-requires
     strode-requires
     printed-at-requires
+    nothing-waits-requires
     stands-at-requires
     returns
     lesser-requires
@@ -161,6 +180,8 @@ strides-spec =
     sub-if2
     strode-requires-2
     printed-at-requires-2
+    add-plain-waits
+    plain-waits-requires
     stands-at-requires-2
     returns-2
     add-position

@@ -1,0 +1,27 @@
+// Where the drawing of a line stands between two tokens, and what waits there for the next line.
+use crate::pen::Pen;
+use meaning::cursor::Place;
+use rendering::going::Waiting;
+use rendering::going::nothing_waits;
+ghost use mathlib.Core.Path.{_≡_};
+ghost use Rattle.drawing.specs.DrawingOn.{standingAt};
+
+pub struct Going {
+    pub place: Place,
+    pub at: usize,
+    pub pen: Pen,
+    pub waits: Waiting,
+}
+
+// Nothing waits there.
+pub fn stands_at(place: Place, at: usize, pen: Pen) -> Going
+    ensures { λ r. ⌜ r ≡ standingAt place at pen ⌝ }
+{
+    let waits = nothing_waits();
+    Going {
+        place,
+        at,
+        pen,
+        waits,
+    }
+}
