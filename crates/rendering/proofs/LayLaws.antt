@@ -2,7 +2,7 @@
 -- Assumes nothing.
 use Prim.Native.Nat.{ℕ, _≤_}
 use native.Mathlib.Omega.{arith}
-use mathlib.Core.Path.{_≡_, sym, ap, _∙_}
+use mathlib.Core.Path.{_≡_, refl, sym, ap, _∙_}
 use mathlib.Core.Bool.{true}
 use mathlib.Core.List.{List}
 use Rattle.meaning.specs.Line.{unmeasured, measuredWidth, measuredCount, startPlace}
@@ -14,13 +14,16 @@ use Rattle.rendering.specs.Fine.{FineSpaces}
 use Rattle.rendering.specs.FineSteps.{plain-fine, start-fine}
 use Rattle.rendering.specs.PlaceLaws.{place-fine}
 use Rattle.rendering.specs.Stepping.{ranFrom}
-use Rattle.rendering.specs.Running.{PassReady}
+use Rattle.rendering.specs.Unrolled.{nothingResumed}
+use Rattle.rendering.specs.Running.{PassReady, none-fits}
 use Rattle.rendering.specs.LineFrom.{lineFrom}
 use Rattle.rendering.specs.Laying.{LineReady, passedFrom, plainly, isPlain, placedBy, laidAt, line-passes, plain-is}
 use Rattle.rendering.specs.LineLaws.{placed-count}
+use Rattle.rendering.specs.Quick.{DrawnAlike}
 use Rattle.rendering.specs.declared.step.Resumed.{Resumed}
 use Rattle.rendering.specs.declared.step.Ended.{Ended}
 use Rattle.rendering.specs.declared.line.LineAt.{LineAt}
+use Rattle.rendering.proofs.FairLaws.{laid-same}
 
 module _ {s : Settings} {t : List ℕ} {at : ℕ} {r : Resumed} (h : LineReady s t at r) where
   -- ---- one pass
@@ -63,3 +66,27 @@ module _ {s : Settings} {t : List ℕ} {at : ℕ} {r : Resumed} (h : LineReady s
       -- A line that is placed as it was measured is drawn as it was.
       pub laid-once : isPlain s p ≡ true → l ≡ laidAt at r p width (first .reach .0) first → l ≡ lineFrom s t at r
       laid-once e f = laid-twice first (measured ∙ ap (passedFrom s t at r) (is ∙ sym (plain-is s p e))) f
+
+-- ---- a line that is drawn as it was measured
+
+module _ {s : Settings} {t : List ℕ} {at : ℕ} {r : Resumed} (h : LineReady s t at r) (none : r .chars .0 ≡ 0) where
+  pub rested : LineReady s t at nothingResumed
+  rested = record { settings = h .settings; short = h .short; inside = h .inside; rest = none-fits t at nothingResumed refl }
+
+  passed-rested : (p : Placed) → passedFrom s t at nothingResumed p ≡ passedFrom s t at r p
+  unfolding passedFrom
+  passed-rested p =
+      let count : r .count .0 ≡ 0 = omega (arith, h .rest .counts) in
+      λ i. ranFrom s (startPlace s (p .left .0) (p .spaces)) t at (sym none i) (sym count i) unmeasured
+
+  module _ (e : Ended) (d : DrawnAlike s t at e) where
+    pub alike-few : measuredCount s (e .measure) ≤ 65535
+    alike-few = few-spaces h (plainly s) e refl (d .measured ∙ passed-rested (plainly s))
+
+    pub laid-alike : (l : LineAt) → l ≡ laidAt at r (placedBy s e) (measuredWidth s (e .measure)) (e .reach .0) e → l ≡ lineFrom s t at r
+    laid-alike l f =
+        let p = placedBy s e in
+        let width = measuredWidth s (e .measure) in
+        laid-twice h (plainly s) e refl (d .measured ∙ passed-rested (plainly s)) width p l refl refl
+        (passedFrom s t at nothingResumed p) (passed-rested p)
+        (f ∙ laid-same at r p width e (passedFrom s t at nothingResumed p) (d .drawn))

@@ -1,5 +1,8 @@
 pub mod BeyondLaws
+pub mod CountLaws
+pub mod CountingLaws
 pub mod DrawLaws
+pub mod FairLaws
 pub mod FitsLaws
 pub mod GoesLaws
 pub mod HyphenLaws
@@ -11,8 +14,10 @@ pub mod OnwardLaws
 pub mod PairLaws
 pub mod PassLaws
 pub mod PlainLaws
+pub mod QuickLaws
 pub mod RestLaws
 pub mod RunLaws
+pub mod ShortLaws
 pub mod StrideLaws
 pub mod TabLaws
 pub mod WaitLaws

@@ -48,11 +48,11 @@ ender-ascii b e =
     (λ p. let q = eqb-true b 0x20 p in rw q (omega arith, ascii-word 0x20 (omega arith)))
     (λ p. let q = eqb-true b 0x0A p in rw q (omega arith, ascii-word 0x0A (omega arith)))
 
-past-end : (t : List ℕ) (i : ℕ) → length t ≤ i → isChar (decodeAt t i) ≡ false
+pub past-end : (t : List ℕ) (i : ℕ) → length t ≤ i → isChar (decodeAt t i) ≡ false
 unfolding decodeAt decodeHead
 past-end t i h = rw (drop-of-length-le t h)
 
-scan-ends : (t : List ℕ) (i n w : ℕ) → enderAt t i ≡ true → scanFrom inWord glueOf i n w (charsFrom t i) ≡ scannedAt i n w 1
+pub scan-ends : (t : List ℕ) (i n w : ℕ) → enderAt t i ≡ true → scanFrom inWord glueOf i n w (charsFrom t i) ≡ scannedAt i n w 1
 unfolding enderAt
 scan-ends t i n w =
     pick-cases (λ (b : Bool). b ≡ true → scanFrom inWord glueOf i n w (charsFrom t i) ≡ scannedAt i n w 1) (ltb i (length t))

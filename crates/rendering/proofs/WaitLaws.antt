@@ -38,7 +38,7 @@ use Rattle.rendering.proofs.OnwardLaws.{read-pending, read-ready, stops
 use Rattle.rendering.proofs.StrideLaws.{stays, behind, looks-all, looks-word, space-goes}
 
 -- It has looked as far as that and no farther.
-far-ends : (e : LineEnd) (m : Measure) (next dropped reach : ℕ) → farther reach (endsBefore e m next dropped 0) ≡ endsBefore e m next dropped reach
+pub far-ends : (e : LineEnd) (m : Measure) (next dropped reach : ℕ) → farther reach (endsBefore e m next dropped 0) ≡ endsBefore e m next dropped reach
 unfolding farther endsBefore
 far-ends e m next dropped reach = let z : max reach 0 ≡ reach = omega arith in rw z
 

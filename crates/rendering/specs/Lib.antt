@@ -20,3 +20,4 @@ pub mod PlainWords
 pub mod Strides
 pub mod Laying
 pub mod LineLaws
+pub mod Quick

@@ -17,6 +17,8 @@ pub mod pass;
 pub mod pending;
 pub mod place;
 pub mod plain_words;
+pub mod quick;
+pub mod short_words;
 pub mod space_config;
 pub mod spaces;
 pub mod step;

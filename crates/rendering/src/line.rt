@@ -8,6 +8,8 @@ use crate::measure::measured_width;
 use crate::measure::nothing_measured;
 use crate::pass::run_pass;
 use crate::place::start_place;
+use crate::quick::Quick;
+use crate::quick::quick_line;
 use crate::step::Ended;
 use crate::step::Resumed;
 use meaning::counts::Offset;
@@ -18,7 +20,7 @@ use meaning::line::Placed;
 use meaning::settings::Settings;
 ghost use Prim.Native.Nat.{_≤_};
 ghost use mathlib.Core.Path.{_≡_};
-ghost use Rattle.meaning.specs.Line.{measuredCount};
+ghost use Rattle.meaning.specs.Line.{measuredWidth, measuredCount};
 ghost use Rattle.rendering.specs.Fine.{FineSettings, FineSpaces};
 ghost use Rattle.rendering.specs.Knowing.{KnownFits};
 ghost use Rattle.rendering.specs.LineFrom.{lineFrom};
@@ -92,9 +94,19 @@ fn laid_at(at: u32, rest: Resumed, p: Placed, width: u32, looked: u32, e: Ended)
     }
 }
 
-// The line at an offset of a text, after a rest that it resumes, where a word may be known. One that is placed as it was measured
-// is drawn as it was.
-pub fn lay_line(text: &[u8], s: Settings, at: usize, rest: Resumed, known: Known) -> LineAt
+// The line whose drawing pass ends as its measuring pass did.
+fn laid_alike(s: Settings, at: u32, rest: Resumed, e: Ended) -> LineAt
+    requires { ⌜ FineSettings s × (measuredCount s (e .measure) ≤ 65535) ⌝ }
+    ensures { λ r. ⌜ r ≡ laidAt at rest (placedBy s e) (measuredWidth s (e .measure)) (e .reach .0) e ⌝ }
+{
+    let m = e.measure;
+    let width = measured_width(s, m);
+    let p = placed_by(s, e);
+    laid_at(at, rest, p, width, e.reach.0, e)
+}
+
+// The line in two passes. One that is placed as it was measured is drawn as it was.
+fn lay_twice(text: &[u8], s: Settings, at: usize, rest: Resumed, known: Known) -> LineAt
     requires { ⌜ LineReady s (now text) at rest × KnownFits (now text) known ⌝ }
     ensures { λ r. ⌜ r ≡ lineFrom s (now (text .entry)) at rest ⌝ }
 {
@@ -107,4 +119,17 @@ pub fn lay_line(text: &[u8], s: Settings, at: usize, rest: Resumed, known: Known
     }
     let drawn = pass_over(text, s, at, rest, p, known);
     laid_at(at as u32, rest, p, width, first.reach.0, drawn)
+}
+
+// The line at an offset of a text, after a rest that it resumes, where a word may be known.
+pub fn lay_line(text: &[u8], s: Settings, at: usize, rest: Resumed, known: Known) -> LineAt
+    requires { ⌜ LineReady s (now text) at rest × KnownFits (now text) known ⌝ }
+    ensures { λ r. ⌜ r ≡ lineFrom s (now (text .entry)) at rest ⌝ }
+{
+    if rest.chars.0 == 0 {
+        if let Quick::Line(e) = quick_line(text, s, at) {
+            return laid_alike(s, at as u32, rest, e);
+        }
+    }
+    lay_twice(text, s, at, rest, known)
 }

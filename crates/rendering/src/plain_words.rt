@@ -18,7 +18,7 @@ fn is_ender(b: u8) -> bool
 }
 
 // Does a word end at a position: before a space, a line feed or the text's end.
-fn ends_word(text: &[u8], at: usize) -> bool
+pub fn ends_word(text: &[u8], at: usize) -> bool
     ensures { λ r. ⌜ r ≡ enderAt (now (text .entry)) at ⌝ }
 {
     if at < text.len() {

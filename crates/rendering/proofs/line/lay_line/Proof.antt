@@ -1,87 +1,60 @@
-use Rattle.rendering.proofs.LayLaws.{plain-ready, few-spaces, placed-ready, laid-twice, laid-once}
-use Rattle.rendering.specs.Laying.{LineReady}
-use Rattle.rendering.specs.Knowing.{KnownFits}
-use native.Mathlib.Omega.{arith}
-use mathlib.Core.Path.{refl, sym, _∙_}
+use mathlib.Core.Path.{subst}
 use borrow.Author.Needs.{needs}
+use Rattle.rendering.specs.Quick.{DrawnAlike, QuickLine}
+use Rattle.rendering.proofs.LayLaws.{rested, alike-few, laid-alike}
 use Rattle.rendering.proofs.line.lay_line.Statement.{statement}
 use Rattle.rendering.proofs.line.lay_line.Tie as tie
 
-ready : (c : tie.After-placed-plainly) →
-    let a = c .before .before .args in
-    LineReady (a .s) (a .text .now) (a .at) (a .rest)
-ready c = c .before .before .pre .0
+abbrev begin : tie.Then1 → tie.Start
+begin c = c .before .before .before
 
-known : (c : tie.After-placed-plainly) → let a = c .before .before .args in KnownFits (a .text .now) (a .known)
-known c = c .before .before .pre .1
+-- The line that is drawn as it was measured.
+alike : (c : tie.After-e) →
+    let a = begin (c .before .before .before) .args in
+    DrawnAlike (a .s) (a .text .now) (a .at) (c .e .given .0 .0)
+alike c =
+    let a = begin (c .before .before .before) .args in
+    subst (QuickLine (a .s) (a .text .now) (a .at)) (c .e .given .1) (c .before .before .quick-line .ensures)
 
-placed-plainly-requires : tie.Need-placed-plainly-requires
-placed-plainly-requires c κs = search needs
+quick-line-requires : tie.Need-quick-line-requires
+quick-line-requires c κs = rested (begin c .pre .0) (c .if1 .taken)
 
-pass-over-requires : tie.Need-pass-over-requires
-pass-over-requires c κs =
-    let f = plain-ready (ready c) _ _ (c .placed-plainly .ensures) refl in
-    (ready c, f .0, f .1, known c)
+enum-known-e : tie.Need-enum-known-e
+enum-known-e c = search needs
 
-measured-width-requires : tie.Need-measured-width-requires
-measured-width-requires c κs = search needs
+cast-laid-alike : tie.Need-cast-laid-alike
+cast-laid-alike c = search needs
 
-placed-by-requires : tie.Need-placed-by-requires
-placed-by-requires c κs =
-    let f = c .before .before in
-    (ready (f .before) .settings, few-spaces (ready (f .before)) _ _ (f .before .placed-plainly .ensures) (f .pass-over .ensures))
-
-is-plain-requires : tie.Need-is-plain-requires
-is-plain-requires c κs = search needs
-
-cast-laid-at : tie.Need-cast-laid-at
-cast-laid-at c = search needs
-
-laid-at-requires : tie.Need-laid-at-requires
-laid-at-requires c κs = search needs
+laid-alike-requires : tie.Need-laid-alike-requires
+laid-alike-requires c κs =
+    let e = c .before in
+    let i = e .before .before .before in
+    (begin i .pre .0 .settings, alike-few (begin i .pre .0) (i .if1 .taken) _ (alike e))
 
 returns : tie.Need-returns
 returns c =
-    let i = c .before .before in
-    let p = i .before in
-    let f = p .before .before .before in
-    laid-once (ready (f .before)) _ _ (f .before .placed-plainly .ensures) (f .pass-over .ensures) _ _ _ (p .before .measured-width .ensures) (p .placed-by .ensures)
-    (sym (i .is-plain .ensures) ∙ c .before .if1 .taken) (c .laid-at .ensures)
+    let e = c .before .before in
+    let i = e .before .before .before in
+    laid-alike (begin i .pre .0) (i .if1 .taken) _ (alike e) _ (c .laid-alike .ensures)
 
-pass-over-requires-2 : tie.Need-pass-over-requires-2
-pass-over-requires-2 c κs =
-    let p = c .before .before in
-    let f = p .before .before .before in
-    let g = placed-ready (ready (f .before)) _ _ (f .before .placed-plainly .ensures) (f .pass-over .ensures) _ (p .placed-by .ensures) in
-    (ready (f .before), g .0, g .1, known (f .before))
+enum-told : tie.Need-enum-told
+enum-told c = search needs
 
-cast-laid-at-2 : tie.Need-cast-laid-at-2
-cast-laid-at-2 c = let r = ready (c .before .before .before .before .before .before .before) in omega (arith, r .inside, r .short)
-
-laid-at-requires-2 : tie.Need-laid-at-requires-2
-laid-at-requires-2 c κs = search needs
+lay-twice-requires : tie.Need-lay-twice-requires
+lay-twice-requires c κs = search needs
 
 returns-2 : tie.Need-returns-2
-returns-2 c =
-    let d = c .before in
-    let p = d .before .before .before in
-    let f = p .before .before .before in
-    laid-twice (ready (f .before)) _ _ (f .before .placed-plainly .ensures) (f .pass-over .ensures) _ _ _ (p .before .measured-width .ensures) (p .placed-by .ensures) _
-    (d .pass-over2 .ensures) (c .laid-at2 .ensures)
+returns-2 c = search needs
 
 pub lay-line-spec : {M : Type 1} → statement M
 lay-line-spec =
     tie.close
     (tie.spec
-    placed-plainly-requires
-    pass-over-requires
-    measured-width-requires
-    placed-by-requires
-    is-plain-requires
-    cast-laid-at
-    laid-at-requires
+    quick-line-requires
+    enum-known-e
+    cast-laid-alike
+    laid-alike-requires
     returns
-    pass-over-requires-2
-    cast-laid-at-2
-    laid-at-requires-2
+    enum-told
+    lay-twice-requires
     returns-2)

@@ -1,0 +1,18 @@
+use mathlib.Core.Path.{refl}
+use borrow.Author.Needs.{needs}
+use Rattle.parser.specs.Scanning.{scannedAt}
+use Rattle.rendering.proofs.short_words.letters_to.Statement.{statement}
+use Rattle.rendering.proofs.short_words.letters_to.Tie as tie
+
+cast-to : tie.Need-cast-to
+cast-to c = search needs
+
+add-reach : tie.Need-add-reach
+add-reach c = search needs
+
+returns : tie.Need-returns
+unfolding scannedAt
+returns c = refl
+
+pub letters-to-spec : {M : Type 1} → statement M
+letters-to-spec = tie.close (tie.spec cast-to add-reach returns)
