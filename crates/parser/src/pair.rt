@@ -70,7 +70,7 @@ fn space_len(text: &[u8], at: usize) -> usize
 }
 
 // How many bytes the letter has that stands at a position and that a word starts with, where it is told so. 0: it is not told.
-fn first_len(text: &[u8], at: usize) -> usize
+pub fn first_len(text: &[u8], at: usize) -> usize
     ensures { λ r. ⌜ (0 < r → Letter (now (text .entry)) at r) ⌝ }
 {
     if plain_at(text, at) {

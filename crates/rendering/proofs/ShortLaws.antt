@@ -1,4 +1,4 @@
--- Words told letter by letter or by plain bytes, as a scan gives them.
+-- Words told by their bytes, as a scan gives them.
 -- Assumes nothing.
 use mathlib.Core.Path.{_≡_, sym, ap, _∙_}
 use mathlib.Core.Bool.{true}
@@ -9,19 +9,19 @@ use lib.ListN.{length}
 use Rattle.meaning.specs.Characters.{inWord}
 use Rattle.parser.specs.Lexing.{charsFrom}
 use Rattle.parser.specs.Scanning.{glueOf, scannedAt, scanFrom, wordOf}
-use Rattle.parser.specs.Ascii.{Spelled, Letter}
+use Rattle.parser.specs.Ascii.{Letter, Glues}
 use Rattle.parser.specs.Pairs.{PairAt}
 use Rattle.parser.specs.declared.lexeme.Lexed.the-variants.{Token}
 use Rattle.parser.specs.declared.scan.Scanned.{Scanned}
 use Rattle.parser.proofs.ScanLaws.{scan-more, char-room}
 use Rattle.parser.proofs.LexerLaws.{letter-lexed}
 use Rattle.rendering.specs.PlainWords.{enderAt, PlainWord, Stride}
-use Rattle.rendering.specs.Quick.{FirstWord}
+use Rattle.rendering.specs.Quick.{GoesOn, FirstWord}
 use Rattle.rendering.proofs.PlainLaws.{scan-ends, plain-read, plain-pair}
 
-module _ (t : List ℕ) (at : ℕ) where
-  -- ---- of plain bytes
+-- ---- of plain bytes
 
+module _ (t : List ℕ) (at : ℕ) where
   pub scanned-pair : (end : ℕ) → Stride t at end → (w : Scanned) → w ≡ scannedAt end (end - (at + 1)) 0 1 → PairAt t at (at + 1) (at + 1 + 1) (wordOf w)
   unfolding wordOf scannedAt
   scanned-pair end d w e = rw e (plain-pair t at end d)
@@ -30,34 +30,69 @@ module _ (t : List ℕ) (at : ℕ) where
   unfolding wordOf scannedAt
   first-plain most end d h w e = rw e (record { read = plain-read t at end d; fits = h })
 
-  -- ---- letter by letter
+-- ---- character by character
 
-  pub letter-inside : (n : ℕ) → Letter t at n → (1 ≤ n) × (at + n ≤ length t)
-  letter-inside n l = let r = char-room t at (l .char) n (l .is) in (r .0, r .2)
+pub letter-inside : (t : List ℕ) (at n : ℕ) → Letter t at n → (1 ≤ n) × (at + n ≤ length t)
+letter-inside t at n l = let r = char-room t at (l .char) n (l .is) in (r .0, r .2)
 
-  pub spelled-letter : (i k n : ℕ) → Letter t i n → Spelled t at i k → Spelled t at (i + n) (k + 1)
-  spelled-letter i k n x l =
-      let c = x .char in
-      let r = char-room t i c n (x .is) in
+module _ (t : List ℕ) (from : ℕ) where
+  pub goes-none : from ≤ length t → GoesOn t from from 0 0
+  goes-none h =
       record {
-        forward = omega (arith, l .forward);
-        inside = r .2;
-        scans = λ a w.
-            let m : a + k + 1 ≡ a + (k + 1) = omega arith in
-            let v : w + glueOf c ≡ w = omega (arith, x .glue) in
-            l .scans a w ∙ scan-more inWord glueOf t i (a + k) w c n (x .is) (x .word)
-            ∙ (λ j. scanFrom inWord glueOf (i + n) (m j) (v j) (charsFrom t (i + n)));
+        forward = omega arith;
+        inside = h;
+        fewer = omega arith;
+        scans = λ n w.
+            let a : n ≡ n + 0 = omega arith in
+            let b : w ≡ w + 0 = omega arith in
+            λ i. scanFrom inWord glueOf from (a i) (b i) (charsFrom t from);
       }
 
-  pub first-letters : (most n end more : ℕ) → Letter t at n → Spelled t (at + n) end more → enderAt t end ≡ true → 1 + more ≤ most → (w : Scanned)
-      → w ≡ scannedAt end (1 + more) 0 1 → FirstWord t at most w
+  module _ (to chars glues : ℕ) (l : GoesOn t from to chars glues) where
+    -- One more.
+    goes-more : (next more : ℕ) → to + 1 ≤ next → next ≤ length t → more ≤ 1
+        → ((n w : ℕ) → scanFrom inWord glueOf to n w (charsFrom t to) ≡ scanFrom inWord glueOf next (n + 1) (w + more) (charsFrom t next))
+        → GoesOn t from next (chars + 1) (glues + more)
+    goes-more next more f i k one =
+        record {
+          forward = omega (arith, l .forward);
+          inside = i;
+          fewer = omega (arith, l .fewer);
+          scans = λ n w.
+              let a : n + chars + 1 ≡ n + (chars + 1) = omega arith in
+              let b : w + glues + more ≡ w + (glues + more) = omega arith in
+              l .scans n w ∙ one (n + chars) (w + glues) ∙ (λ j. scanFrom inWord glueOf next (a j) (b j) (charsFrom t next));
+        }
+
+    pub goes-letter : (n : ℕ) → Letter t to n → GoesOn t from (to + n) (chars + 1) glues
+    goes-letter n x =
+        let r = letter-inside t to n x in
+        let z : glues + 0 ≡ glues = omega arith in
+        rw z at
+        (goes-more (to + n) 0 (omega arith) (r .1) (omega arith)
+        (λ m w. scan-more inWord glueOf t to m w (x .char) n (x .is) (x .word) ∙ ap (λ (g : ℕ). scanFrom inWord glueOf (to + n) (m + 1) (w + g) (charsFrom t (to + n))) (x .glue)))
+
+    pub goes-glue : Glues t to → GoesOn t from (to + 2) (chars + 1) (glues + 1)
+    goes-glue x = goes-more (to + 2) 1 (omega arith) (x .inside) (omega arith) (x .scans)
+
+    pub goes-scanned : (most : ℕ) (r : Scanned) → chars ≤ most → r ≡ scannedAt to chars glues 1
+        → GoesOn t from (r .end .0) (r .chars .0) (r .weight .0) × (r .chars .0 ≤ most)
+    unfolding scannedAt
+    goes-scanned most r h e = rw e (l, h)
+
+module _ (t : List ℕ) (at : ℕ) where
+  pub first-short : (most n end more glues : ℕ) → Letter t at n → GoesOn t (at + n) end more glues → enderAt t end ≡ true → 1 + more ≤ most → (w : Scanned)
+      → w ≡ scannedAt end (1 + more) glues 1 → FirstWord t at most w
   unfolding scannedAt
-  first-letters most n end more x l ends h w e =
+  first-short most n end more glues x l ends h w e =
       record {
         read = sym (letter-lexed t at (x .char) n (x .is) (x .word) (x .glue))
-            ∙ ap (λ (s : Scanned). Token (wordOf s)) (l .scans 1 0 ∙ scan-ends t end (1 + more) 0 ends ∙ sym e);
+            ∙ ap (λ (s : Scanned). Token (wordOf s)) (l .scans 1 0 ∙ scan-ends t end (1 + more) (0 + glues) ends ∙ none ∙ sym e);
         fits = rw e h;
       }
+    where
+      none : scannedAt end (1 + more) (0 + glues) 1 ≡ scannedAt end (1 + more) glues 1
+      none = let z : 0 + glues ≡ glues = omega arith in ap (λ (g : ℕ). scannedAt end (1 + more) g 1) z
 
   pub first-none : (most : ℕ) (w : Scanned) → w ≡ scannedAt 0 0 0 0 → 0 < w .chars .0 → FirstWord t at most w
   unfolding scannedAt

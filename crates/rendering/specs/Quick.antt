@@ -4,6 +4,8 @@ use mathlib.Core.Path.{_≡_}
 use mathlib.Core.Bool.{false}
 use mathlib.Core.List.{List}
 use Prim.Native.Nat.{ℕ, _+_, _*_, _≤_}
+use lib.ListN.{length}
+use Rattle.meaning.specs.Characters.{inWord}
 use Rattle.meaning.specs.Tokens.{tokens}
 use Rattle.meaning.specs.Alignment.{plainSpaces}
 use Rattle.meaning.specs.Line.{unmeasured, startPlace}
@@ -13,7 +15,7 @@ use Rattle.meaning.specs.declared.line.Measure.{Measure}
 use Rattle.meaning.specs.declared.line.Placed.{Placed}
 use Rattle.laws.specs.Measuring.{printedAt}
 use Rattle.parser.specs.Lexing.{charsFrom, lexedAt}
-use Rattle.parser.specs.Scanning.{wordOf}
+use Rattle.parser.specs.Scanning.{glueOf, scanFrom, wordOf}
 use Rattle.parser.specs.declared.lexeme.Lexed.the-variants.{Token}
 use Rattle.parser.specs.declared.scan.Scanned.{Scanned}
 use Rattle.rendering.specs.Fine.{FineSpaces}
@@ -26,6 +28,13 @@ use Rattle.rendering.specs.declared.going.Waiting.{Waiting}
 use Rattle.rendering.specs.declared.quick.Counted.{Counted}
 use Rattle.rendering.specs.declared.quick.Quick.{Quick}
 use Rattle.rendering.specs.declared.quick.Quick.the-variants.{Not, Line}
+
+-- From one position to another a word goes on, by so many characters of which so many glue.
+pub record GoesOn (t : List ℕ) (from to chars glues : ℕ) : Type 0 where
+  pub forward : from + chars ≤ to
+  pub inside : to ≤ length t
+  pub fewer : glues ≤ chars
+  pub scans : (n w : ℕ) → scanFrom inWord glueOf from n w (charsFrom t from) ≡ scanFrom inWord glueOf to (n + chars) (w + glues) (charsFrom t to)
 
 -- The word at a position, of no more characters than that.
 pub record FirstWord (t : List ℕ) (at most : ℕ) (w : Scanned) : Type 0 where

@@ -9,7 +9,7 @@ use crate::going::strode;
 use crate::place::start_place;
 use crate::plain_words::stride_end;
 use crate::plain_words::word_within;
-use crate::short_words::letters_to;
+use crate::short_words::scanned_to;
 use crate::short_words::short_word;
 use crate::step::Ended;
 use crate::strides::ends_waiting;
@@ -70,7 +70,7 @@ fn next_pair(text: &[u8], at: usize) -> Pair
     }
     let from = at + 1;
     let n = (end - from) as u32;
-    let word = letters_to(end, n);
+    let word = scanned_to(end, n, 0);
     let start = from as u32;
     let looked = start + 1;
     Pair {
@@ -89,7 +89,7 @@ fn first_within(text: &[u8], at: usize, most: u32) -> Scanned
         let end = word_within(text, at, most);
         if end != 0 {
             let n = (end - at) as u32;
-            return letters_to(end, n);
+            return scanned_to(end, n, 0);
         }
     }
     short_word(text, at, most)

@@ -1,33 +1,32 @@
-// A word of few characters, told letter by letter.
+// A word of few characters, told by its bytes.
 use crate::plain_words::ends_word;
 use meaning::counts::Chars;
 use meaning::counts::Offset;
-use parser::ascii::Letters;
-use parser::ascii::letter_len;
+use parser::ascii::glue_at;
+use parser::pair::first_len;
 use parser::scan::Scanned;
 ghost use Prim.Native.Nat.{_≤_, _<_};
 ghost use mathlib.Core.Path.{_≡_};
 ghost use lib.ListN.{length};
-ghost use Rattle.parser.specs.Ascii.{Spelled};
 ghost use Rattle.parser.specs.Scanning.{scannedAt};
-ghost use Rattle.rendering.specs.Quick.{FirstWord};
+ghost use Rattle.rendering.specs.Quick.{GoesOn, FirstWord};
 
-// So many letters that end at an offset, as a scan gives them.
-pub fn letters_to(end: usize, chars: u32) -> Scanned
+// So many characters that end at an offset, as a scan gives them.
+pub fn scanned_to(end: usize, chars: u32, glues: u32) -> Scanned
     requires { ⌜ end ≤ 65535 ⌝ }
-    ensures { λ r. ⌜ r ≡ scannedAt end chars 0 1 ⌝ }
+    ensures { λ r. ⌜ r ≡ scannedAt end chars glues 1 ⌝ }
 {
     let to = end as u32;
     let reach = to + 1;
     Scanned {
         end: Offset(to),
         chars: Chars(chars),
-        weight: Chars(0),
+        weight: Chars(glues),
         reach: Offset(reach),
     }
 }
 
-fn no_letters() -> Scanned
+fn none_scanned() -> Scanned
     ensures { λ r. ⌜ r ≡ scannedAt 0 0 0 0 ⌝ }
 {
     Scanned {
@@ -38,43 +37,51 @@ fn no_letters() -> Scanned
     }
 }
 
-// Letters are passed, but no more than that.
-fn letters_upto(text: &[u8], from: usize, most: u32) -> Letters
+// Letters and what glues are passed, but no more characters than that.
+fn pass_upto(text: &[u8], from: usize, most: u32) -> Scanned
     requires { ⌜ (length (now text) ≤ 65535) × (from ≤ length (now text)) ⌝ }
-    ensures { λ r. ⌜ Spelled (now (text .entry)) from (r .end) (r .chars) × (r .chars ≤ most) ⌝ }
+    ensures { λ r. ⌜ GoesOn (now (text .entry)) from (r .end .0) (r .chars .0) (r .weight .0) × (r .chars .0 ≤ most) ⌝ }
 {
     let mut end = from;
     let mut chars: u32 = 0;
+    let mut glues: u32 = 0;
     while chars < most {
-        let letter = letter_len(text, end);
-        if letter == 0 {
-            return Letters { end, chars };
+        let letter = first_len(text, end);
+        if letter != 0 {
+            end += letter;
+            chars += 1;
+        } else {
+            if !glue_at(text, end) {
+                return scanned_to(end, chars, glues);
+            }
+            end += 2;
+            chars += 1;
+            glues += 1;
         }
-        end += letter;
-        chars += 1;
     }
-    Letters { end, chars }
+    scanned_to(end, chars, glues)
 }
 
-// The word at a position, if it is of letters and has no more of them than that. No characters: it is not told.
+// The word at a position, if it is told by its bytes and has no more characters than that. No characters: it is not told.
 pub fn short_word(text: &[u8], at: usize, most: u32) -> Scanned
     requires { ⌜ length (now text) ≤ 65535 ⌝ }
     ensures { λ r. ⌜ (0 < r .chars .0 → FirstWord (now (text .entry)) at most r) ⌝ }
 {
     if most == 0 {
-        return no_letters();
+        return none_scanned();
     }
-    let first = letter_len(text, at);
+    let first = first_len(text, at);
     if first == 0 {
-        return no_letters();
+        return none_scanned();
     }
     let next = at + first;
     let more = most - 1;
-    let rest = letters_upto(text, next, more);
-    let end = rest.end;
-    let n = 1 + rest.chars;
+    let rest = pass_upto(text, next, more);
+    let end = rest.end.0 as usize;
+    let n = 1 + rest.chars.0;
+    let g = rest.weight.0;
     if ends_word(text, end) {
-        return letters_to(end, n);
+        return scanned_to(end, n, g);
     }
-    no_letters()
+    none_scanned()
 }

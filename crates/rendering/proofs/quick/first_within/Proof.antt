@@ -29,13 +29,13 @@ sub-n c = omega (arith, found c .0 .letters .forward)
 cast-n : tie.Need-cast-n
 cast-n c = omega (arith, found c .0 .letters .inside, c .before .before .before .before .before .pre .0)
 
-letters-to-requires : tie.Need-letters-to-requires
-letters-to-requires c κs = omega (arith, found c .0 .letters .inside, c .before .before .before .before .before .pre .0)
+scanned-to-requires : tie.Need-scanned-to-requires
+scanned-to-requires c κs = omega (arith, found c .0 .letters .inside, c .before .before .before .before .before .pre .0)
 
 returns : tie.Need-returns
 returns c =
     let w = found (c .before) in
-    λ _. first-plain _ _ _ _ (w .0) (w .1) _ (c .letters-to .ensures)
+    λ _. first-plain _ _ _ _ (w .0) (w .1) _ (c .scanned-to .ensures)
 
 short-word-requires : tie.Need-short-word-requires
 short-word-requires c κs = search needs
@@ -51,7 +51,7 @@ first-within-spec =
     word-within-requires
     sub-n
     cast-n
-    letters-to-requires
+    scanned-to-requires
     returns
     short-word-requires
     returns-2)

@@ -27,8 +27,8 @@ sub-n c = let w = found c .word .letters in omega (arith, w .forward, w .inside,
 cast-n : tie.Need-cast-n
 cast-n c = let w = found c .word .letters in omega (arith, w .forward, w .inside, c .before .before .before .pre)
 
-letters-to-requires : tie.Need-letters-to-requires
-letters-to-requires c κs = let w = found c .word .letters in omega (arith, w .forward, w .inside, c .before .before .before .pre)
+scanned-to-requires : tie.Need-scanned-to-requires
+scanned-to-requires c κs = let w = found c .word .letters in omega (arith, w .forward, w .inside, c .before .before .before .pre)
 
 cast-start : tie.Need-cast-start
 cast-start c =
@@ -43,7 +43,7 @@ add-looked c =
     record { fits = omega (arith, w .forward, w .inside, e .before .before .before .pre) }
 
 returns-2 : tie.Need-returns-2
-returns-2 c = λ _. scanned-pair _ _ _ (found (c .before)) _ (c .letters-to .ensures)
+returns-2 c = λ _. scanned-pair _ _ _ (found (c .before)) _ (c .scanned-to .ensures)
 
 pub next-pair-spec : {M : Type 1} → statement M
 next-pair-spec =
@@ -55,7 +55,7 @@ next-pair-spec =
     add-from
     sub-n
     cast-n
-    letters-to-requires
+    scanned-to-requires
     cast-start
     add-looked
     returns-2)
