@@ -83,6 +83,14 @@ fn may_go_on(text: &[u8], at: usize) -> bool {
     false
 }
 
+// Does a character stand at an offset that is not of ASCII: a word of such letters is looked through once for all that read it.
+fn far_at(text: &[u8], at: usize) -> bool {
+    if at < text.len() {
+        return 0x80 <= text[at];
+    }
+    false
+}
+
 // What is known for a line at an offset, from what was known for the line before it. A line that resumes a rest begins with no word.
 pub fn known_from(text: &[u8], at: usize, rest: Resumed, known: Known) -> Known
     requires { ⌜ (length (now text) ≤ 65535) × (at ≤ length (now text)) × KnownFits (now text) known ⌝ }
@@ -91,7 +99,7 @@ pub fn known_from(text: &[u8], at: usize, rest: Resumed, known: Known) -> Known
     if rest.chars.0 != 0 {
         return nothing_known();
     }
-    if may_go_on(text, at) {
+    if may_go_on(text, at) | far_at(text, at) {
         return known_at(at, known_token(text, at, known));
     }
     nothing_known()

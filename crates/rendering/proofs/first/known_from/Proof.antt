@@ -12,6 +12,9 @@ returns c = nothing-fits _ _ (c .nothing-known .ensures)
 may-go-on-requires : tie.Need-may-go-on-requires
 may-go-on-requires c κs = search needs
 
+far-at-requires : tie.Need-far-at-requires
+far-at-requires c κs = search needs
+
 known-token-requires : tie.Need-known-token-requires
 known-token-requires c κs = search needs
 
@@ -34,6 +37,7 @@ known-from-spec =
     nothing-known-requires
     returns
     may-go-on-requires
+    far-at-requires
     known-token-requires
     known-at-requires
     returns-2
