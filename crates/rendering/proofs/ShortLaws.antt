@@ -5,18 +5,28 @@ use mathlib.Core.Bool.{true}
 use mathlib.Core.List.{List}
 use Prim.Native.Nat.{ℕ, _+_, _-_, _≤_, _<_}
 use native.Mathlib.Omega.{arith}
+use borrow.Author.Tests.{ltb-false}
+use lib.Dec.{ltb}
 use lib.ListN.{length}
+use Rattle.basis.specs.Choice.{pick-cases}
 use Rattle.meaning.specs.Characters.{inWord}
-use Rattle.parser.specs.Lexing.{charsFrom}
+use Rattle.meaning.specs.Tokens.{tokens}
+use Rattle.meaning.specs.declared.tokens.TokenKind.the-variants.{Word}
+use Rattle.parser.specs.Lexing.{charsFrom, lexemeAt, lexedAt}
 use Rattle.parser.specs.Scanning.{glueOf, scannedAt, scanFrom, wordOf}
 use Rattle.parser.specs.Ascii.{Letter, Glues}
 use Rattle.parser.specs.Pairs.{PairAt}
+use Rattle.parser.specs.declared.lexeme.Lexeme.{Lexeme}
 use Rattle.parser.specs.declared.lexeme.Lexed.the-variants.{Token}
 use Rattle.parser.specs.declared.scan.Scanned.{Scanned}
 use Rattle.parser.proofs.ScanLaws.{scan-more, char-room}
 use Rattle.parser.proofs.LexerLaws.{letter-lexed}
 use Rattle.rendering.specs.PlainWords.{enderAt, PlainWord, Stride}
-use Rattle.rendering.specs.Quick.{GoesOn, FirstWord}
+use Rattle.rendering.specs.Knowing.{KnownFits}
+use Rattle.rendering.specs.Quick.{GoesOn, FirstWord, keptOf, keptWithin}
+use Rattle.rendering.specs.declared.first.Known.{Known}
+use Rattle.rendering.proofs.WordLaws.{word-at}
+use Rattle.rendering.proofs.OnwardLaws.{read-pending}
 use Rattle.rendering.proofs.PlainLaws.{scan-ends, plain-read, plain-pair}
 
 -- ---- of plain bytes
@@ -29,6 +39,27 @@ module _ (t : List ℕ) (at : ℕ) where
   pub first-plain : (most end : ℕ) → PlainWord t at end → end - at ≤ most → (w : Scanned) → w ≡ scannedAt end (end - at) 0 1 → FirstWord t at most w
   unfolding wordOf scannedAt
   first-plain most end d h w e = rw e (record { read = plain-read t at end d; fits = h })
+
+-- ---- known
+
+-- A word of the text, as a scan gives it.
+kept-word : (t : List ℕ) (at : ℕ) (x : Lexeme) → lexedAt at (tokens (charsFrom t at)) ≡ Token x → x .kind ≡ Word → x ≡ wordOf (keptOf x)
+unfolding wordOf lexemeAt
+kept-word t at x e k =
+    let h = read-pending t at x e .stands in
+    let z : x .count .0 ≡ 0 = ap (λ (y : Lexeme). y .count .0) (rw (word-at t at x h k .tok) at (h .is)) in
+    λ i. record { kind = k i; end = x .end; chars = x .chars; count = record { 0 = z i }; glues = x .glues; reach = x .reach }
+
+pub first-kept : (t : List ℕ) (at most : ℕ) (j : Known) (x : Lexeme) → KnownFits t j → j .at .0 ≡ at → j .first ≡ Token x → x .kind ≡ Word → (w : Scanned)
+    → w ≡ keptWithin x most → 0 < w .chars .0 → FirstWord t at most w
+unfolding keptWithin scannedAt
+first-kept t at most j x f a q k w e =
+    rw e
+    (pick-cases (λ (v : Scanned). 0 < v .chars .0 → FirstWord t at most v) (ltb most (x .chars .0))
+    (λ _ h. absurd (omega arith))
+    (λ l _.
+    let read = rw a at (f x q k) in
+    record { read = read ∙ ap Token (kept-word t at x read k); fits = ltb-false most (x .chars .0) l }))
 
 -- ---- character by character
 

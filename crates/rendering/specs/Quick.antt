@@ -4,7 +4,9 @@ use mathlib.Core.Path.{_≡_}
 use mathlib.Core.Bool.{false}
 use mathlib.Core.List.{List}
 use Prim.Native.Nat.{ℕ, _+_, _*_, _≤_}
+use lib.Dec.{ltb}
 use lib.ListN.{length}
+use Rattle.basis.specs.Choice.{pick}
 use Rattle.meaning.specs.Characters.{inWord}
 use Rattle.meaning.specs.Tokens.{tokens}
 use Rattle.meaning.specs.Alignment.{plainSpaces}
@@ -15,7 +17,8 @@ use Rattle.meaning.specs.declared.line.Measure.{Measure}
 use Rattle.meaning.specs.declared.line.Placed.{Placed}
 use Rattle.laws.specs.Measuring.{printedAt}
 use Rattle.parser.specs.Lexing.{charsFrom, lexedAt}
-use Rattle.parser.specs.Scanning.{glueOf, scanFrom, wordOf}
+use Rattle.parser.specs.Scanning.{glueOf, scannedAt, scanFrom, wordOf}
+use Rattle.parser.specs.declared.lexeme.Lexeme.{Lexeme}
 use Rattle.parser.specs.declared.lexeme.Lexed.the-variants.{Token}
 use Rattle.parser.specs.declared.scan.Scanned.{Scanned}
 use Rattle.rendering.specs.Fine.{FineSpaces}
@@ -40,6 +43,13 @@ pub record GoesOn (t : List ℕ) (from to chars glues : ℕ) : Type 0 where
 pub record FirstWord (t : List ℕ) (at most : ℕ) (w : Scanned) : Type 0 where
   pub read : lexedAt at (tokens (charsFrom t at)) ≡ Token (wordOf w)
   pub fits : w .chars .0 ≤ most
+
+-- A word that is known, as a scan gives it, if it has no more characters than that. No characters: it has more.
+abbrev pub keptOf : Lexeme → Scanned
+keptOf x = record { end = x .end; chars = x .chars; weight = x .glues; reach = x .reach }
+
+unfoldable pub keptWithin : Lexeme → (most : ℕ) → Scanned
+keptWithin x most = pick (ltb most (x .chars .0)) (scannedAt 0 0 0 0) (keptOf x)
 
 -- There is room for so many letters, and for so many spaces between their words, in a line that is so placed.
 pub record Fair (s : Settings) (p : Placed) (letters gaps : ℕ) : Type 0 where

@@ -127,7 +127,7 @@ pub fn lay_line(text: &[u8], s: Settings, at: usize, rest: Resumed, known: Known
     ensures { λ r. ⌜ r ≡ lineFrom s (now (text .entry)) at rest ⌝ }
 {
     if rest.chars.0 == 0 {
-        if let Quick::Line(e) = quick_line(text, s, at) {
+        if let Quick::Line(e) = quick_line(text, s, at, known) {
             return laid_alike(s, at as u32, rest, e);
         }
     }

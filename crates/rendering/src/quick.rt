@@ -1,6 +1,7 @@
 // A line of words with one space between any two, counted in characters: it is drawn as it was measured.
 use crate::alignment::plain_spaces;
 use crate::ending::ends_before;
+use crate::first::Known;
 use crate::going::Going;
 use crate::going::Waiting;
 use crate::going::nothing_waits;
@@ -9,6 +10,7 @@ use crate::going::strode;
 use crate::place::start_place;
 use crate::plain_words::stride_end;
 use crate::plain_words::word_within;
+use crate::short_words::kept_within;
 use crate::short_words::scanned_to;
 use crate::short_words::short_word;
 use crate::step::Ended;
@@ -19,7 +21,9 @@ use meaning::counts::Offset;
 use meaning::counts::Pixels;
 use meaning::line::LineEnd;
 use meaning::settings::Settings;
+use meaning::tokens::TokenKind;
 use parser::ascii::plain_at;
+use parser::lexeme::Lexed;
 use parser::pair::Pair;
 use parser::pair::pair_at;
 use parser::scan::Scanned;
@@ -31,6 +35,7 @@ ghost use Rattle.parser.specs.Scanning.{wordOf};
 ghost use Rattle.parser.specs.Pairs.{PairAt};
 ghost use Rattle.rendering.specs.Unrolled.{nothingResumed};
 ghost use Rattle.rendering.specs.Laying.{LineReady};
+ghost use Rattle.rendering.specs.Knowing.{KnownFits};
 ghost use Rattle.rendering.specs.Strides.{goingAt};
 ghost use Rattle.rendering.specs.Quick.{plainPlace, countedAt, FirstWord, CountedWords, QuickLine};
 
@@ -95,13 +100,32 @@ fn first_within(text: &[u8], at: usize, most: u32) -> Scanned
     short_word(text, at, most)
 }
 
+// The same where a word may be known. A known word that has more characters is not looked at.
+fn first_known(text: &[u8], at: usize, most: u32, known: Known) -> Scanned
+    requires { ⌜ (length (now text) ≤ 65535) × (most ≤ 4096) × KnownFits (now text) known ⌝ }
+    ensures { λ r. ⌜ (0 < r .chars .0 → FirstWord (now (text .entry)) at most r) ⌝ }
+{
+    let first = known.first;
+    let Lexed::Token(x) = first else {
+        return first_within(text, at, most);
+    };
+    if known.at.0 as usize != at {
+        return first_within(text, at, most);
+    }
+    let kind = x.kind;
+    match kind {
+        TokenKind::Word => kept_within(x, most),
+        _ => first_within(text, at, most),
+    }
+}
+
 // The words of a line as far as they fit.
-fn count_words(text: &[u8], s: Settings, at: usize) -> Counted
-    requires { ⌜ LineReady s (now text) at nothingResumed ⌝ }
+fn count_words(text: &[u8], s: Settings, at: usize, known: Known) -> Counted
+    requires { ⌜ LineReady s (now text) at nothingResumed × KnownFits (now text) known ⌝ }
     ensures { λ r. ⌜ (0 < r .columns .0 → CountedWords s (now (text .entry)) at r) ⌝ }
 {
     let most = s.width.0 / s.glyph.0;
-    let first = first_within(text, at, most);
+    let first = first_known(text, at, most, known);
     let mut end = first.end.0;
     let mut columns = first.chars.0;
     let mut spaces = first.weight.0;
@@ -154,11 +178,11 @@ fn measured_to(s: Settings, c: Counted) -> Going
 
 // The line at an offset, if it is of words with one space between any two, and ended by a word that waits, a line feed or the
 // text's end.
-pub fn quick_line(text: &[u8], s: Settings, at: usize) -> Quick
-    requires { ⌜ LineReady s (now text) at nothingResumed ⌝ }
+pub fn quick_line(text: &[u8], s: Settings, at: usize, known: Known) -> Quick
+    requires { ⌜ LineReady s (now text) at nothingResumed × KnownFits (now text) known ⌝ }
     ensures { λ r. ⌜ QuickLine s (now (text .entry)) at r ⌝ }
 {
-    let c = count_words(text, s, at);
+    let c = count_words(text, s, at, known);
     if c.columns.0 == 0 {
         return Quick::Not;
     }

@@ -3,13 +3,14 @@ use crate::plain_words::ends_word;
 use meaning::counts::Chars;
 use meaning::counts::Offset;
 use parser::ascii::glue_at;
+use parser::lexeme::Lexeme;
 use parser::pair::first_len;
 use parser::scan::Scanned;
 ghost use Prim.Native.Nat.{_≤_, _<_};
 ghost use mathlib.Core.Path.{_≡_};
 ghost use lib.ListN.{length};
 ghost use Rattle.parser.specs.Scanning.{scannedAt};
-ghost use Rattle.rendering.specs.Quick.{GoesOn, FirstWord};
+ghost use Rattle.rendering.specs.Quick.{GoesOn, FirstWord, keptWithin};
 
 // So many characters that end at an offset, as a scan gives them.
 pub fn scanned_to(end: usize, chars: u32, glues: u32) -> Scanned
@@ -34,6 +35,25 @@ fn none_scanned() -> Scanned
         chars: Chars(0),
         weight: Chars(0),
         reach: Offset(0),
+    }
+}
+
+// A word that is known, if it has no more characters than that.
+pub fn kept_within(x: Lexeme, most: u32) -> Scanned
+    ensures { λ r. ⌜ r ≡ keptWithin x most ⌝ }
+{
+    if most < x.chars.0 {
+        return none_scanned();
+    }
+    let end = x.end;
+    let chars = x.chars;
+    let weight = x.glues;
+    let reach = x.reach;
+    Scanned {
+        end,
+        chars,
+        weight,
+        reach,
     }
 }
 

@@ -17,7 +17,7 @@ alike c =
     subst (QuickLine (a .s) (a .text .now) (a .at)) (c .e .given .1) (c .before .before .quick-line .ensures)
 
 quick-line-requires : tie.Need-quick-line-requires
-quick-line-requires c κs = rested (begin c .pre .0) (c .if1 .taken)
+quick-line-requires c κs = (rested (begin c .pre .0) (c .if1 .taken), begin c .pre .1)
 
 enum-known-e : tie.Need-enum-known-e
 enum-known-e c = search needs

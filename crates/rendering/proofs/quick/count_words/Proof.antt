@@ -24,12 +24,12 @@ begin c = c .before .before .before .before .before
 so-far : (c : tie.At-loop Inv-loop μ-loop) →
     let a = begin c .args in
     Counts (a .s) (a .text .now) (a .at) (c .loop .end) (c .loop .columns) (c .loop .spaces)
-so-far c = c .loop .inv .counts _ (begin c .pre) refl
+so-far c = c .loop .inv .counts _ (begin c .pre .0) refl
 
 few : (c : tie.At-loop Inv-loop μ-loop) → begin c .args .s .width .0 / begin c .args .s .glyph .0 ≤ 4096
 few c =
     let a = begin c .args .s in
-    omega (arith, div-le-self (a .width .0) (a .glyph .0), begin c .pre .settings .2)
+    omega (arith, div-le-self (a .width .0) (a .glyph .0), begin c .pre .0 .settings .2)
 
 -- The pair that was found.
 found : (c : tie.Else2 Inv-loop μ-loop) →
@@ -41,11 +41,11 @@ found c = c .before .before .before .next-pair .ensures (omega (arith, c .if2 .l
 div-most : tie.Need-div-most Inv-loop μ-loop
 div-most c = search needs
 
-first-within-requires : tie.Need-first-within-requires Inv-loop μ-loop
-first-within-requires c κs =
+first-known-requires : tie.Need-first-known-requires Inv-loop μ-loop
+first-known-requires c κs =
     let b = c .before .before in
     let a = b .args .s in
-    (b .pre .short, omega (arith, div-le-self (a .width .0) (a .glyph .0), b .pre .settings .2))
+    (b .pre .0 .short, omega (arith, div-le-self (a .width .0) (a .glyph .0), b .pre .0 .settings .2), b .pre .1)
 
 nothing-waits-requires : tie.Need-nothing-waits-requires Inv-loop μ-loop
 nothing-waits-requires c κs = search needs
@@ -57,15 +57,15 @@ returns : tie.Need-returns Inv-loop μ-loop
 returns c = counted-none _ _ _ _ (c .counted-at .ensures)
 
 loop-holds : tie.Need-loop-holds Inv-loop μ-loop
-loop-holds c = counting-first _ (c .before .first-within .ensures (omega (arith, c .if1 .left)))
+loop-holds c = counting-first _ (c .before .first-known .ensures (omega (arith, c .if1 .left)))
 
 cast-next-pair : tie.Need-cast-next-pair Inv-loop μ-loop
 cast-next-pair c =
     let r = so-far c .plain .ready in
-    record { fits = omega (arith, r .inside, begin c .pre .short) }
+    record { fits = omega (arith, r .inside, begin c .pre .0 .short) }
 
 next-pair-requires : tie.Need-next-pair-requires Inv-loop μ-loop
-next-pair-requires c κs = begin c .pre .short
+next-pair-requires c κs = begin c .pre .0 .short
 
 nothing-waits-requires-2 : tie.Need-nothing-waits-requires-2 Inv-loop μ-loop
 nothing-waits-requires-2 c κs = search needs
@@ -77,7 +77,7 @@ returns-2 : tie.Need-returns-2 Inv-loop μ-loop
 returns-2 c =
     let w = c .before in
     let l = w .before .before .before .before .before in
-    λ _. counting-ends (begin l .pre) refl (l .loop .inv) _ _ (w .nothing-waits2 .ensures) (c .counted-at2 .ensures)
+    λ _. counting-ends (begin l .pre .0) refl (l .loop .inv) _ _ (w .nothing-waits2 .ensures) (c .counted-at2 .ensures)
 
 sub-if3 : tie.Need-sub-if3 Inv-loop μ-loop
 sub-if3 c = c .before .before .before .before .loop .inv .fits
@@ -91,7 +91,7 @@ returns-3 c =
     let e = i .before in
     let l = e .before .before .before .before in
     let w = e .before .before .before .next-pair .result .word in
-    λ _. counting-waits (begin l .pre) refl (l .loop .inv) _ _ w (found e) (omega (arith, i .if3 .taken)) _ (c .counted-at3 .ensures)
+    λ _. counting-waits (begin l .pre .0) refl (l .loop .inv) _ _ w (found e) (omega (arith, i .if3 .taken)) _ (c .counted-at3 .ensures)
 
 add-columns : tie.Need-add-columns Inv-loop μ-loop
 add-columns c =
@@ -107,14 +107,14 @@ add-spaces : tie.Need-add-spaces Inv-loop μ-loop
 add-spaces c =
     let e = c .before in
     let l = e .before .before .before .before in
-    record { fits = omega (arith, pair-within _ (found e), begin l .pre .short) }
+    record { fits = omega (arith, pair-within _ (found e), begin l .pre .0 .short) }
 
 add-spaces-2 : tie.Need-add-spaces-2 Inv-loop μ-loop
 add-spaces-2 c =
     let e = c .before in
     let l = e .before .before .before .before in
     let r = so-far l .plain .ready in
-    record { fits = omega (arith, pair-within _ (found e), r .small, r .inside, begin l .pre .short) }
+    record { fits = omega (arith, pair-within _ (found e), r .small, r .inside, begin l .pre .0 .short) }
 
 loop-less : tie.Need-loop-less Inv-loop μ-loop
 loop-less c = omega (arith, pair-within _ (found (c .before)))
@@ -132,7 +132,7 @@ count-words-spec =
     Inv-loop
     μ-loop
     div-most
-    first-within-requires
+    first-known-requires
     nothing-waits-requires
     counted-at-requires
     returns

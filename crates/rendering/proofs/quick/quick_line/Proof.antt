@@ -22,19 +22,19 @@ returns c = search needs
 
 measured-to-requires : tie.Need-measured-to-requires
 measured-to-requires c κs =
-    let r = begin c .pre in
+    let r = begin c .pre .0 in
     (omega (arith, counted c .within, r .settings .2), omega (arith, counted c .counts .plain .ready .inside, r .short))
 
 ends-waiting-requires : tie.Need-ends-waiting-requires
 ends-waiting-requires c κs =
     let m = c .before .before in
-    quick-ready (begin (m .before) .pre) (counted (m .before)) _ (m .measured-to .ensures) (c .if2 .taken)
+    quick-ready (begin (m .before) .pre .0) (counted (m .before)) _ (m .measured-to .ensures) (c .if2 .taken)
 
 returns-2 : tie.Need-returns-2
 returns-2 c =
     let i = c .before in
     let m = i .before .before in
-    quick-waits (begin (m .before) .pre) (counted (m .before)) _ (m .measured-to .ensures) (i .if2 .taken) _ (c .ends-waiting .ensures)
+    quick-waits (begin (m .before) .pre .0) (counted (m .before)) _ (m .measured-to .ensures) (i .if2 .taken) _ (c .ends-waiting .ensures)
 
 cast-if3 : tie.Need-cast-if3
 cast-if3 c = search needs
@@ -42,7 +42,7 @@ cast-if3 c = search needs
 add-ends-before : tie.Need-add-ends-before
 add-ends-before c =
     let m = c .before .before .before .before in
-    let r = begin (m .before) .pre in
+    let r = begin (m .before) .pre .0 in
     record { fits = omega (arith, quick-inside r (counted (m .before)) _ (m .measured-to .ensures), r .short) }
 
 ends-before-requires : tie.Need-ends-before-requires
@@ -52,7 +52,7 @@ returns-3 : tie.Need-returns-3
 returns-3 c =
     let i = c .before in
     let m = i .before .before .before .before in
-    quick-ends (begin (m .before) .pre) (counted (m .before)) _ (m .measured-to .ensures) (i .if3 .taken) _ (c .ends-before .ensures)
+    quick-ends (begin (m .before) .pre .0) (counted (m .before)) _ (m .measured-to .ensures) (i .if3 .taken) _ (c .ends-before .ensures)
 
 cast-if4 : tie.Need-cast-if4
 cast-if4 c = search needs
@@ -74,7 +74,7 @@ returns-4 c =
     let i = c .before in
     let e = i .before .before in
     let m = e .before .before .before .before in
-    quick-feeds (begin (m .before) .pre) (counted (m .before)) _ (m .measured-to .ensures) (e .if3 .left) (i .if4 .taken) _ (c .ends-before2 .ensures)
+    quick-feeds (begin (m .before) .pre .0) (counted (m .before)) _ (m .measured-to .ensures) (e .if3 .left) (i .if4 .taken) _ (c .ends-before2 .ensures)
 
 returns-5 : tie.Need-returns-5
 returns-5 c = search needs
