@@ -105,18 +105,16 @@ fn first_known(text: &[u8], at: usize, most: u32, known: Known) -> Scanned
     requires { ⌜ (length (now text) ≤ 65535) × (most ≤ 4096) × KnownFits (now text) known ⌝ }
     ensures { λ r. ⌜ (0 < r .chars .0 → FirstWord (now (text .entry)) at most r) ⌝ }
 {
-    let first = known.first;
-    let Lexed::Token(x) = first else {
-        return first_within(text, at, most);
-    };
-    if known.at.0 as usize != at {
-        return first_within(text, at, most);
+    if known.at.0 as usize == at {
+        let first = known.first;
+        if let Lexed::Token(x) = first {
+            let kind = x.kind;
+            if let TokenKind::Word = kind {
+                return kept_within(x, most);
+            }
+        }
     }
-    let kind = x.kind;
-    match kind {
-        TokenKind::Word => kept_within(x, most),
-        _ => first_within(text, at, most),
-    }
+    first_within(text, at, most)
 }
 
 // The words of a line as far as they fit.
