@@ -10,7 +10,7 @@ use borrow.Author.Tests.{eqb-true}
 use lib.Dec.{eqb}
 use lib.ListN.{length, getD}
 use Rattle.basis.specs.Choice.{pick, and-true, by-either}
-use Rattle.unicode.specs.Decoding.{value3}
+use Rattle.unicode.specs.Decoding.{value3, decodeAt}
 use Rattle.unicode.specs.Rows.{Three}
 use Rattle.unicode.specs.Long.{decode-three}
 use Rattle.unicode.specs.WhiteSpace.{whiteSpaces, member, isWhite}
@@ -18,16 +18,22 @@ use Rattle.unicode.specs.declared.sequence.Decoded.the-variants.{Char}
 use Rattle.meaning.specs.Characters.{glue, classOf, inWord, inRun}
 use Rattle.parser.specs.Lexing.{charsFrom}
 use Rattle.parser.specs.Scanning.{glueOf, spaceOf, scannedAt, scanFrom, wordOf, blankOf}
-use Rattle.parser.specs.Ascii.{spaceAt, Letter, space-inside}
+use Rattle.parser.specs.Ascii.{spaceAt, Letter, space-inside, space-char}
 use Rattle.parser.specs.Pairs.{longSpace, Blank, PairAt}
 use Rattle.parser.specs.declared.lexeme.Lexed.the-variants.{Token}
 use Rattle.parser.specs.declared.scan.Scanned.{Scanned}
 use Rattle.parser.proofs.ScanLaws.{scan-stop, char-room}
+use Rattle.parser.proofs.AsciiLaws.{space-no-word}
 use Rattle.parser.proofs.RunLaws.{scan-is}
 use Rattle.parser.proofs.LexerLaws.{Left, word-no-run, letter-lexed, blank-lexed, space-lexed}
 
 pub blank-space : (t : List ℕ) (at : ℕ) → spaceAt t at ≡ true → Blank t at 1
-blank-space t at e = record { inside = omega (arith, space-inside t at e); lexed = sym (space-lexed t at e) }
+blank-space t at e =
+    record {
+      inside = omega (arith, space-inside t at e);
+      ends = λ n w. scan-stop inWord glueOf t at n w 0x20 1 (space-char t at e) space-no-word;
+      lexed = sym (space-lexed t at e);
+    }
 
 -- The two others of three bytes.
 narrow-left : Left 0x202F
@@ -52,7 +58,8 @@ module _ (t : List ℕ) (at : ℕ) (h : at + 3 ≤ length t) where
 
   blank-three : (c : ℕ) → Three A B C → value3 A B C ≡ c → Left c → Blank t at 3
   blank-three c x v l =
-      record { inside = h; lexed = sym (blank-lexed t at c 3 (decode-three t at h x ∙ ap (λ (k : ℕ). Char k 3) v) l) }
+      let d : decodeAt t at ≡ Char c 3 = decode-three t at h x ∙ ap (λ (k : ℕ). Char k 3) v in
+      record { inside = h; ends = λ n w. scan-stop inWord glueOf t at n w c 3 d (l .word); lexed = sym (blank-lexed t at c 3 d l) }
 
   pub blank-long : longSpace A B C ≡ true → Blank t at 3
   blank-long e =

@@ -57,7 +57,7 @@ fn long_space_at(text: &[u8], at: usize) -> bool
 }
 
 // How many bytes the white space has that stands at a position and counts as a space, where it is told so. 0: it is not told.
-fn space_len(text: &[u8], at: usize) -> usize
+pub fn space_len(text: &[u8], at: usize) -> usize
     ensures { λ r. ⌜ (0 < r → Blank (now (text .entry)) at r) ⌝ }
 {
     if space_at(text, at) {

@@ -15,7 +15,7 @@ use Rattle.meaning.specs.declared.tokens.TokenKind.the-variants.{Word}
 use Rattle.parser.specs.Lexing.{charsFrom, lexemeAt, lexedAt}
 use Rattle.parser.specs.Scanning.{glueOf, scannedAt, scanFrom, wordOf}
 use Rattle.parser.specs.Ascii.{Letter, Glues}
-use Rattle.parser.specs.Pairs.{PairAt}
+use Rattle.parser.specs.Pairs.{Blank, PairAt}
 use Rattle.parser.specs.declared.lexeme.Lexeme.{Lexeme}
 use Rattle.parser.specs.declared.lexeme.Lexed.the-variants.{Token}
 use Rattle.parser.specs.declared.scan.Scanned.{Scanned}
@@ -23,7 +23,7 @@ use Rattle.parser.proofs.ScanLaws.{scan-more, char-room}
 use Rattle.parser.proofs.LexerLaws.{letter-lexed}
 use Rattle.rendering.specs.PlainWords.{enderAt, PlainWord, Stride}
 use Rattle.rendering.specs.Knowing.{KnownFits}
-use Rattle.rendering.specs.Quick.{GoesOn, FirstWord, keptOf, keptWithin}
+use Rattle.rendering.specs.Quick.{GoesOn, EndsBy, FirstWord, keptOf, keptWithin}
 use Rattle.rendering.specs.declared.first.Known.{Known}
 use Rattle.rendering.proofs.WordLaws.{word-at}
 use Rattle.rendering.proofs.OnwardLaws.{read-pending}
@@ -112,18 +112,24 @@ module _ (t : List ℕ) (from : ℕ) where
     goes-scanned most r h e = rw e (l, h)
 
 module _ (t : List ℕ) (at : ℕ) where
-  pub first-short : (most n end more glues : ℕ) → Letter t at n → GoesOn t (at + n) end more glues → enderAt t end ≡ true → 1 + more ≤ most → (w : Scanned)
-      → w ≡ scannedAt end (1 + more) glues 1 → FirstWord t at most w
+  pub ends-ender : enderAt t at ≡ true → EndsBy t at 1
+  ends-ender e = record { few = omega arith; scans = λ n w. scan-ends t at n w e }
+
+  pub ends-blank : (n : ℕ) → Blank t at n → EndsBy t at n
+  ends-blank n b = record { few = omega (arith, b .inside); scans = b .ends }
+
+  pub first-short : (most n end more glues ender : ℕ) → Letter t at n → GoesOn t (at + n) end more glues → EndsBy t end ender → 1 + more ≤ most → (w : Scanned)
+      → w ≡ scannedAt end (1 + more) glues ender → FirstWord t at most w
   unfolding scannedAt
-  first-short most n end more glues x l ends h w e =
+  first-short most n end more glues ender x l ends h w e =
       record {
         read = sym (letter-lexed t at (x .char) n (x .is) (x .word) (x .glue))
-            ∙ ap (λ (s : Scanned). Token (wordOf s)) (l .scans 1 0 ∙ scan-ends t end (1 + more) (0 + glues) ends ∙ none ∙ sym e);
+            ∙ ap (λ (s : Scanned). Token (wordOf s)) (l .scans 1 0 ∙ ends .scans (1 + more) (0 + glues) ∙ none ∙ sym e);
         fits = rw e h;
       }
     where
-      none : scannedAt end (1 + more) (0 + glues) 1 ≡ scannedAt end (1 + more) glues 1
-      none = let z : 0 + glues ≡ glues = omega arith in ap (λ (g : ℕ). scannedAt end (1 + more) g 1) z
+      none : scannedAt end (1 + more) (0 + glues) ender ≡ scannedAt end (1 + more) glues ender
+      none = let z : 0 + glues ≡ glues = omega arith in ap (λ (g : ℕ). scannedAt end (1 + more) g ender) z
 
   pub first-none : (most : ℕ) (w : Scanned) → w ≡ scannedAt 0 0 0 0 → 0 < w .chars .0 → FirstWord t at most w
   unfolding scannedAt

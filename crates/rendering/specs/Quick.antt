@@ -39,6 +39,11 @@ pub record GoesOn (t : List ℕ) (from to chars glues : ℕ) : Type 0 where
   pub fewer : glues ≤ chars
   pub scans : (n w : ℕ) → scanFrom inWord glueOf from n w (charsFrom t from) ≡ scanFrom inWord glueOf to (n + chars) (w + glues) (charsFrom t to)
 
+-- A word ends at a position, by a character of so many bytes or as if by one.
+pub record EndsBy (t : List ℕ) (at n : ℕ) : Type 0 where
+  pub few : n ≤ length t + 1
+  pub scans : (chars glues : ℕ) → scanFrom inWord glueOf at chars glues (charsFrom t at) ≡ scannedAt at chars glues n
+
 -- The word at a position, of no more characters than that.
 pub record FirstWord (t : List ℕ) (at most : ℕ) (w : Scanned) : Type 0 where
   pub read : lexedAt at (tokens (charsFrom t at)) ≡ Token (wordOf w)

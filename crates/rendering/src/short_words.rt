@@ -5,26 +5,35 @@ use meaning::counts::Offset;
 use parser::ascii::glue_at;
 use parser::lexeme::Lexeme;
 use parser::pair::first_len;
+use parser::pair::space_len;
 use parser::scan::Scanned;
 ghost use Prim.Native.Nat.{_≤_, _<_};
 ghost use mathlib.Core.Path.{_≡_};
 ghost use lib.ListN.{length};
 ghost use Rattle.parser.specs.Scanning.{scannedAt};
-ghost use Rattle.rendering.specs.Quick.{GoesOn, FirstWord, keptWithin};
+ghost use Rattle.rendering.specs.Quick.{GoesOn, EndsBy, FirstWord, keptWithin};
 
-// So many characters that end at an offset, as a scan gives them.
-pub fn scanned_to(end: usize, chars: u32, glues: u32) -> Scanned
-    requires { ⌜ end ≤ 65535 ⌝ }
-    ensures { λ r. ⌜ r ≡ scannedAt end chars glues 1 ⌝ }
+// So many characters that end at an offset, before a character of so many bytes, as a scan gives them.
+fn scanned_before(end: usize, chars: u32, glues: u32, ender: usize) -> Scanned
+    requires { ⌜ (end ≤ 65535) × (ender ≤ 65536) ⌝ }
+    ensures { λ r. ⌜ r ≡ scannedAt end chars glues ender ⌝ }
 {
     let to = end as u32;
-    let reach = to + 1;
+    let reach = to + ender as u32;
     Scanned {
         end: Offset(to),
         chars: Chars(chars),
         weight: Chars(glues),
         reach: Offset(reach),
     }
+}
+
+// Before a character of one byte, or the text's end.
+pub fn scanned_to(end: usize, chars: u32, glues: u32) -> Scanned
+    requires { ⌜ end ≤ 65535 ⌝ }
+    ensures { λ r. ⌜ r ≡ scannedAt end chars glues 1 ⌝ }
+{
+    scanned_before(end, chars, glues, 1)
 }
 
 fn none_scanned() -> Scanned
@@ -82,6 +91,17 @@ fn pass_upto(text: &[u8], from: usize, most: u32) -> Scanned
     scanned_to(end, chars, glues)
 }
 
+// How many bytes the character has that ends a word at a position, where it is told so. The text's end is as one byte. 0: it is
+// not told.
+fn ender_len(text: &[u8], at: usize) -> usize
+    ensures { λ r. ⌜ (0 < r → EndsBy (now (text .entry)) at r) ⌝ }
+{
+    if ends_word(text, at) {
+        return 1;
+    }
+    space_len(text, at)
+}
+
 // The word at a position, if it is told by its bytes and has no more characters than that. No characters: it is not told.
 pub fn short_word(text: &[u8], at: usize, most: u32) -> Scanned
     requires { ⌜ length (now text) ≤ 65535 ⌝ }
@@ -100,8 +120,9 @@ pub fn short_word(text: &[u8], at: usize, most: u32) -> Scanned
     let end = rest.end.0 as usize;
     let n = 1 + rest.chars.0;
     let g = rest.weight.0;
-    if ends_word(text, end) {
-        return scanned_to(end, n, g);
+    let ender = ender_len(text, end);
+    if ender == 0 {
+        return none_scanned();
     }
-    none_scanned()
+    scanned_before(end, n, g, ender)
 }

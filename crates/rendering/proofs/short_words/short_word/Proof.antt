@@ -1,7 +1,7 @@
-use mathlib.Core.Path.{sym, _∙_}
 use native.Mathlib.Omega.{arith}
 use borrow.Author.Needs.{needs}
 use Rattle.parser.specs.Ascii.{Letter}
+use Rattle.rendering.specs.Quick.{EndsBy}
 use Rattle.rendering.proofs.ShortLaws.{letter-inside, first-short, first-none}
 use Rattle.rendering.proofs.short_words.short_word.Statement.{statement}
 use Rattle.rendering.proofs.short_words.short_word.Tie as tie
@@ -47,27 +47,32 @@ add-n c =
     let l = passed c in
     record { fits = omega (arith, l .pass-upto .ensures .0 .forward, l .pass-upto .ensures .0 .inside, l .before .before .before .before .before .pre) }
 
-ends-word-requires : tie.Need-ends-word-requires
-ends-word-requires c κs = search needs
-
-scanned-to-requires : tie.Need-scanned-to-requires
-scanned-to-requires c κs =
-    let l = passed (c .before .before) in
-    omega (arith, l .pass-upto .ensures .0 .inside, l .before .before .before .before .before .pre)
-
-returns-3 : tie.Need-returns-3
-returns-3 c =
-    let i = c .before in
-    let l = passed (i .before .before) in
-    let e = l .before in
-    λ _. first-short _ _ _ _ _ _ _ (found e) (l .pass-upto .ensures .0) (sym (i .before .ends-word .ensures) ∙ i .if3 .taken)
-    (omega (arith, l .pass-upto .ensures .1, e .before .before .if1 .left)) _ (c .scanned-to .ensures)
+ender-len-requires : tie.Need-ender-len-requires
+ender-len-requires c κs = search needs
 
 none-scanned-requires-3 : tie.Need-none-scanned-requires-3
 none-scanned-requires-3 c κs = search needs
 
+returns-3 : tie.Need-returns-3
+returns-3 c = first-none _ _ _ _ (c .none-scanned3 .ensures)
+
+-- What ends it.
+ended : (c : tie.Else3) →
+    let l = passed (c .before .before) in
+    EndsBy (l .before .before .before .before .before .args .text .now) (l .pass-upto .result .end .0) (c .before .ender-len .result)
+ended c = c .before .ender-len .ensures (omega (arith, c .if3 .left))
+
+scanned-before-requires : tie.Need-scanned-before-requires
+scanned-before-requires c κs =
+    let l = passed (c .before .before) in
+    omega (arith, l .pass-upto .ensures .0 .inside, l .before .before .before .before .before .pre, ended c .few)
+
 returns-4 : tie.Need-returns-4
-returns-4 c = first-none _ _ _ _ (c .none-scanned3 .ensures)
+returns-4 c =
+    let i = c .before in
+    let l = passed (i .before .before) in
+    let e = l .before in
+    λ _. first-short _ _ _ _ _ _ _ _ (found e) (l .pass-upto .ensures .0) (ended i) (omega (arith, l .pass-upto .ensures .1, e .before .before .if1 .left)) _ (c .scanned-before .ensures)
 
 pub short-word-spec : {M : Type 1} → statement M
 short-word-spec =
@@ -83,8 +88,8 @@ short-word-spec =
     pass-upto-requires
     cast-end
     add-n
-    ends-word-requires
-    scanned-to-requires
-    returns-3
+    ender-len-requires
     none-scanned-requires-3
+    returns-3
+    scanned-before-requires
     returns-4)
