@@ -35,7 +35,7 @@ use Rattle.rendering.proofs.StrideLaws.{word-onward, pair-goes}
 use Rattle.rendering.proofs.FairLaws.{fair-less}
 
 -- With plain spaces a word is as wide as its characters, whether they glue or not.
-plain-width : (pen n k glyph : ℕ) → k ≤ n → pen + n * glyph ≡ pen + (n - k) * glyph + (k * glyph + min k 0)
+pub plain-width : (pen n k glyph : ℕ) → k ≤ n → pen + n * glyph ≡ pen + (n - k) * glyph + (k * glyph + min k 0)
 plain-width pen n k glyph h =
     let parts : n ≡ n - k + k = omega arith in
     let e : n * glyph ≡ (n - k) * glyph + k * glyph = subst (λ (j : ℕ). j * glyph ≡ (n - k) * glyph + k * glyph) (sym parts) (add-mul (n - k) k glyph) in

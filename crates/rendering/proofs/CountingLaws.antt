@@ -28,12 +28,12 @@ pub record Counting (t : List ℕ) (at most to columns spaces : ℕ) : Type 0 wh
   pub counts : (s : Settings) → LineReady s t at nothingResumed → most ≡ s .width .0 / s .glyph .0 → Counts s t at to columns spaces
   pub fits : columns ≤ most
 
-most-within : (width glyph most columns : ℕ) → most ≡ width / glyph → columns ≤ most → columns * glyph ≤ width
+pub most-within : (width glyph most columns : ℕ) → most ≡ width / glyph → columns ≤ most → columns * glyph ≤ width
 most-within width glyph most columns is h =
     let low : columns * glyph ≤ width / glyph * glyph = mul-le-mul-right glyph (rw is at h) in
     omega (arith, div-mul-le-self width glyph)
 
-most-over : (width glyph most columns : ℕ) → 1 ≤ glyph → most ≡ width / glyph → most < columns → width < columns * glyph
+pub most-over : (width glyph most columns : ℕ) → 1 ≤ glyph → most ≡ width / glyph → most < columns → width < columns * glyph
 most-over width glyph most columns g is h = div-lt-iff-lt-mul g .0 (rw is at h)
 
 -- A pair lies in the text.

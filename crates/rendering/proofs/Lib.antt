@@ -1,6 +1,7 @@
 pub mod BeyondLaws
 pub mod CountLaws
 pub mod CountingLaws
+pub mod CutLaws
 pub mod DrawLaws
 pub mod FairLaws
 pub mod FitsLaws

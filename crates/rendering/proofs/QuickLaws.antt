@@ -119,17 +119,17 @@ module _ {s : Settings} {p : Place} {t : List ℕ} {at : ℕ} {m : Measure} (r :
 
 -- ---- drawn alike
 
-same-before : (e : LineEnd) (m n : Measure) (next reach : ℕ) → SameEnd (endsBefore e m next 0 reach) (endsBefore e n next 0 reach)
+pub same-before : (e : LineEnd) (m n : Measure) (next reach : ℕ) → SameEnd (endsBefore e m next 0 reach) (endsBefore e n next 0 reach)
 unfolding endsBefore
 same-before e m n next reach = record { ended = refl; next = refl; rest = refl; dropped = refl; reach = omega arith }
 
 -- What is measured in all: the words, and a space behind them at most.
-record Measured (s : Settings) (columns spaces : ℕ) (m : Measure) : Type 0 where
-  low : columns * s .glyph .0 ≤ measuredWidth s m
-  high : measuredWidth s m ≤ s .width .0
-  few : spaces ≤ measuredCount s m
+pub record Measured (s : Settings) (columns spaces : ℕ) (m : Measure) : Type 0 where
+  pub low : columns * s .glyph .0 ≤ measuredWidth s m
+  pub high : measuredWidth s m ≤ s .width .0
+  pub few : spaces ≤ measuredCount s m
 
-words-measured : (s : Settings) (columns spaces : ℕ) → columns * s .glyph .0 ≤ s .width .0 → Measured s columns spaces (printedAt (columns * s .glyph .0) spaces)
+pub words-measured : (s : Settings) (columns spaces : ℕ) → columns * s .glyph .0 ≤ s .width .0 → Measured s columns spaces (printedAt (columns * s .glyph .0) spaces)
 unfolding measuredWidth measuredCount
 words-measured s columns spaces h =
     let wide = columns * s .glyph .0 in

@@ -2,6 +2,7 @@
 pub mod ahead;
 pub mod alignment;
 pub mod cursor;
+pub mod cut;
 pub mod ending;
 pub mod entry;
 pub mod first;

@@ -1,6 +1,8 @@
 // A line is measured, placed and drawn (rule 10).
 use crate::alignment::place_line;
 use crate::alignment::plain_spaces;
+use crate::cut::cut_line;
+use crate::cut::known_here;
 use crate::entry::entry_at;
 use crate::first::Known;
 use crate::measure::measured_count;
@@ -130,6 +132,11 @@ pub fn lay_line(text: &[u8], s: Settings, at: usize, rest: Resumed, known: Known
         if let Quick::Line(e) = quick_line(text, s, at, known) {
             return laid_alike(s, at as u32, rest, e);
         }
+        let here = known_here(text, at, known);
+        if let Quick::Line(e) = cut_line(text, s, at, here) {
+            return laid_alike(s, at as u32, rest, e);
+        }
+        return lay_twice(text, s, at, rest, here);
     }
     lay_twice(text, s, at, rest, known)
 }
