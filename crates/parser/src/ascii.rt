@@ -125,6 +125,7 @@ pub fn pass_letters(text: &[u8], from: usize) -> Letters
 }
 
 // How many bytes the letter has that stands at a position, where it is told so. 0: it is not told.
+// Those of two bytes are not told, which keeps it short: `first_len` of pair.rt tells them too.
 pub fn letter_len(text: &[u8], at: usize) -> usize
     ensures { λ r. ⌜ (0 < r → Letter (now (text .entry)) at r) ⌝ }
 {

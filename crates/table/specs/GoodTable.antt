@@ -55,9 +55,6 @@ module _ (n k : ℕ) (b : Before) (e : Entry) (es : List Entry) (h : checkLines 
   pub good-rest : restGood n b e ≡ true
   good-rest = and-true (startGood n b e) (restGood n b e) two .1
 
-  pub good-ending : endingGood es (e .ending) ≡ true
-  good-ending = and-true (startGood n b e && restGood n b e) (endingGood es (e .ending)) three .1
-
   pub good-reach : e .reach .0 ≤ suc n
   unfolding entryGood
   good-reach = leb-true (e .reach .0) (suc n) (and-true tests-of (leb (e .reach .0) (suc n)) (both .0) .1)
