@@ -17,8 +17,8 @@ use Rattle.meaning.specs.declared.line.Entry.{Entry}
 use Rattle.meaning.specs.declared.refusals.Checked.the-variants.{Good}
 use Rattle.laws.specs.Calls3.{chars-within}
 use Rattle.laws.specs.TokenLaws.{length-size}
-use Rattle.rendering.specs.Unrolled.{nothingResumed}
-use Rattle.rendering.specs.declared.step.Resumed.{Resumed}
+use Rattle.steps.specs.Unrolled.{nothingResumed}
+use Rattle.steps.specs.declared.step.Resumed.{Resumed}
 use Rattle.again.specs.PartChars.{part-size, part-boundary}
 use Rattle.again.specs.HeldRest.{restEnd, resumedOf, fits-not, fits-by, fits-ends}
 

@@ -20,11 +20,11 @@ use Rattle.laws.specs.LineBounds.{line-held, line-rest}
 use Rattle.laws.specs.Stands.{next-fewer}
 use Rattle.laws.specs.TokenLaws.{length-size}
 use Rattle.parser.specs.Lexing.{charsFrom}
-use Rattle.rendering.specs.Lexed.{chars-within}
-use Rattle.rendering.specs.LineFrom.{heldIn, lineAtOf, lineFrom}
-use Rattle.rendering.specs.LineLaws.{next-start, next-held, next-chars}
-use Rattle.rendering.specs.Pending.{RestFits}
-use Rattle.rendering.specs.declared.step.Resumed.{Resumed}
+use Rattle.steps.specs.Lexed.{chars-within}
+use Rattle.line.specs.LineFrom.{heldIn, lineAtOf, lineFrom}
+use Rattle.line.specs.LineLaws.{next-start, next-held, next-chars}
+use Rattle.steps.specs.Pending.{RestFits}
+use Rattle.steps.specs.declared.step.Resumed.{Resumed}
 use Rattle.again.specs.Behind.{behind, entry-behind, restBehind, rest-behind}
 
 -- ---- any count of lines above the number of characters gives the same

@@ -18,9 +18,9 @@ use Rattle.meaning.specs.declared.line.Rest.{Rest}
 use Rattle.laws.specs.Moved.{entry-moved}
 use Rattle.laws.specs.Rests.{rest-none, rest-some}
 use Rattle.parser.specs.Lexing.{charsFrom}
-use Rattle.rendering.specs.LineFrom.{heldIn}
-use Rattle.rendering.specs.Pending.{RestFits}
-use Rattle.rendering.specs.declared.step.Resumed.{Resumed}
+use Rattle.line.specs.LineFrom.{heldIn}
+use Rattle.steps.specs.Pending.{RestFits}
+use Rattle.steps.specs.declared.step.Resumed.{Resumed}
 
 -- Bytes put in front of everything.
 abbrev pub behind : ℕ → Edit

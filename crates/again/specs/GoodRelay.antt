@@ -26,8 +26,8 @@ use Rattle.meaning.specs.declared.refusals.Checked.{Checked}
 use Rattle.meaning.specs.declared.refusals.Checked.the-variants.{Good, Refused}
 use Rattle.laws.specs.Calls3.{refuse-good}
 use Rattle.parser.specs.Lexing.{charsFrom}
-use Rattle.rendering.specs.Laying.{LineReady}
-use Rattle.rendering.specs.declared.step.Resumed.{Resumed}
+use Rattle.line.specs.Laying.{LineReady}
+use Rattle.steps.specs.declared.step.Resumed.{Resumed}
 use Rattle.table.specs.LinesFrom.{linesFrom, lines-more}
 use Rattle.table.specs.GoodTable.{table-room, table-text, table-lines}
 use Rattle.table.specs.Moving.{AllMovable}

@@ -17,11 +17,11 @@ use Rattle.meaning.specs.declared.line.Entry.{Entry}
 use Rattle.meaning.specs.declared.refusals.Checked.the-variants.{Good}
 use Rattle.laws.specs.Calls3.{chars-within}
 use Rattle.parser.specs.Lexing.{charsFrom}
-use Rattle.rendering.specs.Unrolled.{nothingResumed}
-use Rattle.rendering.specs.Running.{none-fits}
-use Rattle.rendering.specs.LineFrom.{heldIn}
-use Rattle.rendering.specs.Pending.{RestFits}
-use Rattle.rendering.specs.declared.step.Resumed.{Resumed}
+use Rattle.steps.specs.Unrolled.{nothingResumed}
+use Rattle.steps.specs.Running.{none-fits}
+use Rattle.line.specs.LineFrom.{heldIn}
+use Rattle.steps.specs.Pending.{RestFits}
+use Rattle.steps.specs.declared.step.Resumed.{Resumed}
 use Rattle.again.specs.PartChars.{cut-size}
 
 -- Where an entry's rest ends in the part, which stands from the entry's start on.

@@ -21,8 +21,8 @@ use Rattle.meaning.specs.declared.line.LineEnd.the-variants.{NewLine, CarriageR
 use Rattle.meaning.specs.declared.line.Rest.{Rest}
 use Rattle.meaning.specs.declared.line.Entry.{Entry}
 use Rattle.parser.specs.Lexing.{charsFrom}
-use Rattle.rendering.specs.LineFrom.{heldIn}
-use Rattle.rendering.specs.declared.step.Resumed.{Resumed}
+use Rattle.line.specs.LineFrom.{heldIn}
+use Rattle.steps.specs.declared.step.Resumed.{Resumed}
 use Rattle.again.specs.AgainFrom.{againFrom}
 
 -- The first of some lines, if there is one, starts behind the replaced bytes.

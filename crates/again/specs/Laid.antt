@@ -13,10 +13,10 @@ use Rattle.meaning.specs.declared.settings.Settings.{Settings}
 use Rattle.meaning.specs.declared.edit.Edit.{Edit}
 use Rattle.meaning.specs.declared.line.Entry.{Entry}
 use Rattle.parser.specs.Lexing.{charsFrom}
-use Rattle.rendering.specs.LineFrom.{heldIn, lineFrom}
-use Rattle.rendering.specs.LineLaws.{next-rest}
-use Rattle.rendering.specs.Pending.{RestFits}
-use Rattle.rendering.specs.declared.step.Resumed.{Resumed}
+use Rattle.line.specs.LineFrom.{heldIn, lineFrom}
+use Rattle.line.specs.LineLaws.{next-rest}
+use Rattle.steps.specs.Pending.{RestFits}
+use Rattle.steps.specs.declared.step.Resumed.{Resumed}
 use Rattle.layout.specs.RowsFrom.{isLast, last-is, not-last}
 use Rattle.again.specs.Behind.{behind, restBehind}
 use Rattle.again.specs.AgainFrom.{againFrom, entry-is, again-stop, again-last, again-more}

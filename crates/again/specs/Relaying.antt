@@ -19,7 +19,7 @@ use Rattle.meaning.specs.declared.refusals.Checked.the-variants.{Good}
 use Rattle.meaning.specs.declared.answers.Relaid.the-variants as relaid
 use Rattle.laws.specs.Affected.{unaffected-old}
 use Rattle.laws.specs.TableLaws.{entries-length, entries-first}
-use Rattle.rendering.specs.declared.step.Resumed.{Resumed}
+use Rattle.steps.specs.declared.step.Resumed.{Resumed}
 use Rattle.table.specs.LinesFrom.{linesFrom, lines-more, lines-end}
 use Rattle.table.specs.GoodTable.{table-room, table-count}
 use Rattle.table.specs.Moving.{linesMoved, AllMovable, Movable}

@@ -16,11 +16,11 @@ use Rattle.meaning.specs.declared.line.Entry.{Entry}
 use Rattle.laws.specs.TableLaws.{entries-length}
 use Rattle.laws.specs.PassBounds.{size-take}
 use Rattle.parser.specs.Lexing.{charsFrom}
-use Rattle.rendering.specs.Lexed.{chars-within}
-use Rattle.rendering.specs.Laying.{LineReady}
-use Rattle.rendering.specs.LineFrom.{lineFrom}
-use Rattle.rendering.specs.declared.step.Resumed.{Resumed}
-use Rattle.rendering.specs.declared.line.LineAt.{LineAt}
+use Rattle.steps.specs.Lexed.{chars-within}
+use Rattle.line.specs.Laying.{LineReady}
+use Rattle.line.specs.LineFrom.{lineFrom}
+use Rattle.steps.specs.declared.step.Resumed.{Resumed}
+use Rattle.line.specs.declared.line.LineAt.{LineAt}
 use Rattle.table.specs.LinesFrom.{linesFrom}
 use Rattle.layout.specs.RowsFrom.{isLast, last-is, not-last}
 use Rattle.layout.specs.Turns.{ready-next, further}

@@ -10,11 +10,11 @@ use Rattle.meaning.specs.Edit.{movedEntry}
 use Rattle.meaning.specs.declared.settings.Settings.{Settings}
 use Rattle.meaning.specs.declared.line.Entry.{Entry}
 use Rattle.laws.specs.TableLaws.{entry-numbers}
-use Rattle.rendering.specs.Laying.{LineReady}
-use Rattle.rendering.specs.LineFrom.{lineFrom}
-use Rattle.rendering.specs.LineLaws.{entry-small}
-use Rattle.rendering.specs.declared.step.Resumed.{Resumed}
-use Rattle.rendering.specs.declared.line.LineAt.{LineAt}
+use Rattle.line.specs.Laying.{LineReady}
+use Rattle.line.specs.LineFrom.{lineFrom}
+use Rattle.line.specs.LineLaws.{entry-small}
+use Rattle.steps.specs.declared.step.Resumed.{Resumed}
+use Rattle.line.specs.declared.line.LineAt.{LineAt}
 use Rattle.table.specs.Numbers.{putNumbers}
 use Rattle.table.specs.Stretches.{join-behind, put-none}
 use Rattle.table.specs.Moving.{MovableEntry}

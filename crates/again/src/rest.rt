@@ -4,7 +4,7 @@ use layout::lines::nothing;
 use meaning::counts::Chars;
 use meaning::counts::Offset;
 use meaning::line::Entry;
-use rendering::step::Resumed;
+use steps::step::Resumed;
 use table::one_line::no_rest;
 use unicode::text::count_chars;
 use unicode::text::is_boundary;

@@ -1,12 +1,12 @@
 // The lines laid again, written to the table.
+use line::line::lay_line;
 use meaning::counts::Offset;
 use meaning::edit::Edit;
 use meaning::line::Entry;
 use meaning::settings::Settings;
-use rendering::first::known_from;
-use rendering::first::nothing_known;
-use rendering::line::lay_line;
-use rendering::step::Resumed;
+use steps::first::known_from;
+use steps::first::nothing_known;
+use steps::step::Resumed;
 use table::entries::write_entry;
 use table::moving::moved_entry;
 ghost use Prim.Native.Nat.{_≤_};

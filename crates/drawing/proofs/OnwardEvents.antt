@@ -21,20 +21,20 @@ use Rattle.parser.specs.Lexing.{charsFrom, lexedAt}
 use Rattle.parser.specs.Pairs.{oneSpace, PairAt}
 use Rattle.parser.specs.declared.lexeme.Lexeme.{Lexeme}
 use Rattle.parser.specs.declared.lexeme.Lexed.the-variants.{Token}
-use Rattle.rendering.specs.Unrolled.{nothingResumed}
-use Rattle.rendering.specs.Running.{PassReady}
-use Rattle.rendering.specs.Stopping.{wordPlace}
-use Rattle.rendering.specs.PlainWords.{PlainWord, Stride}
-use Rattle.rendering.specs.Strides.{waitingAt, strodePlace, Waits}
-use Rattle.rendering.specs.Foreseeing.{ForeseesFrom}
-use Rattle.rendering.specs.declared.look.Foreseen.{Foreseen}
-use Rattle.rendering.specs.declared.step.Resumed.{Resumed}
-use Rattle.rendering.specs.declared.going.Waiting.{Waiting}
-use Rattle.rendering.proofs.WordLaws.{wordAt}
-use Rattle.rendering.proofs.PlainLaws.{plainWord, plain-read}
-use Rattle.rendering.proofs.OnwardLaws.{read-pending}
-use Rattle.rendering.proofs.StrideLaws.{fits-in, word-onward, stride-goes}
-use Rattle.rendering.proofs.GoesLaws.{rest-none}
+use Rattle.steps.specs.Unrolled.{nothingResumed}
+use Rattle.steps.specs.Running.{PassReady}
+use Rattle.steps.specs.Stopping.{wordPlace}
+use Rattle.strides.specs.PlainWords.{PlainWord, Stride}
+use Rattle.strides.specs.Strides.{waitingAt, strodePlace, Waits}
+use Rattle.steps.specs.Foreseeing.{ForeseesFrom}
+use Rattle.steps.specs.declared.look.Foreseen.{Foreseen}
+use Rattle.steps.specs.declared.step.Resumed.{Resumed}
+use Rattle.strides.specs.declared.going.Waiting.{Waiting}
+use Rattle.steps.specs.WordLaws.{wordAt}
+use Rattle.strides.specs.PlainLaws.{plainWord, plain-read}
+use Rattle.strides.specs.OnwardLaws.{read-pending}
+use Rattle.strides.specs.StrideLaws.{fits-in, word-onward, stride-goes}
+use Rattle.strides.specs.GoesLaws.{rest-none}
 use Rattle.drawing.specs.Drawn.{drawnFrom}
 use Rattle.drawing.specs.Sheet.{Sheet, sheet, drawnOn, on-append, widths, pen-after}
 use Rattle.drawing.specs.DrawingOn.{PenReady, Drew, standingAt, Strode}

@@ -20,14 +20,14 @@ use Rattle.parser.specs.Scanning.{wordOf}
 use Rattle.parser.specs.Pairs.{PairAt}
 use Rattle.parser.specs.declared.lexeme.Lexed.the-variants.{Token}
 use Rattle.parser.specs.declared.scan.Scanned.{Scanned}
-use Rattle.rendering.specs.Ready.{Standing}
-use Rattle.rendering.specs.Unrolled.{nothingResumed}
-use Rattle.rendering.specs.Stopping.{wordPlace}
-use Rattle.rendering.specs.Strides.{strodePlace}
-use Rattle.rendering.proofs.WordLaws.{word-at}
-use Rattle.rendering.proofs.OnwardLaws.{read-pending}
-use Rattle.rendering.proofs.StrideLaws.{fits-in}
-use Rattle.rendering.proofs.PairLaws.{pair-numbers}
+use Rattle.steps.specs.Ready.{Standing}
+use Rattle.steps.specs.Unrolled.{nothingResumed}
+use Rattle.steps.specs.Stopping.{wordPlace}
+use Rattle.strides.specs.Strides.{strodePlace}
+use Rattle.steps.specs.WordLaws.{word-at}
+use Rattle.strides.specs.OnwardLaws.{read-pending}
+use Rattle.strides.specs.StrideLaws.{fits-in}
+use Rattle.strides.specs.PairLaws.{pair-numbers}
 use Rattle.drawing.specs.Sheet.{sheet, drawnOn}
 use Rattle.drawing.specs.Stretching.{WordRoom}
 use Rattle.drawing.specs.DrawingOn.{PenReady, Drew}

@@ -13,14 +13,14 @@ use Rattle.meaning.specs.declared.line.Measure.{Measure}
 use Rattle.laws.specs.Measuring.{printedAt}
 use Rattle.parser.specs.Lexing.{charsFrom}
 use Rattle.parser.specs.declared.lexeme.Lexeme.{Lexeme}
-use Rattle.rendering.specs.Ready.{Ready, stepFrom}
-use Rattle.rendering.specs.Pending.{Pending}
-use Rattle.rendering.specs.Running.{none-fits, step-keeps}
-use Rattle.rendering.specs.Strides.{Waits}
-use Rattle.rendering.specs.Unrolled.{nothingResumed}
-use Rattle.rendering.specs.declared.step.Resumed.{Resumed}
-use Rattle.rendering.specs.declared.step.Ended.{Ended}
-use Rattle.rendering.specs.declared.step.Stepped.the-variants.{Go, Stop}
+use Rattle.steps.specs.Ready.{Ready, stepFrom}
+use Rattle.steps.specs.Pending.{Pending}
+use Rattle.steps.specs.Running.{none-fits, step-keeps}
+use Rattle.strides.specs.Strides.{Waits}
+use Rattle.steps.specs.Unrolled.{nothingResumed}
+use Rattle.steps.specs.declared.step.Resumed.{Resumed}
+use Rattle.steps.specs.declared.step.Ended.{Ended}
+use Rattle.steps.specs.declared.step.Stepped.the-variants.{Go, Stop}
 use Rattle.table.specs.Numbers.{putEvents}
 use Rattle.drawing.specs.Drawn.{drawnFrom, eventsFrom}
 use Rattle.drawing.specs.Sheet.{Sheet, sheet, drawnOn, on-append, on-none, on-is, pen-after}

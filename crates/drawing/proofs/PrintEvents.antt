@@ -25,11 +25,11 @@ use Rattle.meaning.specs.declared.tokens.TokenKind.the-variants.{Word}
 use Rattle.laws.specs.PassBounds.{size-take}
 use Rattle.laws.specs.Measuring.{glues-append}
 use Rattle.parser.specs.declared.lexeme.Lexeme.{Lexeme}
-use Rattle.rendering.specs.FineLaws.{times-bound}
-use Rattle.rendering.specs.Stepping.{steppedAt}
-use Rattle.rendering.specs.Ready.{Ready, stepFrom}
-use Rattle.rendering.specs.declared.step.Stepped.{Stepped}
-use Rattle.rendering.proofs.WordLaws.{WordAt, word-at}
+use Rattle.steps.specs.FineLaws.{times-bound}
+use Rattle.steps.specs.Stepping.{steppedAt}
+use Rattle.steps.specs.Ready.{Ready, stepFrom}
+use Rattle.steps.specs.declared.step.Stepped.{Stepped}
+use Rattle.steps.specs.WordLaws.{WordAt, word-at}
 use Rattle.drawing.specs.Sheet.{Sheet, drawnOn}
 use Rattle.drawing.specs.TokenDrawn.{drawnOf, tokDrawn, grownBy, takenEnd, printDrawn}
 use Rattle.drawing.specs.declared.grown.Grown.{Grown}

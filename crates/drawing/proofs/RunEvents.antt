@@ -20,10 +20,10 @@ use Rattle.meaning.specs.declared.line.Measure.{Measure}
 use Rattle.parser.specs.Lexing.{charsFrom, partOf}
 use Rattle.parser.specs.declared.lexeme.Lexeme.{Lexeme}
 use Rattle.parser.specs.declared.lexeme.Part.{Part}
-use Rattle.rendering.specs.Lexed.{chars-within}
-use Rattle.rendering.specs.declared.step.Ended.{Ended}
-use Rattle.rendering.specs.declared.step.Stepped.{Stepped}
-use Rattle.rendering.specs.declared.step.Stepped.the-variants.{Go, Stop}
+use Rattle.steps.specs.Lexed.{chars-within}
+use Rattle.steps.specs.declared.step.Ended.{Ended}
+use Rattle.steps.specs.declared.step.Stepped.{Stepped}
+use Rattle.steps.specs.declared.step.Stepped.the-variants.{Go, Stop}
 use Rattle.drawing.specs.Sheet.{Sheet, drawnOn}
 use Rattle.drawing.specs.TokenDrawn.{measureOf, Grows, runDrawn, printDrawn}
 use Rattle.drawing.specs.declared.grown.Grown.{Grown}

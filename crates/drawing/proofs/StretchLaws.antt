@@ -15,7 +15,7 @@ use Rattle.meaning.specs.SpaceConfig.{spacesWidth, spacesAfter}
 use Rattle.meaning.specs.Words.{drawn}
 use Rattle.meaning.specs.declared.cursor.Spaces.{Spaces}
 use Rattle.meaning.specs.declared.line.EventKind.the-variants.{Space, Printed}
-use Rattle.rendering.specs.Fine.{FineSpaces}
+use Rattle.steps.specs.Fine.{FineSpaces}
 use Rattle.drawing.specs.Sheet.{Sheet, sheet, drawnOn, on-append, widths, pen-after}
 use Rattle.drawing.specs.WordDrawn.{closed, restDrawn, rest-glues, rest-grows}
 use Rattle.drawing.specs.Stretching.{restOn, FineStretch, Passed}

@@ -27,26 +27,26 @@ use Rattle.parser.specs.Lexing.{charsFrom, lexedAt}
 use Rattle.parser.specs.Pairs.{oneSpace, PairAt}
 use Rattle.parser.specs.declared.lexeme.Lexeme.{Lexeme}
 use Rattle.parser.specs.declared.lexeme.Lexed.the-variants.{Token}
-use Rattle.rendering.specs.Ahead.{lookAt}
-use Rattle.rendering.specs.Stepping.{steppedAt}
-use Rattle.rendering.specs.Unrolled.{nothingResumed}
-use Rattle.rendering.specs.Ready.{Ready, stepFrom}
-use Rattle.rendering.specs.Runs.{wholeAnswer, cutAnswer}
-use Rattle.rendering.specs.Running.{PassReady}
-use Rattle.rendering.specs.Stopping.{wordPlace}
-use Rattle.rendering.specs.PlainWords.{Stride}
-use Rattle.rendering.specs.Strides.{strodePlace, Waits}
-use Rattle.rendering.specs.declared.look.Look.{Look}
-use Rattle.rendering.specs.declared.going.Waiting.{Waiting}
-use Rattle.rendering.specs.declared.step.Stepped.the-variants.{Go}
-use Rattle.rendering.proofs.DrawLaws.{whole-drawn, whole-hidden}
-use Rattle.rendering.proofs.RunLaws.{run-tok, space-whole, space-cut}
-use Rattle.rendering.proofs.WordLaws as rendered
-use Rattle.rendering.proofs.WordLaws.{wordAt, WordAt, word-at, word-goes}
-use Rattle.rendering.proofs.PlainLaws.{plainWord, plain-pair}
-use Rattle.rendering.proofs.OnwardLaws.{read-pending, read-ready}
-use Rattle.rendering.proofs.StrideLaws.{stays, behind, looks-all, looks-word, space-goes, fits-in}
-use Rattle.rendering.proofs.WaitLaws.{over-full}
+use Rattle.steps.specs.Ahead.{lookAt}
+use Rattle.steps.specs.Stepping.{steppedAt}
+use Rattle.steps.specs.Unrolled.{nothingResumed}
+use Rattle.steps.specs.Ready.{Ready, stepFrom}
+use Rattle.steps.specs.Runs.{wholeAnswer, cutAnswer}
+use Rattle.steps.specs.Running.{PassReady}
+use Rattle.steps.specs.Stopping.{wordPlace}
+use Rattle.strides.specs.PlainWords.{Stride}
+use Rattle.strides.specs.Strides.{strodePlace, Waits}
+use Rattle.steps.specs.declared.look.Look.{Look}
+use Rattle.strides.specs.declared.going.Waiting.{Waiting}
+use Rattle.steps.specs.declared.step.Stepped.the-variants.{Go}
+use Rattle.steps.specs.DrawLaws.{whole-drawn, whole-hidden}
+use Rattle.steps.specs.RunLaws.{run-tok, space-whole, space-cut}
+use Rattle.steps.specs.WordLaws as rendered
+use Rattle.steps.specs.WordLaws.{wordAt, WordAt, word-at, word-goes}
+use Rattle.strides.specs.PlainLaws.{plainWord, plain-pair}
+use Rattle.strides.specs.OnwardLaws.{read-pending, read-ready}
+use Rattle.strides.specs.StrideLaws.{stays, behind, looks-all, looks-word, space-goes, fits-in}
+use Rattle.strides.specs.WaitLaws.{over-full}
 use Rattle.drawing.specs.Drawn.{drawnFrom}
 use Rattle.drawing.specs.Sheet.{widths}
 use Rattle.drawing.specs.TokenDrawn.{tokDrawn, grownBy, runDrawn}

@@ -16,11 +16,11 @@ use Rattle.meaning.specs.declared.line.EventKind.{EventKind}
 use Rattle.meaning.specs.declared.line.EventKind.the-variants.{Space, Move}
 use Rattle.parser.specs.Lexing.{charsFrom, lexemeAt}
 use Rattle.parser.specs.declared.lexeme.Lexeme.{Lexeme}
-use Rattle.rendering.specs.Fine.{FinePlace}
-use Rattle.rendering.specs.FineLaws.{advance-fine}
-use Rattle.rendering.specs.Stepping.{lookOf, tokOf}
-use Rattle.rendering.specs.Ready.{Standing}
-use Rattle.rendering.specs.declared.look.Look.{Look}
+use Rattle.steps.specs.Fine.{FinePlace}
+use Rattle.steps.specs.FineLaws.{advance-fine}
+use Rattle.steps.specs.Stepping.{lookOf, tokOf}
+use Rattle.steps.specs.Ready.{Standing}
+use Rattle.steps.specs.declared.look.Look.{Look}
 use Rattle.drawing.specs.Sheet.{Sheet, drawnOn}
 use Rattle.drawing.specs.TokenDrawn.{drawnOf, tokDrawn}
 

@@ -29,11 +29,11 @@ use Rattle.laws.specs.Spell.{spell, SoundTok}
 use Rattle.laws.specs.TokenLaws.{tokens-cover}
 use Rattle.parser.specs.Lexing.{charsFrom, lexemeAt}
 use Rattle.parser.specs.declared.lexeme.Lexeme.{Lexeme}
-use Rattle.rendering.specs.FineSteps as fine
-use Rattle.rendering.specs.Stepping.{steppedAt, tokOf}
-use Rattle.rendering.specs.Ready.{Standing, Ready, stepFrom}
-use Rattle.rendering.specs.declared.step.Stepped.{Stepped}
-use Rattle.rendering.proofs.RunLaws.{run-tok, run-end}
+use Rattle.steps.specs.FineSteps as fine
+use Rattle.steps.specs.Stepping.{steppedAt, tokOf}
+use Rattle.steps.specs.Ready.{Standing, Ready, stepFrom}
+use Rattle.steps.specs.declared.step.Stepped.{Stepped}
+use Rattle.steps.specs.RunLaws.{run-tok, run-end}
 use Rattle.drawing.specs.Sheet.{Sheet, drawnOn, widths, measured-pen, measured-spaces}
 use Rattle.drawing.specs.TokenDrawn.{drawnOf, tokDrawn, measureOf, grownBy, Grows, runDrawn, printDrawn}
 use Rattle.drawing.specs.declared.grown.Grown.{Grown}

@@ -18,7 +18,7 @@ use Rattle.meaning.specs.declared.cursor.Place.{Place}
 use Rattle.laws.specs.Steps.{too-wide}
 use Rattle.parser.specs.Lexing.{charsFrom}
 use Rattle.parser.specs.declared.lexeme.Lexeme.{Lexeme}
-use Rattle.rendering.proofs.WordLaws.{WordAt, wordAt}
+use Rattle.steps.specs.WordLaws.{WordAt, wordAt}
 use Rattle.drawing.specs.Sheet.{Sheet, drawnOn}
 use Rattle.drawing.specs.TokenDrawn.{tokDrawn}
 

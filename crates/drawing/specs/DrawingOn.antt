@@ -6,10 +6,10 @@ use mathlib.Core.List.{List}
 use Rattle.meaning.specs.Line.{unmeasured}
 use Rattle.meaning.specs.declared.settings.Settings.{Settings}
 use Rattle.meaning.specs.declared.cursor.Place.{Place}
-use Rattle.rendering.specs.Running.{PassReady}
-use Rattle.rendering.specs.PlainWords.{Found}
-use Rattle.rendering.specs.Strides.{waitingAt, Waits}
-use Rattle.rendering.specs.declared.step.Resumed.{Resumed}
+use Rattle.steps.specs.Running.{PassReady}
+use Rattle.strides.specs.PlainWords.{Found}
+use Rattle.strides.specs.Strides.{waitingAt, Waits}
+use Rattle.steps.specs.declared.step.Resumed.{Resumed}
 use Rattle.drawing.specs.Drawn.{drawnFrom}
 use Rattle.drawing.specs.Sheet.{sheet, drawnOn}
 use Rattle.drawing.specs.declared.pen.Pen.{Pen}

@@ -29,8 +29,8 @@ use Rattle.laws.specs.Steps.{SoundStep, step-sound, too-wide, some-spaces}
 use Rattle.laws.specs.PassBounds.{size-take, whole-text}
 use Rattle.parser.specs.Lexing.{charsFrom}
 use Rattle.parser.specs.declared.lexeme.Lexeme.{Lexeme}
-use Rattle.rendering.specs.Stepping.{tokOf}
-use Rattle.rendering.specs.Pending.{Pending}
+use Rattle.steps.specs.Stepping.{tokOf}
+use Rattle.steps.specs.Pending.{Pending}
 use Rattle.drawing.specs.WordDrawn.{word-few}
 use Rattle.drawing.specs.TokenDrawn.{drawnOf, tokDrawn}
 

@@ -13,13 +13,13 @@ use Rattle.meaning.specs.declared.counts.Offset.{Offset}
 use Rattle.meaning.specs.declared.line.Measure.{Measure}
 use Rattle.parser.specs.Lexing.{charsFrom}
 use Rattle.parser.specs.declared.lexeme.Lexeme.{Lexeme}
-use Rattle.rendering.specs.Stepping.{steppedAt, tokOf}
-use Rattle.rendering.specs.Ready.{stepFrom}
-use Rattle.rendering.specs.Pending.{Pending}
-use Rattle.rendering.specs.Running.{PassReady}
-use Rattle.rendering.specs.declared.step.Resumed.{Resumed}
-use Rattle.rendering.specs.declared.step.Ended.{Ended}
-use Rattle.rendering.specs.declared.step.Stepped.the-variants.{Go, Stop}
+use Rattle.steps.specs.Stepping.{steppedAt, tokOf}
+use Rattle.steps.specs.Ready.{stepFrom}
+use Rattle.steps.specs.Pending.{Pending}
+use Rattle.steps.specs.Running.{PassReady}
+use Rattle.steps.specs.declared.step.Resumed.{Resumed}
+use Rattle.steps.specs.declared.step.Ended.{Ended}
+use Rattle.steps.specs.declared.step.Stepped.the-variants.{Go, Stop}
 use Rattle.drawing.specs.Drawn.{drawnFrom}
 use Rattle.drawing.specs.TokenDrawn.{drawnOf, tokDrawn}
 

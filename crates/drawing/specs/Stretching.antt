@@ -5,7 +5,7 @@ use mathlib.Core.Path.{_≡_}
 use mathlib.Core.List.{List, _∷_}
 use lib.ListN.{length}
 use Rattle.meaning.specs.declared.cursor.Spaces.{Spaces}
-use Rattle.rendering.specs.Fine.{FineSpaces}
+use Rattle.steps.specs.Fine.{FineSpaces}
 use Rattle.drawing.specs.Sheet.{Sheet, sheet, drawnOn}
 use Rattle.drawing.specs.WordDrawn.{restDrawn}
 use Rattle.drawing.specs.declared.pen.Pen.{Pen}

@@ -17,11 +17,11 @@ use Rattle.meaning.specs.declared.line.EventKind.the-variants.{Space, Printed}
 use Rattle.meaning.specs.declared.line.Measure.{Measure}
 use Rattle.parser.specs.Lexing.{charsFrom}
 use Rattle.parser.specs.declared.lexeme.Lexeme.{Lexeme}
-use Rattle.rendering.specs.Fine.{FineSettings, FinePlace}
-use Rattle.rendering.specs.Stepping.{tokOf}
-use Rattle.rendering.specs.Ready.{Standing, Ready, stepFrom}
-use Rattle.rendering.specs.declared.step.Stepped.{Stepped}
-use Rattle.rendering.specs.declared.step.Stepped.the-variants.{Go, Stop}
+use Rattle.steps.specs.Fine.{FineSettings, FinePlace}
+use Rattle.steps.specs.Stepping.{tokOf}
+use Rattle.steps.specs.Ready.{Standing, Ready, stepFrom}
+use Rattle.steps.specs.declared.step.Stepped.{Stepped}
+use Rattle.steps.specs.declared.step.Stepped.the-variants.{Go, Stop}
 use Rattle.drawing.specs.declared.pen.Pen.{Pen}
 use Rattle.drawing.specs.declared.grown.Grown.{Grown}
 

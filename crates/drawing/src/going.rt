@@ -1,8 +1,8 @@
 // Where the drawing of a line stands between two tokens, and what waits there for the next line.
 use crate::pen::Pen;
 use meaning::cursor::Place;
-use rendering::going::Waiting;
-use rendering::going::nothing_waits;
+use strides::going::Waiting;
+use strides::going::nothing_waits;
 ghost use mathlib.Core.Path.{_≡_};
 ghost use Rattle.drawing.specs.DrawingOn.{standingAt};
 

@@ -2,7 +2,7 @@
 use meaning::counts::Chars;
 use meaning::counts::Pixels;
 use meaning::line::Measure;
-use rendering::step::Stepped;
+use steps::step::Stepped;
 ghost use mathlib.Core.Path.{_≡_};
 ghost use Rattle.drawing.specs.TokenDrawn.{measureOf, grownBy, Grows, takenEnd};
 

@@ -10,13 +10,13 @@ use Rattle.meaning.specs.Line.{layLine, entryAt}
 use Rattle.meaning.specs.declared.settings.Settings.{Settings}
 use Rattle.table.specs.Numbers.{putEvents}
 use Rattle.parser.specs.Lexing.{charsFrom}
-use Rattle.rendering.specs.FineSteps.{start-fine}
-use Rattle.rendering.specs.Unrolled.{nothingResumed}
-use Rattle.rendering.specs.Laying.{LineReady}
-use Rattle.rendering.specs.LineFrom.{heldIn, lineAtOf, lineFrom}
-use Rattle.rendering.specs.LineLaws.{placed-fine}
-use Rattle.rendering.specs.declared.step.Resumed.{Resumed}
-use Rattle.rendering.specs.declared.line.LineAt.{LineAt}
+use Rattle.steps.specs.FineSteps.{start-fine}
+use Rattle.steps.specs.Unrolled.{nothingResumed}
+use Rattle.line.specs.Laying.{LineReady}
+use Rattle.line.specs.LineFrom.{heldIn, lineAtOf, lineFrom}
+use Rattle.line.specs.LineLaws.{placed-fine}
+use Rattle.steps.specs.declared.step.Resumed.{Resumed}
+use Rattle.line.specs.declared.line.LineAt.{LineAt}
 use Rattle.drawing.specs.Sheet.{put-append}
 use Rattle.drawing.specs.PassDrawn.{DrawRoom}
 use Rattle.layout.specs.RowsFrom.{TextReady, isLast, last-is, not-last}

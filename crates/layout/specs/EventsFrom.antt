@@ -22,13 +22,13 @@ use Rattle.laws.specs.Shift.{pass-events}
 use Rattle.laws.specs.PassBounds.{size-take}
 use Rattle.laws.specs.RowInduction.{FitsIn, unless-cases, each-row}
 use Rattle.parser.specs.Lexing.{charsFrom}
-use Rattle.rendering.specs.Unrolled.{nothingResumed}
-use Rattle.rendering.specs.Lexed.{chars-within}
-use Rattle.rendering.specs.Pending.{RestFits}
-use Rattle.rendering.specs.LineFrom.{heldIn, lineAtOf, lineFrom}
-use Rattle.rendering.specs.LineLaws.{next-start}
-use Rattle.rendering.specs.Stepping.{resumedAt}
-use Rattle.rendering.specs.declared.step.Resumed.{Resumed}
+use Rattle.steps.specs.Unrolled.{nothingResumed}
+use Rattle.steps.specs.Lexed.{chars-within}
+use Rattle.steps.specs.Pending.{RestFits}
+use Rattle.line.specs.LineFrom.{heldIn, lineAtOf, lineFrom}
+use Rattle.line.specs.LineLaws.{next-start}
+use Rattle.steps.specs.Stepping.{resumedAt}
+use Rattle.steps.specs.declared.step.Resumed.{Resumed}
 use Rattle.drawing.specs.Drawn.{drawnFrom, eventsFrom}
 use Rattle.drawing.specs.PassDrawn.{DrawRoom}
 use Rattle.drawing.specs.DrawnBounds.{line-few}

@@ -21,8 +21,8 @@ use Rattle.laws.specs.LayoutBounds.{few-lines}
 use Rattle.laws.specs.TokenLaws.{length-size}
 use Rattle.parser.specs.Lexing.{charsFrom}
 use Rattle.parser.proofs.TokenizeLaws.{good-length}
-use Rattle.rendering.specs.Fine.{FineSettings}
-use Rattle.rendering.specs.Lexed.{chars-within}
+use Rattle.steps.specs.Fine.{FineSettings}
+use Rattle.steps.specs.Lexed.{chars-within}
 use Rattle.table.specs.GoodTable.{good-both}
 use Rattle.layout.specs.RowsFrom.{TextReady, entriesOf}
 

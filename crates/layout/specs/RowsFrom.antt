@@ -20,12 +20,12 @@ use Rattle.laws.specs.Stands.{unless-both}
 use Rattle.laws.specs.RowInduction.{unless-cases}
 use Rattle.parser.specs.Lexing.{charsFrom}
 use Rattle.parser.proofs.NextLaws.{chars-after}
-use Rattle.rendering.specs.Fine.{FineSettings}
-use Rattle.rendering.specs.Stepping.{resumedAt}
-use Rattle.rendering.specs.Unrolled.{nothingResumed}
-use Rattle.rendering.specs.Pending.{RestFits}
-use Rattle.rendering.specs.LineFrom.{heldIn, lineAtOf, lineFrom}
-use Rattle.rendering.specs.declared.step.Resumed.{Resumed}
+use Rattle.steps.specs.Fine.{FineSettings}
+use Rattle.steps.specs.Stepping.{resumedAt}
+use Rattle.steps.specs.Unrolled.{nothingResumed}
+use Rattle.steps.specs.Pending.{RestFits}
+use Rattle.line.specs.LineFrom.{heldIn, lineAtOf, lineFrom}
+use Rattle.steps.specs.declared.step.Resumed.{Resumed}
 
 -- The lines that are laid from an offset on, before which a rest was held.
 unfoldable pub rowsFrom : Settings → List ℕ → (at : ℕ) → Held → List Row

@@ -13,13 +13,13 @@ use Rattle.meaning.specs.declared.settings.Settings.{Settings}
 use Rattle.meaning.specs.declared.line.LineEnd.the-variants.{EndOfText}
 use Rattle.meaning.specs.declared.line.Entry.{Entry}
 use Rattle.table.specs.Numbers.{putNumbers, nothing-written}
-use Rattle.rendering.specs.Unrolled.{nothingResumed}
-use Rattle.rendering.specs.Running.{none-fits}
-use Rattle.rendering.specs.Laying.{LineReady}
-use Rattle.rendering.specs.LineFrom.{lineFrom}
-use Rattle.rendering.specs.LineLaws.{next-within, next-further, next-rest}
-use Rattle.rendering.specs.declared.step.Resumed.{Resumed}
-use Rattle.rendering.specs.declared.line.LineAt.{LineAt}
+use Rattle.steps.specs.Unrolled.{nothingResumed}
+use Rattle.steps.specs.Running.{none-fits}
+use Rattle.line.specs.Laying.{LineReady}
+use Rattle.line.specs.LineFrom.{lineFrom}
+use Rattle.line.specs.LineLaws.{next-within, next-further, next-rest}
+use Rattle.steps.specs.declared.step.Resumed.{Resumed}
+use Rattle.line.specs.declared.line.LineAt.{LineAt}
 use Rattle.layout.specs.RowsFrom.{TextReady, entriesOf, entriesFrom, isLast, all-entries, last-is, not-last, one-left, more-left, some-left}
 use Rattle.layout.specs.Writing.{drop-more, write-more}
 

@@ -1,18 +1,18 @@
 // The lines of a text, one after the other: counted, and written to a table.
+use line::line::lay_line;
 use meaning::counts::Chars;
 use meaning::counts::Offset;
 use meaning::line::LineEnd;
 use meaning::settings::Settings;
-use rendering::first::known_from;
-use rendering::first::nothing_known;
-use rendering::line::lay_line;
-use rendering::step::Resumed;
+use steps::first::known_from;
+use steps::first::nothing_known;
+use steps::step::Resumed;
 use table::entries::write_entry;
 ghost use Prim.Native.Nat.{_*_, _≤_};
 ghost use mathlib.Core.Path.{_≡_};
 ghost use lib.ListN.{length};
 ghost use Rattle.meaning.specs.Table.{ofEntry, ofAll, written};
-ghost use Rattle.rendering.specs.Unrolled.{nothingResumed};
+ghost use Rattle.steps.specs.Unrolled.{nothingResumed};
 ghost use Rattle.layout.specs.RowsFrom.{TextReady, entriesOf, isLast};
 
 // Nothing is resumed at the text's start.

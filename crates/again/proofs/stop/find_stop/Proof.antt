@@ -4,7 +4,7 @@ use Prim.Native.Nat.{_-_}
 use mathlib.Core.Path.{sym, _∙_}
 use native.Mathlib.Omega.{arith}
 use lib.ListN.{length}
-use Rattle.rendering.specs.Knowing.{KnownFits, nothing-fits}
+use Rattle.steps.specs.Knowing.{KnownFits, nothing-fits}
 use Rattle.layout.specs.Turns.{further, stays}
 use Rattle.again.specs.Seeking.{Seeking, rest-low, seek-start, stops, finds-last, seeks-on}
 use borrow.Author.Needs.{needs}

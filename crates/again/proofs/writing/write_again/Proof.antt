@@ -2,7 +2,7 @@
 -- Assumes nothing.
 use Prim.Native.Nat.{_-_}
 use native.Mathlib.Omega.{arith}
-use Rattle.rendering.specs.Knowing.{KnownFits, nothing-fits}
+use Rattle.steps.specs.Knowing.{KnownFits, nothing-fits}
 use Rattle.again.specs.Writing.{Wrote, write-start, write-end, line-movable, write-next}
 use borrow.Author.Needs.{needs}
 use Rattle.again.proofs.writing.write_again.Statement.{statement}

@@ -5,8 +5,8 @@ use native.Mathlib.Omega.{arith}
 use Rattle.meaning.specs.Cursor.{roomOf}
 use Rattle.parser.specs.Scanning.{wordOf}
 use Rattle.parser.specs.Pairs.{PairAt}
-use Rattle.rendering.specs.Strides.{waitingAt}
-use Rattle.rendering.proofs.PairLaws.{pair-numbers, pair-wide, pair-small, pair-waits}
+use Rattle.strides.specs.Strides.{waitingAt}
+use Rattle.strides.specs.PairLaws.{pair-numbers, pair-wide, pair-small, pair-waits}
 use Rattle.drawing.proofs.OnwardEvents.{drew-none, strode-to, strode-waits}
 use Rattle.drawing.proofs.PairEvents.{pair-room, pair-drew}
 use borrow.Author.Needs.{needs}

@@ -3,7 +3,7 @@
 use Prim.Native.Nat.{_*_, _≤_}
 use mathlib.Core.Path.{ap, _∙_}
 use native.Mathlib.Omega.{arith}
-use Rattle.rendering.specs.FineLaws.{times-bound}
+use Rattle.steps.specs.FineLaws.{times-bound}
 use Rattle.drawing.specs.Sheet.{sheet, drawnOn}
 use Rattle.drawing.proofs.PairEvents.{scanned-inside, scanned-print}
 use borrow.Author.Needs.{needs}

@@ -4,11 +4,11 @@ use Prim.Native.Nat.{_-_}
 use mathlib.Core.Path.{_≡_, refl, sym, _∙_}
 use native.Mathlib.Omega.{arith}
 use lib.ListN.{length}
-use Rattle.rendering.specs.Ready.{Ready}
-use Rattle.rendering.specs.Pending.{Pending, pending, none-pending}
-use Rattle.rendering.specs.Foreseeing.{ForeseesFrom}
-use Rattle.rendering.specs.Running.{none-held}
-use Rattle.rendering.proofs.BeyondLaws.{step-foresees}
+use Rattle.steps.specs.Ready.{Ready}
+use Rattle.steps.specs.Pending.{Pending, pending, none-pending}
+use Rattle.steps.specs.Foreseeing.{ForeseesFrom}
+use Rattle.steps.specs.Running.{none-held}
+use Rattle.steps.specs.BeyondLaws.{step-foresees}
 use Rattle.drawing.specs.Drawn.{drawnFrom}
 use Rattle.drawing.specs.Sheet.{Sheet, sheet, drawnOn}
 use Rattle.drawing.proofs.PassLoop.{Drawing, drawing-first, drawing-strode, waits-ready, drawing-waits, pen-room, drawing-ends, token-ready, drawing-stops, drawing-goes, goal-is}

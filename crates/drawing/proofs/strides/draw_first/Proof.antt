@@ -5,9 +5,9 @@ use mathlib.Core.Bool.{true}
 use Prim.Native.Nat.{_-_, _*_, _/_, _≤_}
 use native.Mathlib.Omega.{arith}
 use Rattle.meaning.specs.Cursor.{fitsIn}
-use Rattle.rendering.specs.FineLaws.{fits-room}
-use Rattle.rendering.specs.PlainWords.{PlainWord}
-use Rattle.rendering.proofs.StrideLaws.{most-small, most-fits}
+use Rattle.steps.specs.FineLaws.{fits-room}
+use Rattle.strides.specs.PlainWords.{PlainWord}
+use Rattle.strides.specs.StrideLaws.{most-small, most-fits}
 use Rattle.drawing.proofs.OnwardEvents.{drew-none, drew-word, strode-to}
 use borrow.Author.Needs.{needs}
 use Rattle.drawing.proofs.strides.draw_first.Statement.{statement}

@@ -5,11 +5,11 @@ use Prim.Native.Nat.{_+_, _-_, _*_, _≤_}
 use native.Mathlib.Omega.{arith}
 use lib.ListN.{length}
 use Rattle.meaning.specs.declared.cursor.Place.{Place}
-use Rattle.rendering.specs.FineLaws.{times-bound}
-use Rattle.rendering.specs.Unrolled.{nothingResumed}
-use Rattle.rendering.specs.PlainWords.{Stride}
-use Rattle.rendering.specs.Strides.{strodePlace}
-use Rattle.rendering.proofs.GoesLaws.{stride-waits}
+use Rattle.steps.specs.FineLaws.{times-bound}
+use Rattle.steps.specs.Unrolled.{nothingResumed}
+use Rattle.strides.specs.PlainWords.{Stride}
+use Rattle.strides.specs.Strides.{strodePlace}
+use Rattle.strides.specs.GoesLaws.{stride-waits}
 use Rattle.drawing.specs.DrawingOn.{Drew}
 use Rattle.drawing.proofs.OnwardEvents.{drew-start, drew-on, drew-stride, strode-to, strode-waits, strode-full}
 use borrow.Author.Needs.{needs}

@@ -1,7 +1,7 @@
 -- `drawing::strides::draw_unless` meets its contract.
 -- Assumes nothing.
 use mathlib.Core.Path.{refl}
-use Rattle.rendering.proofs.GoesLaws.{nothing-foreseen}
+use Rattle.strides.specs.GoesLaws.{nothing-foreseen}
 use Rattle.drawing.proofs.OnwardEvents.{stays-foreseen, drew-none, strode-to}
 use borrow.Author.Needs.{needs}
 use Rattle.drawing.proofs.strides.draw_unless.Statement.{statement}

@@ -5,8 +5,8 @@ use mathlib.Core.Bool.{true}
 use Prim.Native.Nat.{_+_, _≤_, _<_}
 use native.Mathlib.Omega.{arith}
 use Rattle.meaning.specs.Cursor.{fitsIn}
-use Rattle.rendering.specs.FineLaws.{fits-room}
-use Rattle.rendering.proofs.OnwardLaws.{read-pending}
+use Rattle.steps.specs.FineLaws.{fits-room}
+use Rattle.strides.specs.OnwardLaws.{read-pending}
 use Rattle.drawing.specs.Sheet.{sheet, drawnOn, on-none}
 use Rattle.drawing.proofs.StrideEvents.{waits-wide, waits-thin, waits-cut}
 use Rattle.drawing.proofs.WordEvents.{was-false, was-true}

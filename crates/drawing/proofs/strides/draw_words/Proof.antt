@@ -4,7 +4,7 @@ use Prim.Native.Nat.{_-_}
 use mathlib.Core.Path.{_≡_, refl, _∙_}
 use native.Mathlib.Omega.{arith}
 use lib.ListN.{length}
-use Rattle.rendering.specs.Unrolled.{nothingResumed}
+use Rattle.steps.specs.Unrolled.{nothingResumed}
 use Rattle.drawing.specs.DrawingOn.{Strode}
 use Rattle.drawing.proofs.OnwardEvents.{strode-here, strode-on}
 use borrow.Author.Needs.{needs}

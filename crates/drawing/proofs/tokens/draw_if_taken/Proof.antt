@@ -4,8 +4,8 @@ use Prim.Native.Nat.{ℕ, _/_, _≤_}
 use mathlib.Core.Path.{_≡_, sym, ap, _∙_}
 use native.Mathlib.Omega.{arith}
 use Rattle.meaning.specs.Cursor.{roomOf}
-use Rattle.rendering.specs.FineLaws.{times-bound}
-use Rattle.rendering.proofs.WordLaws.{WordAt, word-at}
+use Rattle.steps.specs.FineLaws.{times-bound}
+use Rattle.steps.specs.WordLaws.{WordAt, word-at}
 use Rattle.drawing.specs.Sheet.{sheet}
 use Rattle.drawing.specs.Stretching.{WordRoom}
 use Rattle.drawing.proofs.WordEvents.{word-takes, word-waits, word-drops, part-few, word-parts, was-false, was-true}

@@ -3,8 +3,8 @@
 use mathlib.Core.Path.{sym, _∙_}
 use native.Mathlib.Omega.{arith}
 use Rattle.meaning.specs.Cursor.{roomOf}
-use Rattle.rendering.specs.FineLaws.{fits-room}
-use Rattle.rendering.proofs.TabLaws.{tab-foresees}
+use Rattle.steps.specs.FineLaws.{fits-room}
+use Rattle.steps.specs.TabLaws.{tab-foresees}
 use Rattle.drawing.specs.Sheet.{sheet}
 use Rattle.drawing.proofs.TabEvents.{tab-moved, tab-skips, tab-fits, tab-beyond}
 use borrow.Author.Needs.{needs}

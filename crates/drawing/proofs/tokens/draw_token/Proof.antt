@@ -2,7 +2,7 @@
 -- Assumes nothing.
 use mathlib.Core.Path.{sym, ap, _∙_}
 use native.Mathlib.Omega.{arith}
-use Rattle.rendering.proofs.HyphenLaws.{break-end}
+use Rattle.steps.specs.HyphenLaws.{break-end}
 use Rattle.drawing.specs.Sheet.{sheet, drawnOn}
 use Rattle.drawing.proofs.TokenEvents.{line-drawn, return-drawn, step-grew, grown-narrow, run-events, hyphen-events}
 use borrow.Author.Needs.{needs}

@@ -1,0 +1,11 @@
+use Rattle.meaning.specs.Alignment.{plainSpaces}
+use mathlib.Core.Path.{refl}
+use Rattle.line.proofs.alignment.plain_spaces.Statement.{statement}
+use Rattle.line.proofs.alignment.plain_spaces.Tie as tie
+
+returns : tie.Need-returns
+unfolding plainSpaces
+returns c = refl
+
+pub plain-spaces-spec : {M : Type 1} → statement M
+plain-spaces-spec = tie.close (tie.spec returns)

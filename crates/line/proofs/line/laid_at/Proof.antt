@@ -1,0 +1,14 @@
+use Rattle.line.specs.Laying.{laidAt}
+use borrow.Author.Needs.{needs}
+use Rattle.line.proofs.line.laid_at.Statement.{statement}
+use Rattle.line.proofs.line.laid_at.Tie as tie
+
+entry-at-requires : tie.Need-entry-at-requires
+entry-at-requires c κs = search needs
+
+returns : tie.Need-returns
+unfolding laidAt
+returns c = rw (c .before .before .entry-at .ensures)
+
+pub laid-at-spec : {M : Type 1} → statement M
+laid-at-spec = tie.close (tie.spec entry-at-requires returns)

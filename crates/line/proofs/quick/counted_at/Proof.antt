@@ -1,0 +1,11 @@
+use mathlib.Core.Path.{refl}
+use Rattle.line.specs.Quick.{countedAt}
+use Rattle.line.proofs.quick.counted_at.Statement.{statement}
+use Rattle.line.proofs.quick.counted_at.Tie as tie
+
+returns : tie.Need-returns
+unfolding countedAt
+returns c = refl
+
+pub counted-at-spec : {M : Type 1} → statement M
+counted-at-spec = tie.close (tie.spec returns)

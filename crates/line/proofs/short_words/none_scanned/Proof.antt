@@ -1,0 +1,11 @@
+use mathlib.Core.Path.{refl}
+use Rattle.parser.specs.Scanning.{scannedAt}
+use Rattle.line.proofs.short_words.none_scanned.Statement.{statement}
+use Rattle.line.proofs.short_words.none_scanned.Tie as tie
+
+returns : tie.Need-returns
+unfolding scannedAt
+returns c = refl
+
+pub none-scanned-spec : {M : Type 1} → statement M
+none-scanned-spec = tie.close (tie.spec returns)

@@ -1,0 +1,114 @@
+use Prim.Native.Nat.{_-_, _≤_}
+use native.Mathlib.Omega.{arith}
+use borrow.Author.Needs.{needs}
+use borrow.Author.Tests.{not-false}
+use Rattle.parser.specs.Ascii.{Letter, Glues}
+use Rattle.line.specs.Quick.{GoesOn}
+use Rattle.line.proofs.ShortLaws.{letter-inside, goes-none, goes-letter, goes-glue, goes-scanned}
+use Rattle.line.proofs.short_words.pass_upto.Statement.{statement}
+use Rattle.line.proofs.short_words.pass_upto.Tie as tie
+
+abbrev Inv-loop : tie.InvT-loop
+Inv-loop text from most end₀ chars₀ glues₀ end chars glues = GoesOn text from end chars glues × (chars ≤ most)
+
+abbrev μ-loop : tie.MeasureT-loop
+μ-loop text from most end₀ chars₀ glues₀ end chars glues = most - chars
+
+abbrev begin : tie.In-loop Inv-loop μ-loop → tie.Start Inv-loop μ-loop
+begin c = c .before .before .before
+
+-- The letter that was found, and what glues.
+found : (c : tie.Then1 Inv-loop μ-loop) →
+    let i = c .before .before in
+    Letter (begin i .args .text .now) (i .before .loop .end) (c .before .first-len .result)
+found c = c .before .first-len .ensures (omega (arith, c .if1 .taken))
+
+glued : (c : tie.Else2 Inv-loop μ-loop) →
+    let i = c .before .before .before .before in
+    Glues (begin i .args .text .now) (i .before .loop .end)
+glued c = c .before .glue-at .ensures (not-false _ (c .if2 .left))
+
+loop-holds : tie.Need-loop-holds Inv-loop μ-loop
+loop-holds c = (goes-none _ _ (c .before .pre .1), omega arith)
+
+first-len-requires : tie.Need-first-len-requires Inv-loop μ-loop
+first-len-requires c κs = search needs
+
+add-end : tie.Need-add-end Inv-loop μ-loop
+add-end c = omega (arith, letter-inside _ _ _ (found c), begin (c .before .before) .pre .0)
+
+add-chars : tie.Need-add-chars Inv-loop μ-loop
+add-chars c = search needs
+
+loop-less : tie.Need-loop-less Inv-loop μ-loop
+loop-less c = search needs
+
+loop-again : tie.Need-loop-again Inv-loop μ-loop
+loop-again c =
+    let i = c .before .before in
+    (goes-letter _ _ _ _ _ (i .before .loop .inv .0) _ (found c), omega (arith, i .loop-test .taken))
+
+glue-at-requires : tie.Need-glue-at-requires Inv-loop μ-loop
+glue-at-requires c κs = search needs
+
+scanned-to-requires : tie.Need-scanned-to-requires Inv-loop μ-loop
+scanned-to-requires c κs =
+    let i = c .before .before .before .before in
+    omega (arith, i .before .loop .inv .0 .inside, begin i .pre .0)
+
+returns : tie.Need-returns Inv-loop μ-loop
+returns c =
+    let l = c .before .before .before .before .before .before in
+    goes-scanned _ _ _ _ _ (l .loop .inv .0) _ _ (l .loop .inv .1) (c .scanned-to .ensures)
+
+add-end-2 : tie.Need-add-end-2 Inv-loop μ-loop
+add-end-2 c = omega (arith, glued c .inside, begin (c .before .before .before .before) .pre .0)
+
+add-chars-2 : tie.Need-add-chars-2 Inv-loop μ-loop
+add-chars-2 c = search needs
+
+add-glues : tie.Need-add-glues Inv-loop μ-loop
+add-glues c =
+    let l = c .before .before .before .before .before in
+    record { fits = omega (arith, l .loop .inv .0 .fewer, l .loop .inv .0 .forward, l .loop .inv .0 .inside, l .before .before .pre .0) }
+
+loop-less-2 : tie.Need-loop-less-2 Inv-loop μ-loop
+loop-less-2 c = search needs
+
+loop-again-2 : tie.Need-loop-again-2 Inv-loop μ-loop
+loop-again-2 c =
+    let i = c .before .before .before .before in
+    (goes-glue _ _ _ _ _ (i .before .loop .inv .0) (glued c), omega (arith, i .loop-test .taken))
+
+scanned-to-requires-2 : tie.Need-scanned-to-requires-2 Inv-loop μ-loop
+scanned-to-requires-2 c κs =
+    let l = c .before in
+    omega (arith, l .loop .inv .0 .inside, l .before .before .pre .0)
+
+returns-2 : tie.Need-returns-2 Inv-loop μ-loop
+returns-2 c =
+    let l = c .before .before in
+    goes-scanned _ _ _ _ _ (l .loop .inv .0) _ _ (l .loop .inv .1) (c .scanned-to2 .ensures)
+
+pub pass-upto-spec : {M : Type 1} → statement M
+pass-upto-spec =
+    tie.close
+    (tie.spec
+    Inv-loop
+    μ-loop
+    loop-holds
+    first-len-requires
+    add-end
+    add-chars
+    loop-less
+    loop-again
+    glue-at-requires
+    scanned-to-requires
+    returns
+    add-end-2
+    add-chars-2
+    add-glues
+    loop-less-2
+    loop-again-2
+    scanned-to-requires-2
+    returns-2)

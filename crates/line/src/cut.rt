@@ -1,0 +1,74 @@
+// A line that begins with a word too wide for it is the longest part of the word that fits (rule 8): it is drawn as it was measured.
+use crate::quick::Quick;
+use meaning::line::LineEnd;
+use meaning::settings::Settings;
+use meaning::tokens::TokenKind;
+use parser::lexeme::Lexed;
+use parser::lexeme::Lexeme;
+use parser::lexer::token_at;
+use parser::part::part_of;
+use steps::ending::ends_before;
+use steps::first::Known;
+use steps::first::known_at;
+use steps::words::printed_at;
+ghost use Prim.Native.Nat.{_≤_};
+ghost use mathlib.Core.Path.{_≡_};
+ghost use lib.ListN.{length};
+ghost use Rattle.meaning.specs.Tokens.{tokens};
+ghost use Rattle.meaning.specs.declared.tokens.TokenKind.the-variants.{Word};
+ghost use Rattle.parser.specs.Lexing.{charsFrom, lexedAt};
+ghost use Rattle.parser.specs.declared.lexeme.Lexed.the-variants.{Token};
+ghost use Rattle.steps.specs.Unrolled.{nothingResumed};
+ghost use Rattle.line.specs.Laying.{LineReady};
+ghost use Rattle.steps.specs.Knowing.{KnownFits};
+ghost use Rattle.line.specs.Quick.{QuickLine};
+
+// What is known for a line at an offset: what was known before, or else the token there.
+pub fn known_here(text: &[u8], at: usize, known: Known) -> Known
+    requires { ⌜ (length (now text) ≤ 65535) × (at ≤ length (now text)) × KnownFits (now text) known ⌝ }
+    ensures { λ r. ⌜ KnownFits (now (text .entry)) r ⌝ }
+{
+    let first = known.first;
+    if let Lexed::Token(_) = first {
+        return known;
+    }
+    known_at(at, token_at(text, at))
+}
+
+// The line of a word's first characters, if some fit and not all do.
+fn cut_part(text: &[u8], s: Settings, at: usize, x: Lexeme) -> Quick
+    requires { ⌜ LineReady s (now text) at nothingResumed × (lexedAt at (tokens (charsFrom (now text) at)) ≡ Token x) × (x .kind ≡ Word) ⌝ }
+    ensures { λ r. ⌜ QuickLine s (now (text .entry)) at r ⌝ }
+{
+    let glyph = s.glyph.0;
+    let most = s.width.0 / glyph;
+    if most == 0 {
+        return Quick::Not;
+    }
+    if x.chars.0 <= most {
+        return Quick::Not;
+    }
+    let part = part_of(text, at, most);
+    let wide = most * glyph;
+    let m = printed_at(wide, part.glues.0);
+    Quick::Line(ends_before(LineEnd::LineBreak, m, part.end.0, 0, x.reach.0))
+}
+
+// The line at an offset, if a known word is cut there.
+pub fn cut_line(text: &[u8], s: Settings, at: usize, known: Known) -> Quick
+    requires { ⌜ LineReady s (now text) at nothingResumed × KnownFits (now text) known ⌝ }
+    ensures { λ r. ⌜ QuickLine s (now (text .entry)) at r ⌝ }
+{
+    if known.at.0 as usize != at {
+        return Quick::Not;
+    }
+    let first = known.first;
+    let Lexed::Token(x) = first else {
+        return Quick::Not;
+    };
+    let kind = x.kind;
+    match kind {
+        TokenKind::Word => cut_part(text, s, at, x),
+        _ => Quick::Not,
+    }
+}

@@ -1,0 +1,142 @@
+// A line is measured, placed and drawn (rule 10).
+use crate::alignment::place_line;
+use crate::alignment::plain_spaces;
+use crate::cut::cut_line;
+use crate::cut::known_here;
+use crate::entry::entry_at;
+use crate::pass::run_pass;
+use crate::quick::Quick;
+use crate::quick::quick_line;
+use meaning::counts::Offset;
+use meaning::counts::Pixels;
+use meaning::line::Entry;
+use meaning::line::LineEnd;
+use meaning::line::Placed;
+use meaning::settings::Settings;
+use steps::first::Known;
+use steps::measure::measured_count;
+use steps::measure::measured_width;
+use steps::measure::nothing_measured;
+use steps::place::start_place;
+use steps::step::Ended;
+use steps::step::Resumed;
+ghost use Prim.Native.Nat.{_≤_};
+ghost use mathlib.Core.Path.{_≡_};
+ghost use Rattle.meaning.specs.Line.{measuredWidth, measuredCount};
+ghost use Rattle.steps.specs.Fine.{FineSettings, FineSpaces};
+ghost use Rattle.steps.specs.Knowing.{KnownFits};
+ghost use Rattle.line.specs.LineFrom.{lineFrom};
+ghost use Rattle.line.specs.Laying.{LineReady, passedFrom, plainly, isPlain, placedBy, laidAt};
+
+// A laid line: its entry, how it ended, where the next line starts and what that line resumes.
+pub struct LineAt {
+    pub entry: Entry,
+    pub ended: LineEnd,
+    pub next: Offset,
+    pub rest: Resumed,
+}
+
+// How a line is placed to be measured: at the box's left, with plain spaces.
+fn placed_plainly(s: Settings) -> Placed
+    ensures { λ r. ⌜ r ≡ plainly s ⌝ }
+{
+    let spaces = plain_spaces(s);
+    Placed {
+        left: Pixels(0),
+        spaces,
+    }
+}
+
+fn is_plain(s: Settings, p: Placed) -> bool
+    ensures { λ r. ⌜ r ≡ isPlain s p ⌝ }
+{
+    if p.left.0 != 0 {
+        return false;
+    }
+    if p.spaces.extra.0 != 0 {
+        return false;
+    }
+    p.spaces.width.0 == s.glyph.0
+}
+
+// Where a line is placed whose measuring pass ended so.
+fn placed_by(s: Settings, e: Ended) -> Placed
+    requires { ⌜ FineSettings s × (measuredCount s (e .measure) ≤ 65535) ⌝ }
+    ensures { λ r. ⌜ r ≡ placedBy s e ⌝ }
+{
+    let ended = e.ended;
+    let m = e.measure;
+    place_line(s, ended, measured_width(s, m), measured_count(s, m))
+}
+
+// The pass over a line that is so placed.
+fn pass_over(text: &[u8], s: Settings, at: usize, rest: Resumed, p: Placed, known: Known) -> Ended
+    requires { ⌜ LineReady s (now text) at rest × FineSpaces (p .spaces) × (p .left .0 ≤ s .width .0) × KnownFits (now text) known ⌝ }
+    ensures { λ r. ⌜ r ≡ passedFrom s (now (text .entry)) at rest p ⌝ }
+{
+    let left = p.left;
+    let spaces = p.spaces;
+    let start = start_place(s, left, spaces);
+    run_pass(text, s, start, at, rest, nothing_measured(), known)
+}
+
+// The line itself.
+fn laid_at(at: u32, rest: Resumed, p: Placed, width: u32, looked: u32, e: Ended) -> LineAt
+    ensures { λ r. ⌜ r ≡ laidAt at rest p width looked e ⌝ }
+{
+    let entry = entry_at(at, rest, p, width, looked, e);
+    let ended = e.ended;
+    let next = e.next;
+    let held = e.rest;
+    LineAt {
+        entry,
+        ended,
+        next,
+        rest: held,
+    }
+}
+
+// The line whose drawing pass ends as its measuring pass did.
+fn laid_alike(s: Settings, at: u32, rest: Resumed, e: Ended) -> LineAt
+    requires { ⌜ FineSettings s × (measuredCount s (e .measure) ≤ 65535) ⌝ }
+    ensures { λ r. ⌜ r ≡ laidAt at rest (placedBy s e) (measuredWidth s (e .measure)) (e .reach .0) e ⌝ }
+{
+    let m = e.measure;
+    let width = measured_width(s, m);
+    let p = placed_by(s, e);
+    laid_at(at, rest, p, width, e.reach.0, e)
+}
+
+// The line in two passes. One that is placed as it was measured is drawn as it was.
+fn lay_twice(text: &[u8], s: Settings, at: usize, rest: Resumed, known: Known) -> LineAt
+    requires { ⌜ LineReady s (now text) at rest × KnownFits (now text) known ⌝ }
+    ensures { λ r. ⌜ r ≡ lineFrom s (now (text .entry)) at rest ⌝ }
+{
+    let first = pass_over(text, s, at, rest, placed_plainly(s), known);
+    let m = first.measure;
+    let width = measured_width(s, m);
+    let p = placed_by(s, first);
+    if is_plain(s, p) {
+        return laid_at(at as u32, rest, p, width, first.reach.0, first);
+    }
+    let drawn = pass_over(text, s, at, rest, p, known);
+    laid_at(at as u32, rest, p, width, first.reach.0, drawn)
+}
+
+// The line at an offset of a text, after a rest that it resumes, where a word may be known.
+pub fn lay_line(text: &[u8], s: Settings, at: usize, rest: Resumed, known: Known) -> LineAt
+    requires { ⌜ LineReady s (now text) at rest × KnownFits (now text) known ⌝ }
+    ensures { λ r. ⌜ r ≡ lineFrom s (now (text .entry)) at rest ⌝ }
+{
+    if rest.chars.0 == 0 {
+        if let Quick::Line(e) = quick_line(text, s, at, known) {
+            return laid_alike(s, at as u32, rest, e);
+        }
+        let here = known_here(text, at, known);
+        if let Quick::Line(e) = cut_line(text, s, at, here) {
+            return laid_alike(s, at as u32, rest, e);
+        }
+        return lay_twice(text, s, at, rest, here);
+    }
+    lay_twice(text, s, at, rest, known)
+}

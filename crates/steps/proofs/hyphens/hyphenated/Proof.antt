@@ -1,0 +1,77 @@
+use mathlib.Core.Path.{sym, ap, _∙_}
+use Rattle.steps.specs.declared.step.Stepped.the-variants.{Stop}
+use Rattle.steps.specs.HyphenLaws.{hyphen-goes, hyphen-ends, hyphen-passes, hyphen-stays}
+use borrow.Author.Needs.{needs}
+use Rattle.steps.proofs.hyphens.hyphenated.Statement.{statement}
+use Rattle.steps.proofs.hyphens.hyphenated.Tie as tie
+
+fits-requires : tie.Need-fits-requires
+fits-requires c κs = search needs
+
+noted-print-requires : tie.Need-noted-print-requires
+noted-print-requires c κs = search needs
+
+moved-on-requires : tie.Need-moved-on-requires
+moved-on-requires c κs = search needs
+
+returns : tie.Need-returns
+returns c =
+    let i = c .before in
+    let n = i .before in
+    let f = n .before .before in
+    let a = f .before .before .args in
+    hyphen-goes (a .s) (a .p) (a .at) (a .m) (a .reach) (sym (f .fits2 .ensures) ∙ n .before .if1 .taken) _ (n .noted-print .ensures) (i .if2 .taken) _ (c .moved-on .ensures)
+
+cast-ends-before : tie.Need-cast-ends-before
+cast-ends-before c = search needs
+
+add-ends-before : tie.Need-add-ends-before
+add-ends-before c = search needs
+
+ends-before-requires : tie.Need-ends-before-requires
+ends-before-requires c κs = search needs
+
+returns-2 : tie.Need-returns-2
+returns-2 c =
+    let i = c .before in
+    let n = i .before in
+    let f = n .before .before in
+    let a = f .before .before .args in
+    ap Stop (c .ends-before .ensures)
+    ∙ hyphen-ends (a .s) (a .p) (a .at) (a .m) (a .reach) (sym (f .fits2 .ensures) ∙ n .before .if1 .taken) _ (n .noted-print .ensures) (i .if2 .left)
+
+returns-3 : tie.Need-returns-3
+returns-3 c =
+    let i = c .before in
+    let a = i .before .before .before .args in
+    hyphen-passes (a .s) (a .p) (a .at) (a .m) (a .reach) (sym (i .before .fits2 .ensures) ∙ i .if1 .left) (c .if3 .taken)
+
+cast-ends-before-2 : tie.Need-cast-ends-before-2
+cast-ends-before-2 c = search needs
+
+ends-before-requires-2 : tie.Need-ends-before-requires-2
+ends-before-requires-2 c κs = search needs
+
+returns-4 : tie.Need-returns-4
+returns-4 c =
+    let i = c .before .before in
+    let a = i .before .before .before .args in
+    ap Stop (c .ends-before2 .ensures)
+    ∙ hyphen-stays (a .s) (a .p) (a .at) (a .m) (a .reach) (sym (i .before .fits2 .ensures) ∙ i .if1 .left) (c .before .if3 .left)
+
+pub hyphenated-spec : {M : Type 1} → statement M
+hyphenated-spec =
+    tie.close
+    (tie.spec
+    fits-requires
+    noted-print-requires
+    moved-on-requires
+    returns
+    cast-ends-before
+    add-ends-before
+    ends-before-requires
+    returns-2
+    returns-3
+    cast-ends-before-2
+    ends-before-requires-2
+    returns-4)

@@ -1,0 +1,43 @@
+use mathlib.Core.Path.{ap, _∙_}
+use native.Mathlib.Omega.{arith}
+use Rattle.parser.specs.declared.lexeme.Lexed.the-variants as lexed
+use Rattle.steps.proofs.RestLaws.{rest-inside, rest-read, ender-at-most, none-read}
+use borrow.Author.Needs.{needs}
+use Rattle.steps.proofs.pending.pending.Statement.{statement}
+use Rattle.steps.proofs.pending.pending.Tie as tie
+
+token-at-requires : tie.Need-token-at-requires
+token-at-requires c κs = search needs
+
+returns : tie.Need-returns
+returns c = let s = c .before .before .before .before in c .token-at .ensures ∙ none-read _ (s .args .at) (s .args .rest) (c .before .if1 .taken)
+
+cast-ender-at : tie.Need-cast-ender-at
+cast-ender-at c = search needs
+
+ender-at-requires : tie.Need-ender-at-requires
+ender-at-requires c κs = search needs
+
+rest-lexeme-requires : tie.Need-rest-lexeme-requires
+rest-lexeme-requires c κs =
+    let e = c .before .before in
+    let s = e .before .before .before in
+    (omega (arith, rest-inside _ (s .args .at) (s .args .rest) (s .pre .1) (e .if1 .left), s .pre .0), ender-at-most _ (s .args .rest .end .0) _ (c .ender-at .ensures))
+
+returns-2 : tie.Need-returns-2
+returns-2 c =
+    let n = c .before in
+    let e = n .before .before in
+    let s = e .before .before .before in
+    ap lexed.Token (c .rest-lexeme .ensures) ∙ rest-read _ (s .args .at) (s .args .rest) (s .pre .1) (e .if1 .left) _ (n .ender-at .ensures)
+
+pub pending-spec : {M : Type 1} → statement M
+pending-spec =
+    tie.close
+    (tie.spec
+    token-at-requires
+    returns
+    cast-ender-at
+    ender-at-requires
+    rest-lexeme-requires
+    returns-2)

@@ -1,0 +1,11 @@
+use Rattle.meaning.specs.Line.{startPlace}
+use mathlib.Core.Path.{refl}
+use Rattle.steps.proofs.place.start_place.Statement.{statement}
+use Rattle.steps.proofs.place.start_place.Tie as tie
+
+returns : tie.Need-returns
+unfolding startPlace
+returns c = refl
+
+pub start-place-spec : {M : Type 1} → statement M
+start-place-spec = tie.close (tie.spec returns)

@@ -1,0 +1,27 @@
+use mathlib.Core.Bool.{false}
+use Prim.Native.Nat.{_+_, _*_, _≤_}
+use Rattle.steps.specs.WordLaws.{fits-small}
+use Rattle.steps.specs.Stopping.{wordPlace}
+use native.Mathlib.Omega.{arith}
+use borrow.Author.Needs.{needs}
+use Rattle.steps.proofs.words.word_place.Statement.{statement}
+use Rattle.steps.proofs.words.word_place.Tie as tie
+
+small : (c : tie.Start) → c .args .p .cursor .position .0 + c .args .n * c .args .glyph ≤ 4096
+small c = fits-small (c .args .p) (c .args .n * c .args .glyph) (c .pre .0) (c .pre .1)
+
+mul-advanced : tie.Need-mul-advanced
+mul-advanced c = record { fits = omega (arith, small (c .before .before)) }
+
+advanced-requires : tie.Need-advanced-requires
+advanced-requires c κs = omega (arith, small (c .before .before))
+
+spaces-after-requires : tie.Need-spaces-after-requires
+spaces-after-requires c κs = search needs
+
+returns : tie.Need-returns
+unfolding wordPlace
+returns c = λ i. record { cursor = c .before .advanced .ensures i; spaces = c .spaces-after .ensures i; empty = false }
+
+pub word-place-spec : {M : Type 1} → statement M
+word-place-spec = tie.close (tie.spec mul-advanced advanced-requires spaces-after-requires returns)

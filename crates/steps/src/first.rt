@@ -1,0 +1,106 @@
+// What a line begins with, where the word that is cut there may be known: a word cut over many lines is looked through once.
+use crate::pending::pending;
+use crate::step::Resumed;
+use meaning::counts::Offset;
+use meaning::tokens::TokenKind;
+use parser::later::token_after;
+use parser::lexeme::Lexed;
+use parser::lexer::token_at;
+ghost use Prim.Native.Nat.{_≤_};
+ghost use mathlib.Core.Path.{_≡_};
+ghost use lib.ListN.{length};
+ghost use Rattle.meaning.specs.Tokens.{tokens};
+ghost use Rattle.meaning.specs.Line.{heldTokens};
+ghost use Rattle.parser.specs.Lexing.{charsFrom, lexedAt};
+ghost use Rattle.steps.specs.Pending.{RestFits};
+ghost use Rattle.steps.specs.Knowing.{KnownFits, nothingKnown, knownAt};
+
+// The token at an offset, which may be a word that goes on in the next line.
+pub struct Known {
+    pub at: Offset,
+    pub first: Lexed,
+}
+
+// Nothing is known.
+pub fn nothing_known() -> Known
+    ensures { λ r. ⌜ r ≡ nothingKnown ⌝ }
+{
+    Known {
+        at: Offset(0),
+        first: Lexed::End,
+    }
+}
+
+pub fn known_at(at: usize, first: Lexed) -> Known
+    requires { ⌜ at ≤ 65535 ⌝ }
+    ensures { λ r. ⌜ r ≡ knownAt at first ⌝ }
+{
+    Known {
+        at: Offset(at as u32),
+        first,
+    }
+}
+
+// The token at an offset: of a known word that goes on there, what is left of it.
+fn known_token(text: &[u8], at: usize, known: Known) -> Lexed
+    requires { ⌜ (length (now text) ≤ 65535) × KnownFits (now text) known ⌝ }
+    ensures { λ r. ⌜ r ≡ lexedAt at (tokens (charsFrom (now (text .entry)) at)) ⌝ }
+{
+    let first = known.first;
+    let Lexed::Token(x) = first else {
+        return token_at(text, at);
+    };
+    if x.end.0 as usize <= at {
+        return token_at(text, at);
+    }
+    let kind = x.kind;
+    match kind {
+        TokenKind::Word => token_after(text, known.at.0 as usize, x, at),
+        _ => token_at(text, at),
+    }
+}
+
+// The rest that a line resumes, or else the token at its offset.
+pub fn first_token(text: &[u8], at: usize, rest: Resumed, known: Known) -> Lexed
+    requires { ⌜ (length (now text) ≤ 65535) × RestFits (now text) at rest × KnownFits (now text) known ⌝ }
+    ensures { λ r. ⌜ r ≡ lexedAt at (heldTokens (rest .chars .0) (rest .count .0) (charsFrom (now (text .entry)) at)) ⌝ }
+{
+    if rest.chars.0 == 0 {
+        return known_token(text, at, known);
+    }
+    pending(text, at, rest)
+}
+
+// Whether a word may go on at an offset: the byte before it belongs to one, or to no ASCII.
+fn may_go_on(text: &[u8], at: usize) -> bool {
+    if at == 0 {
+        return false;
+    }
+    let last = at - 1;
+    if last < text.len() {
+        return 0x20 < text[last];
+    }
+    false
+}
+
+// Does a character stand at an offset that is not of ASCII: a word of such letters is looked through once for all that read it.
+fn far_at(text: &[u8], at: usize) -> bool {
+    if at < text.len() {
+        return 0x80 <= text[at];
+    }
+    false
+}
+
+// What is known for a line at an offset, from what was known for the line before it. A line that resumes a rest begins with no word.
+pub fn known_from(text: &[u8], at: usize, rest: Resumed, known: Known) -> Known
+    requires { ⌜ (length (now text) ≤ 65535) × (at ≤ length (now text)) × KnownFits (now text) known ⌝ }
+    ensures { λ r. ⌜ KnownFits (now (text .entry)) r ⌝ }
+{
+    if rest.chars.0 != 0 {
+        return nothing_known();
+    }
+    if may_go_on(text, at) | far_at(text, at) {
+        return known_at(at, known_token(text, at, known));
+    }
+    nothing_known()
+}

@@ -1,0 +1,46 @@
+// What a tab does to a line (rule 7).
+use crate::cursor::fits;
+use crate::cursor::room;
+use crate::cursor::tab_width;
+use crate::look::Foreseen;
+use crate::measure::noted_space;
+use crate::place::moved_on;
+use crate::place::skips_space;
+use crate::spaces::draws_space;
+use crate::step::Stepped;
+use meaning::counts::Offset;
+use meaning::cursor::Place;
+use meaning::line::Measure;
+use meaning::settings::Settings;
+use parser::lexeme::Lexeme;
+ghost use mathlib.Core.Path.{_≡_};
+ghost use Rattle.meaning.specs.declared.tokens.TokenKind.the-variants.{Tab};
+ghost use Rattle.steps.specs.Ready.{Ready, stepFrom};
+ghost use Rattle.steps.specs.Foreseeing.{ForeseesAfter};
+
+// A tab: skipped at the front of a line. One that fits moves the cursor, drawn or not; else only the pen moves, by the room.
+pub fn on_tab(
+    text: &[u8],
+    s: Settings,
+    p: Place,
+    at: usize,
+    x: Lexeme,
+    m: Measure,
+    seen: Foreseen,
+) -> Stepped
+    requires { ⌜ Ready s p (now text) at x m × (x .kind ≡ Tab) × ForeseesAfter s p (now text) x seen ⌝ }
+    ensures { λ r. ⌜ r ≡ stepFrom s p (now (text .entry)) at x m ⌝ }
+{
+    if skips_space(s, p) {
+        return Stepped::Go(p, m, Offset(0));
+    }
+    let cursor = p.cursor;
+    let width = tab_width(cursor);
+    if fits(cursor, width) {
+        let q = moved_on(p, width);
+        let look = draws_space(text, s, q, x.end.0 as usize, seen);
+        let reach = look.reach;
+        return Stepped::Go(q, noted_space(m, 0, width), reach);
+    }
+    Stepped::Go(p, noted_space(m, 0, room(cursor)), Offset(0))
+}

@@ -1,0 +1,47 @@
+// What one token does to a line (rules 7 to 9).
+use crate::ending::ends_before;
+use crate::hyphens::on_break;
+use crate::look::Foreseen;
+use crate::spaces::on_space;
+use crate::step::Stepped;
+use crate::tabs::on_tab;
+use crate::words::on_word;
+use meaning::cursor::Place;
+use meaning::line::LineEnd;
+use meaning::line::Measure;
+use meaning::settings::Settings;
+use meaning::tokens::TokenKind;
+use parser::lexeme::Lexeme;
+ghost use mathlib.Core.Path.{_≡_};
+ghost use Rattle.steps.specs.Ready.{Ready, stepFrom};
+ghost use Rattle.steps.specs.Foreseeing.{ForeseesAfter};
+
+// What the token x at an offset does, and what is known of the look from after it.
+pub fn step_token(
+    text: &[u8],
+    s: Settings,
+    p: Place,
+    at: usize,
+    x: Lexeme,
+    m: Measure,
+    seen: Foreseen,
+) -> Stepped
+    requires { ⌜ Ready s p (now text) at x m × ForeseesAfter s p (now text) x seen ⌝ }
+    ensures { λ r. ⌜ r ≡ stepFrom s p (now (text .entry)) at x m ⌝ }
+{
+    let kind = x.kind;
+    match kind {
+        TokenKind::Word => on_word(text, s, p, at, x, m),
+        TokenKind::Whitespace => on_space(text, s, p, at, x, m, seen),
+        TokenKind::Tab => on_tab(text, s, p, at, x, m, seen),
+        TokenKind::Break => on_break(text, s, p, at, x, m),
+        TokenKind::NewLine => Stepped::Stop(ends_before(LineEnd::NewLine, m, x.end.0, 0, 0)),
+        TokenKind::CarriageReturn => Stepped::Stop(ends_before(
+            LineEnd::CarriageReturn,
+            m,
+            x.end.0,
+            0,
+            0,
+        )),
+    }
+}

@@ -1,0 +1,100 @@
+// What a word does to a line (rules 7 and 8).
+use crate::cursor::advanced;
+use crate::cursor::fits;
+use crate::cursor::room;
+use crate::ending::ends_before;
+use crate::space_config::spaces_after;
+use crate::space_config::spaces_width;
+use crate::step::Stepped;
+use meaning::counts::Chars;
+use meaning::counts::Offset;
+use meaning::counts::Pixels;
+use meaning::cursor::Place;
+use meaning::cursor::Spaces;
+use meaning::line::LineEnd;
+use meaning::line::Measure;
+use meaning::settings::Settings;
+use parser::lexeme::Lexeme;
+use parser::part::part_of;
+ghost use Prim.Native.Nat.{_≤_, _+_, _*_};
+ghost use mathlib.Core.Path.{_≡_};
+ghost use mathlib.Core.Bool.{true, false};
+ghost use Rattle.meaning.specs.Cursor.{fitsIn};
+ghost use Rattle.meaning.specs.declared.tokens.TokenKind.the-variants.{Word};
+ghost use Rattle.laws.specs.Measuring.{printedAt};
+ghost use Rattle.steps.specs.Fine.{FineSpaces, FinePlace};
+ghost use Rattle.steps.specs.Ready.{Ready, stepFrom};
+ghost use Rattle.steps.specs.Stopping.{wordMeasure, wordPlace};
+
+// Just after a print.
+pub fn printed_at(pen: u32, spaces: u32) -> Measure
+    ensures { λ r. ⌜ r ≡ printedAt pen spaces ⌝ }
+{
+    Measure {
+        pen: Pixels(pen),
+        spaces: Chars(spaces),
+        width: Pixels(pen),
+        count: Chars(spaces),
+    }
+}
+
+// What is measured after a word of n characters, g of which glue: a space each, and a glyph for every other.
+pub fn word_measure(glyph: u32, sp: Spaces, m: Measure, n: u32, g: u32) -> Measure
+    requires { ⌜ FineSpaces sp × (glyph ≤ 64) × (n ≤ 65535) × (g ≤ n) × (m .pen .0 ≤ 8192 * 65535) × (m .spaces .0 ≤ 65535) ⌝ }
+    ensures { λ r. ⌜ r ≡ wordMeasure glyph sp m n g ⌝ }
+{
+    let letters = (n - g) * glyph;
+    printed_at(m.pen.0 + letters + spaces_width(sp, g), m.spaces.0 + g)
+}
+
+// The place after such a word, which fits.
+pub fn word_place(glyph: u32, p: Place, n: u32, g: u32) -> Place
+    requires { ⌜ FinePlace p × (fitsIn (p .cursor) (n * glyph) ≡ true) ⌝ }
+    ensures { λ r. ⌜ r ≡ wordPlace glyph p n g ⌝ }
+{
+    let before = p.cursor;
+    let spaces = p.spaces;
+    let cursor = advanced(before, n * glyph);
+    let left = spaces_after(spaces, g);
+    Place {
+        cursor,
+        spaces: left,
+        empty: false,
+    }
+}
+
+// A word too wide for an empty line gives its longest fitting part. One that no line can begin is dropped whole.
+fn cut_word(text: &[u8], s: Settings, p: Place, at: usize, x: Lexeme, m: Measure) -> Stepped
+    requires { ⌜ Ready s p (now text) at x m × (x .kind ≡ Word) × (fitsIn (p .cursor) (x .chars .0 * s .glyph .0) ≡ false) × (p .empty ≡ true) ⌝ }
+    ensures { λ r. ⌜ r ≡ stepFrom s p (now (text .entry)) at x m ⌝ }
+{
+    let cursor = p.cursor;
+    let fitting = room(cursor) / s.glyph.0;
+    if fitting == 0 {
+        return Stepped::Stop(ends_before(LineEnd::LineBreak, m, x.end.0, x.chars.0, 0));
+    }
+    let spaces = p.spaces;
+    let part = part_of(text, at, fitting);
+    let after = word_measure(s.glyph.0, spaces, m, fitting, part.glues.0);
+    Stepped::Stop(ends_before(LineEnd::LineBreak, after, part.end.0, 0, 0))
+}
+
+// A word that does not fit waits for the next line, if this one is not empty.
+pub fn on_word(text: &[u8], s: Settings, p: Place, at: usize, x: Lexeme, m: Measure) -> Stepped
+    requires { ⌜ Ready s p (now text) at x m × (x .kind ≡ Word) ⌝ }
+    ensures { λ r. ⌜ r ≡ stepFrom s p (now (text .entry)) at x m ⌝ }
+{
+    let glyph = s.glyph.0;
+    let n = x.chars.0;
+    let cursor = p.cursor;
+    if fits(cursor, n * glyph) {
+        let g = x.glues.0;
+        let spaces = p.spaces;
+        let after = word_measure(glyph, spaces, m, n, g);
+        return Stepped::Go(word_place(glyph, p, n, g), after, Offset(0));
+    }
+    if p.empty {
+        return cut_word(text, s, p, at, x, m);
+    }
+    Stepped::Stop(ends_before(LineEnd::LineBreak, m, at as u32, 0, 0))
+}
