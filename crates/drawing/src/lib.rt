@@ -4,6 +4,6 @@ pub mod grown;
 pub mod pairs;
 pub mod pass;
 pub mod pen;
-pub mod strides;
+pub mod striding;
 pub mod tokens;
 pub mod words;

@@ -1,7 +1,7 @@
 // The events of a line: the running pass again, token by token or in strides, each drawn (rules 7 to 9, and 13).
 use crate::pen::Pen;
-use crate::strides::draw_unless;
-use crate::strides::draw_waiting;
+use crate::striding::draw_unless;
+use crate::striding::draw_waiting;
 use crate::tokens::draw_token;
 use meaning::counts::Chars;
 use meaning::counts::Offset;

@@ -1,10 +1,10 @@
--- `drawing::strides::draw_on` meets its contract.
+-- `drawing::striding::draw_on` meets its contract.
 -- Assumes nothing.
 use mathlib.Core.Path.{refl}
 use Rattle.drawing.proofs.OnwardEvents.{drew-none, strode-to, pen-rest, strode-rest}
 use borrow.Author.Needs.{needs}
-use Rattle.drawing.proofs.strides.draw_on.Statement.{statement}
-use Rattle.drawing.proofs.strides.draw_on.Tie as tie
+use Rattle.drawing.proofs.striding.draw_on.Statement.{statement}
+use Rattle.drawing.proofs.striding.draw_on.Tie as tie
 
 draw-words-requires : tie.Need-draw-words-requires
 draw-words-requires c κs =

@@ -1,4 +1,4 @@
--- `drawing::strides::draw_waiting` meets its contract.
+-- `drawing::striding::draw_waiting` meets its contract.
 -- Assumes nothing.
 use mathlib.Core.Path.{_≡_, sym, ap, _∙_}
 use mathlib.Core.Bool.{true}
@@ -11,8 +11,8 @@ use Rattle.drawing.specs.Sheet.{sheet, drawnOn, on-none}
 use Rattle.drawing.proofs.StrideEvents.{waits-wide, waits-thin, waits-cut}
 use Rattle.drawing.proofs.WordEvents.{was-false, was-true}
 use borrow.Author.Needs.{needs}
-use Rattle.drawing.proofs.strides.draw_waiting.Statement.{statement}
-use Rattle.drawing.proofs.strides.draw_waiting.Tie as tie
+use Rattle.drawing.proofs.striding.draw_waiting.Statement.{statement}
+use Rattle.drawing.proofs.striding.draw_waiting.Tie as tie
 
 abbrev begin : tie.After-spaces-width → tie.Start
 begin c = c .before .before .before .before .before .before .before

@@ -1,11 +1,11 @@
--- `drawing::strides::draw_unless` meets its contract.
+-- `drawing::striding::draw_unless` meets its contract.
 -- Assumes nothing.
 use mathlib.Core.Path.{refl}
 use Rattle.strides.specs.GoesLaws.{nothing-foreseen}
 use Rattle.drawing.proofs.OnwardEvents.{stays-foreseen, drew-none, strode-to}
 use borrow.Author.Needs.{needs}
-use Rattle.drawing.proofs.strides.draw_unless.Statement.{statement}
-use Rattle.drawing.proofs.strides.draw_unless.Tie as tie
+use Rattle.drawing.proofs.striding.draw_unless.Statement.{statement}
+use Rattle.drawing.proofs.striding.draw_unless.Tie as tie
 
 enum-told : tie.Need-enum-told
 enum-told c = search needs

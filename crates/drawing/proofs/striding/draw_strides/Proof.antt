@@ -1,4 +1,4 @@
--- `drawing::strides::draw_strides` meets its contract.
+-- `drawing::striding::draw_strides` meets its contract.
 -- Assumes nothing.
 use mathlib.Core.Path.{_≡_, refl, ap, _∙_}
 use Prim.Native.Nat.{_+_, _-_, _*_, _≤_}
@@ -13,8 +13,8 @@ use Rattle.strides.specs.GoesLaws.{stride-waits}
 use Rattle.drawing.specs.DrawingOn.{Drew}
 use Rattle.drawing.proofs.OnwardEvents.{drew-start, drew-on, drew-stride, strode-to, strode-waits, strode-full}
 use borrow.Author.Needs.{needs}
-use Rattle.drawing.proofs.strides.draw_strides.Statement.{statement}
-use Rattle.drawing.proofs.strides.draw_strides.Tie as tie
+use Rattle.drawing.proofs.striding.draw_strides.Statement.{statement}
+use Rattle.drawing.proofs.striding.draw_strides.Tie as tie
 
 abbrev Inv-loop : tie.InvT-loop
 Inv-loop text s p from events₀ edge single at₀ position₀ extra₀ pen₀ events at position extra pen =

@@ -1,4 +1,4 @@
--- `drawing::strides::draw_words` meets its contract.
+-- `drawing::striding::draw_words` meets its contract.
 -- Assumes nothing.
 use Prim.Native.Nat.{_-_}
 use mathlib.Core.Path.{_≡_, refl, _∙_}
@@ -8,8 +8,8 @@ use Rattle.steps.specs.Unrolled.{nothingResumed}
 use Rattle.drawing.specs.DrawingOn.{Strode}
 use Rattle.drawing.proofs.OnwardEvents.{strode-here, strode-on}
 use borrow.Author.Needs.{needs}
-use Rattle.drawing.proofs.strides.draw_words.Statement.{statement}
-use Rattle.drawing.proofs.strides.draw_words.Tie as tie
+use Rattle.drawing.proofs.striding.draw_words.Statement.{statement}
+use Rattle.drawing.proofs.striding.draw_words.Tie as tie
 
 -- So far as the first word led, from there on.
 abbrev Inv-loop : tie.InvT-loop

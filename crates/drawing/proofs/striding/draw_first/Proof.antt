@@ -1,4 +1,4 @@
--- `drawing::strides::draw_first` meets its contract.
+-- `drawing::striding::draw_first` meets its contract.
 -- Assumes nothing.
 use mathlib.Core.Path.{_≡_, refl, sym, _∙_}
 use mathlib.Core.Bool.{true}
@@ -10,8 +10,8 @@ use Rattle.strides.specs.PlainWords.{PlainWord}
 use Rattle.strides.specs.StrideLaws.{most-small, most-fits}
 use Rattle.drawing.proofs.OnwardEvents.{drew-none, drew-word, strode-to}
 use borrow.Author.Needs.{needs}
-use Rattle.drawing.proofs.strides.draw_first.Statement.{statement}
-use Rattle.drawing.proofs.strides.draw_first.Tie as tie
+use Rattle.drawing.proofs.striding.draw_first.Statement.{statement}
+use Rattle.drawing.proofs.striding.draw_first.Tie as tie
 
 abbrev begin : tie.After-room → tie.Start
 begin c = c .before .before .before .before .before .before

@@ -1,11 +1,11 @@
--- `drawing::strides::put_stride` meets its contract.
+-- `drawing::striding::put_stride` meets its contract.
 -- Assumes nothing.
 use native.Mathlib.Omega.{arith}
 use Rattle.drawing.specs.Sheet.{sheet, pen-one}
 use Rattle.drawing.proofs.OnwardEvents.{on-two}
 use borrow.Author.Needs.{needs}
-use Rattle.drawing.proofs.strides.put_stride.Statement.{statement}
-use Rattle.drawing.proofs.strides.put_stride.Tie as tie
+use Rattle.drawing.proofs.striding.put_stride.Statement.{statement}
+use Rattle.drawing.proofs.striding.put_stride.Tie as tie
 
 add-from : tie.Need-add-from
 add-from c = search needs
