@@ -3,7 +3,6 @@
 -- Assumes nothing.
 use Prim.Native.Nat.{ℕ, zero, suc}
 use Prim.Native.String.{String}
-use mathlib.Core.Path.{_≡_, refl}
 use mathlib.Core.List.{List, [], _∷_, _++_, map}
 use lib.ListN.{length, take, drop}
 use Rattle.unicode.specs.WellFormed.{wellFormed, rows, fits, someFits}
@@ -115,8 +114,3 @@ computed x =
       answer = relayAnswer (x .settings) (partOf x) table n (editOf x);
       lines = map ofEntry (entriesIn (length (x .lines)) (relayTable (x .settings) (partOf x) table n (editOf x)));
     }
-
--- Every edit comes out as it is written.
-pub edits-hold : map computed editExamples ≡ editExamples
-unfolding computed
-edits-hold = refl

@@ -4,7 +4,6 @@ use Prim.Native.Nat.{ℕ}
 use Prim.Native.Char.{Char, code}
 use Prim.Native.String.{String}
 use Prim.Native.String as string
-use mathlib.Core.Path.{_≡_, refl}
 use mathlib.Core.List.{List, [], _∷_, map}
 use lib.IntN.{pos}
 use Rattle.basis.specs.Choice.{pick}
@@ -162,8 +161,3 @@ computed e =
       lines = linesOf (e .settings) (codes (e .text));
       events = eventsOf (e .settings) (codes (e .text));
     }
-
--- E1: every example comes out as it is written.
-pub examples-hold : map computed examples ≡ examples
-unfolding computed
-examples-hold = refl

@@ -20,3 +20,4 @@ pub mod Answers
 pub mod Examples
 pub mod EditExamples
 pub mod SmallExamples
+pub mod StarredExamples

@@ -54,10 +54,6 @@ unfoldable pub tokensFound : TokenExample → TokenExample
 unfolding linesOf codes ranged ofToken
 tokensFound x = tokensAre (x .text) (map ofToken (ranged 0 (tokens (codes (x .text)))))
 
-pub tokens-hold : map tokensFound tokenExamples ≡ tokenExamples
-unfolding tokensFound
-tokens-hold = refl
-
 -- ---- the cursor (rule 4)
 
 abbrev cursorAt : (position : ℕ) → LineCursor
