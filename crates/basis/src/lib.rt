@@ -1,1 +1,2 @@
-// Laws that every crate's definitions and proofs share. Nothing here runs.
+// What every crate shares: helpers on plain numbers, and laws of choosing and counting. Nothing here knows of text.
+pub mod numbers;
