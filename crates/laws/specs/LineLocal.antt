@@ -2,19 +2,18 @@
 -- Assumes nothing.
 use Prim.Native.Nat.{ℕ, zero, suc, _≤_}
 use native.Mathlib.Omega.{arith}
-use mathlib.Core.Path.{_≡_, sym, ap, _∙_}
+use mathlib.Core.Path.{_≡_, sym, _∙_}
 use mathlib.Core.List.{List, [], _∷_, _++_}
-use lib.ListN.{length, take, drop}
+use lib.ListN.{length, take}
 use lib.Seq.{take-append-le}
 use Rattle.unicode.specs.Encoding.{size}
 use Rattle.unicode.specs.Sizes.{bytes-range}
-use Rattle.meaning.specs.Tokens.{space, ender, tokens, sizeOf, enderOf, needOf}
 use Rattle.meaning.specs.LineIter.{Held}
-use Rattle.meaning.specs.Line.{heldTokens, lineTokens, lineOf, layLine, restOf, entryAt}
-use Rattle.meaning.specs.Layout.{rowAt, entryOfRow}
+use Rattle.meaning.specs.Line.{lineTokens, layLine, restOf, entryAt}
+use Rattle.meaning.specs.Layout.{rowAt}
 use Rattle.meaning.specs.declared.settings.Settings.{Settings}
 use Rattle.laws.specs.TokensAgree.{line-tokens-agree}
-use Rattle.laws.specs.Local.{line-far, line-local}
+use Rattle.laws.specs.Local.{line-local}
 
 -- What a text's front holds does not depend on what follows it.
 pub take-local : (k : ℕ) (p x y : List ℕ) → k ≤ length p → take k (p ++ y) ≡ take k (p ++ x)
@@ -28,17 +27,6 @@ size-within (suc k) [] [] h l = h
 size-within (suc k) [] (c ∷ x) h l = absurd (omega (arith, bytes-range c))
 size-within (suc k) (c ∷ p) x h l = let r = size-within k p x (omega arith) (omega arith) in omega arith
 
--- What is held is examined.
-held-far : (s : Settings) (k n : ℕ) (cs : List ℕ) → size (take k cs) ≤ lineOf s (heldTokens k n cs) .reach
-unfolding heldTokens size needOf sizeOf enderOf
-held-far s zero n cs = omega arith
-held-far s (suc k) n cs = omega (arith, line-far s (space (take (suc k) cs) n (ender (drop (suc k) cs))) (tokens (drop (suc k) cs)))
-
-pub held-within : (s : Settings) (h : Held) (p x : List ℕ) → h .chars ≤ length (p ++ x)
-    → layLine s h (p ++ x) .reach ≤ size p → h .chars ≤ length p
-unfolding layLine lineTokens
-held-within s h p x k l = size-within (h .chars) p x k (omega (arith, held-far s (h .chars) (h .count) (p ++ x)))
-
 module _ (s : Settings) (h : Held) (p x y : List ℕ) (far : layLine s h (p ++ x) .reach ≤ size p) where
   pub lay-local : layLine s h (p ++ y) ≡ layLine s h (p ++ x)
   unfolding layLine
@@ -49,13 +37,3 @@ module _ (s : Settings) (h : Held) (p x y : List ℕ) (far : layLine s h (p ++ x
       → rowAt start h (p ++ y) (layLine s h (p ++ y)) ≡ rowAt start h (p ++ x) (layLine s h (p ++ x))
   unfolding rowAt entryAt restOf
   row-local start k = rw (lay-local, take-local (h .chars) p x y k)
-
-  pub entry-local : (start : ℕ) → h .chars ≤ length p
-      → entryAt start h (p ++ y) (layLine s h (p ++ y)) ≡ entryAt start h (p ++ x) (layLine s h (p ++ x))
-  unfolding rowAt
-  entry-local start k = ap entryOfRow (row-local start k)
-
-  -- Where the next line starts, if the line ends within them.
-  pub next-local : layLine s h (p ++ x) .chars ≤ length p
-      → size (take (layLine s h (p ++ y) .chars) (p ++ y)) ≡ size (take (layLine s h (p ++ x) .chars) (p ++ x))
-  next-local k = rw (lay-local, take-local (layLine s h (p ++ x) .chars) p x y k)

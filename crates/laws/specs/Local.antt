@@ -175,10 +175,6 @@ pass-far : (here k : ℕ) (x : Step) (f : Place → Ran) → (here ≤ passOn he
 pass-far here k (go q ds r) f = omega arith
 pass-far here k (stop e ds c w d r) f = omega arith
 
-pub process-far : (s : Settings) (p : Place) (at : ℕ) (t : Tok) (ts : List Tok) → at + needOf t ≤ process s p at (t ∷ ts) .reach
-unfolding process
-process-far s p at t ts = pass-far (at + needOf t) (charsOf t) (step s p at t ts) (λ q. process s q (at + sizeOf t) ts) .0
-
 pub process-local : (s : Settings) (p : Place) (at n : ℕ) (xs ys : List Tok) → Agree n xs ys
     → process s p at xs .reach ≤ at + n → process s p at ys ≡ process s p at xs
 unfolding process
@@ -190,10 +186,6 @@ process-local s p at n (t ∷ xs) ys a h =
     (pass-on (at + needOf t) (charsOf t) (at + n) (step s p at t xs) _ _ (λ q k. process-local s q (at + sizeOf t) (n - sizeOf t) xs zs b (omega arith)) h))
 
 -- ---- a line
-
-pub line-far : (s : Settings) (t : Tok) (ts : List Tok) → needOf t ≤ lineOf s (t ∷ ts) .reach
-unfolding lineOf measuring
-line-far s t ts = omega (arith, process-far s (startPlace s 0 (plainSpaces s)) 0 t ts)
 
 pub line-local : (s : Settings) (xs ys : List Tok) (n : ℕ) → Agree n xs ys → lineOf s xs .reach ≤ n → lineOf s ys ≡ lineOf s xs
 unfolding lineOf measuring

@@ -18,10 +18,6 @@ use Rattle.meaning.specs.declared.line.Measure.{Measure}
 
 -- ---- spaces, some after others
 
-pub spaces-add : (sp : Spaces) (a b : ℕ) → spacesWidth sp (a + b) ≡ spacesWidth sp a + spacesWidth (spacesAfter sp a) b
-unfolding spacesWidth spacesAfter
-spaces-add sp a b = omega arith
-
 pub spaces-after : (sp : Spaces) (a b : ℕ) → spacesAfter (spacesAfter sp a) b ≡ spacesAfter sp (a + b)
 unfolding spacesAfter
 spaces-after sp a b = let e : sp .extra .0 - a - b ≡ sp .extra .0 - (a + b) = omega arith in rw e

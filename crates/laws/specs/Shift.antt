@@ -247,10 +247,6 @@ pub process-from : (s : Settings) (p : Place) (at : ℕ) (ts : List Tok) → pro
 process-from s p at ts = rw add-zero at (process-shift s p at 0 ts)
 
 module _ (s : Settings) (p : Place) (d at : ℕ) (ts : List Tok) where
-  -- It measures the same.
-  pub pass-measured : (m : Measure) → measured m (process s p (d + at) ts .drawn) ≡ measured m (process s p at ts .drawn)
-  pass-measured m = rw (process-shift s p d at ts) (shifted-measured d m (process s p at ts .drawn))
-
   -- Its events are those of a line that starts d bytes further on.
   pub pass-events : (start x : ℕ) → eventsAt start x (process s p (d + at) ts .drawn) ≡ eventsAt (start + d) x (process s p at ts .drawn)
   pass-events start x = rw (process-shift s p d at ts) (shifted-events d start x (process s p at ts .drawn))

@@ -6,7 +6,7 @@ use mathlib.Core.Bool.{Bool, true, false, _&&_}
 use mathlib.Core.List.{List, [], _∷_, map}
 use native.Mathlib.Nat.{zero-add}
 use native.Mathlib.Omega.{arith}
-use borrow.Author.Tests.{lt-ltb, le-leb, eq-eqb, ne-eqb, ltb-true, eqb-true}
+use borrow.Author.Tests.{lt-ltb, le-leb, eq-eqb, ne-eqb, ltb-true}
 use lib.Dec.{leb, ltb}
 use lib.ListN.{length, take, drop, take-append-drop}
 use lib.Seq.{take-add}
@@ -16,7 +16,7 @@ use Rattle.unicode.specs.Encoding.{size}
 use Rattle.unicode.specs.Sizes.{size-append}
 use Rattle.meaning.specs.LineIter.{Held, nothingHeld}
 use Rattle.meaning.specs.Line.{Line, layLine, endNumber, restOf, entryAt}
-use Rattle.meaning.specs.Layout.{Row, rowAt, rowsBy, rows, entryOfRow, layout}
+use Rattle.meaning.specs.Layout.{Row, rowAt, rows, entryOfRow, layout}
 use Rattle.meaning.specs.WellFormed.{lastReach, textLength, Before, nothing, line, startGood, noRest, restGood, endingGood, entryGood, checkLines, checkEntries}
 use Rattle.meaning.specs.declared.settings.Settings.{Settings}
 use Rattle.meaning.specs.declared.line.LineEnd.{LineEnd}
@@ -160,10 +160,6 @@ module _ (s : Settings) where
         pick-true _ _ _ (within-is 1 65536 (lastReach (layout s cs)) (omega (arith, layout-reach)) (omega (arith, layout-reach)))
         ∙ rw layout-length (layout-lines 0)
 
-    pub layout-some : 1 ≤ length (layout s cs)
-    unfolding layout rows rowsBy
-    layout-some = omega arith
-
 -- ---- what the check says of starts
 
 good-both : (t : Bool) (c : Checked) (r : Refusal) → pick t c (Refused r) ≡ Good → (t ≡ true) × (c ≡ Good)
@@ -201,13 +197,6 @@ lines-rise n k b (e ∷ f ∷ es) h =
       lines-rise n (suc k) (line (e .start .0) (e .reach .0)) (f ∷ es) more,
     )
 
-pub lines-start : (n k : ℕ) (e : Entry) (es : List Entry) → checkLines n k nothing (e ∷ es) ≡ Good → e .start .0 ≡ 0
-unfolding startGood
-lines-start n k e es h = eqb-true (e .start .0) 0 (good-first n k nothing e es h .0)
-
 module _ (s : Settings) (cs : List ℕ) where
   pub layout-rises : Rising (layout s cs)
   layout-rises = lines-rise (size cs) 0 nothing (layout s cs) (layout-lines s cs 0)
-
-  pub first-start : (e : Entry) (es : List Entry) → layout s cs ≡ e ∷ es → e .start .0 ≡ 0
-  first-start e es p = lines-start (size cs) 0 e es (rw p at (layout-lines s cs 0))

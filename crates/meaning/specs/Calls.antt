@@ -1,10 +1,10 @@
 -- What each public call answers, and what each buffer that it is lent holds afterwards, from what it was lent alone.
 -- A text is a list of bytes here, and a table or buffer a list of numbers.
 -- Assumes nothing.
-use Prim.Native.Nat.{ℕ, suc, _+_}
-use mathlib.Core.Bool.{Bool, _&&_}
-use mathlib.Core.List.{List, [], _∷_, _++_, map}
-use lib.Dec.{leb, ltb, eqb}
+use Prim.Native.Nat.{ℕ, suc}
+use mathlib.Core.Bool.{_&&_}
+use mathlib.Core.List.{List, [], _∷_, map}
+use lib.Dec.{ltb, eqb}
 use lib.ListN.{length}
 use Rattle.basis.specs.Choice.{pick}
 use Rattle.unicode.specs.Decoding.{decodeAll}
@@ -13,7 +13,7 @@ use Rattle.meaning.specs.Tokens.{tokens, ranged}
 use Rattle.meaning.specs.Layout.{Row, rows, entryOfRow, allEvents}
 use Rattle.meaning.specs.Table.{entryNumbers, eventNumbers, tokenNumbers, ofEntry, ofEvent, ofToken, ofAll, capacityOf, written, entriesIn}
 use Rattle.meaning.specs.WellFormed.{checkTable}
-use Rattle.meaning.specs.Edit.{unaffected, affected, checkWhole, checkRest, checkOrder, checkEdit, Again, again, linesAgain}
+use Rattle.meaning.specs.Edit.{unaffected, affected, checkWhole, checkRest, checkOrder, checkEdit, again, linesAgain}
 use Rattle.meaning.specs.Height.{heightOf, yOf, showsAt}
 use Rattle.meaning.specs.declared.settings.Settings.{Settings}
 use Rattle.meaning.specs.declared.tokens.Token.{Token}

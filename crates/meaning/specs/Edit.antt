@@ -1,16 +1,16 @@
 -- Laying again after an edit: the first affected line, refusals 3, 5 and 6 of an edit, and the lines afterwards.
 -- Assumes nothing.
 use Prim.Native.Nat.{ℕ, zero, suc, _+_, _-_}
-use mathlib.Core.Bool.{Bool, true, false, _&&_, _||_, not}
+use mathlib.Core.Bool.{Bool, _&&_, _||_, not}
 use mathlib.Core.List.{List, [], _∷_, _++_, map}
-use lib.Dec.{leb, ltb, eqb}
+use lib.Dec.{leb, eqb}
 use lib.ListN.{length, take, drop}
 use Rattle.basis.specs.Choice.{pick}
 use Rattle.unicode.specs.Encoding.{bytes, size}
 use Rattle.unicode.specs.Places.{boundary}
 use Rattle.meaning.specs.Checks.{refuseIf, checkLength}
 use Rattle.meaning.specs.LineIter.{Held, nothingHeld}
-use Rattle.meaning.specs.Line.{Line, layLine, restOf}
+use Rattle.meaning.specs.Line.{layLine, restOf}
 use Rattle.meaning.specs.Layout.{Row, rowAt, entryOfRow}
 use Rattle.meaning.specs.WellFormed.{textLength, noRest}
 use Rattle.meaning.specs.declared.settings.Settings.{Settings}

@@ -1,7 +1,7 @@
 -- The scope's examples of layouts, computed (E1): one table, and one theorem over it.
 -- Assumes nothing.
 use Prim.Native.Nat.{ℕ}
-use Prim.Native.Char.{Char, code}
+use Prim.Native.Char.{code}
 use Prim.Native.String.{String}
 use Prim.Native.String as string
 use mathlib.Core.List.{List, [], _∷_, map}

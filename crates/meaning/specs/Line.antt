@@ -10,7 +10,7 @@ use Rattle.unicode.specs.Encoding.{size}
 use Rattle.meaning.specs.Tokens.{Tok, space, ender, tokens}
 use Rattle.meaning.specs.Alignment.{plainSpaces, place}
 use Rattle.meaning.specs.Words.{Drawn}
-use Rattle.meaning.specs.LineIter.{Held, nothingHeld, trailingOn, Ran, process}
+use Rattle.meaning.specs.LineIter.{Held, trailingOn, Ran, process}
 use Rattle.meaning.specs.declared.settings.Settings.{Settings}
 use Rattle.meaning.specs.declared.cursor.Spaces.{Spaces}
 use Rattle.meaning.specs.declared.cursor.Place.{Place}

@@ -1,26 +1,23 @@
 -- Rules 7, 8 and 9, `process`: one pass over a line, token by token.
 -- Assumes nothing.
-use Prim.Native.Nat.{ℕ, suc, _+_, _-_, _*_, _/_, max, min}
+use Prim.Native.Nat.{ℕ, _+_, _-_, _*_, _/_, max, min}
 use mathlib.Core.Bool.{Bool, true, false, _&&_, _||_, not}
 use mathlib.Core.List.{List, [], _∷_, _++_}
 use lib.Dec.{eqb}
-use lib.ListN.{length, take, drop}
+use lib.ListN.{length, take}
 use Rattle.basis.specs.Choice.{pick}
 use Rattle.unicode.specs.Encoding.{size}
 use Rattle.meaning.specs.Tokens.{Tok, newLine, carriageReturn, tab, softHyphen, space, word, charsOf, sizeOf, needOf}
 use Rattle.meaning.specs.Cursor.{roomOf, fitsIn, advance, tabWidth}
 use Rattle.meaning.specs.SpaceConfig.{spacesWidth, spacesAfter}
-use Rattle.meaning.specs.Lookahead.{Looked, nextFits, Ahead, nextWidth}
+use Rattle.meaning.specs.Lookahead.{Looked, nextFits, nextWidth}
 use Rattle.meaning.specs.Words.{Drawn, drawn, glues, drawnWord}
 use Rattle.meaning.specs.declared.settings.Settings.{Settings}
-use Rattle.meaning.specs.declared.cursor.LineCursor.{LineCursor}
-use Rattle.meaning.specs.declared.cursor.Spaces.{Spaces}
 use Rattle.meaning.specs.declared.cursor.Place.{Place}
 use Rattle.meaning.specs.declared.cursor.NextWord.{NextWord}
 use Rattle.meaning.specs.declared.cursor.NextWord.the-variants.{Nothing, Width}
 use Rattle.meaning.specs.declared.line.LineEnd.{LineEnd}
 use Rattle.meaning.specs.declared.line.LineEnd.the-variants.{NewLine, CarriageReturn, EndOfText, LineBreak}
-use Rattle.meaning.specs.declared.line.EventKind.{EventKind}
 use Rattle.meaning.specs.declared.line.EventKind.the-variants.{Space, Printed, Move}
 
 -- Rule 9: what is left of a cut space run, its characters and its count. No characters: nothing is left.

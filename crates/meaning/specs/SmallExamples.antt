@@ -1,7 +1,7 @@
 -- Computed examples of the rules that no layout shows: tokens, the cursor's moves, bad tables, height and y, and the order of the
 -- refusals. A table of each kind, and one theorem over it.
 -- Assumes nothing.
-use Prim.Native.Nat.{ℕ, _*_}
+use Prim.Native.Nat.{ℕ}
 use Prim.Native.String.{String}
 use mathlib.Core.Path.{_≡_, refl}
 use mathlib.Core.List.{List, [], _∷_, map}
@@ -10,20 +10,18 @@ use Rattle.basis.specs.Choice.{pick}
 use Rattle.unicode.specs.WellFormed.{wellFormed, rows, fits, someFits}
 use Rattle.unicode.specs.Decoding.{seqLen, value, charOf, decodeHead, decodeAfter, decodeAll, validPrefix}
 use Rattle.meaning.specs.Settings.{topInRange, sizesInRange, inRange}
-use Rattle.meaning.specs.Checks.{refuseIf, firstOf, checkSettings, checkLength, checkUtf8, checkText, checkRoom}
+use Rattle.meaning.specs.Checks.{refuseIf, firstOf, checkSettings, checkLength, checkUtf8, checkRoom}
 use Rattle.meaning.specs.Tokens.{tokens, ranged}
 use Rattle.meaning.specs.Cursor.{moveBy, tabWidth}
 use Rattle.meaning.specs.Layout.{layout}
-use Rattle.meaning.specs.Table.{ofToken, ofAll, capacityOf, entryIn, entriesIn}
+use Rattle.meaning.specs.Table.{ofToken, capacityOf, entryIn, entriesIn}
 use Rattle.meaning.specs.WellFormed.{lastReach, textLength, startGood, noRest, restGood, endingGood, entryGood, checkLines, checkEntries, checkTable}
-use Rattle.meaning.specs.Height.{endAdds, heightAdds, heightFrom, heightOf, offsetOf, addedBefore, yOf, showsAt}
+use Rattle.meaning.specs.Height.{endAdds, heightAdds, heightFrom, heightOf, offsetOf, addedBefore, yOf}
 use Rattle.meaning.specs.Calls.{checkTakes, textRows, textEntries, checkLayout, layoutAnswer}
-use Rattle.meaning.specs.Examples.{codes, box, linesOf}
+use Rattle.meaning.specs.Examples.{codes, linesOf}
 use Rattle.meaning.specs.declared.settings.Settings.{Settings}
 use Rattle.meaning.specs.declared.cursor.LineCursor.{LineCursor}
-use Rattle.meaning.specs.declared.cursor.Moved.{Moved}
 use Rattle.meaning.specs.declared.cursor.Moved.the-variants.{By, Room}
-use Rattle.meaning.specs.declared.refusals.Refusal.{Refusal}
 use Rattle.meaning.specs.declared.refusals.Refusal.the-variants.{SettingOutOfRange, UnknownAlignment, NotUtf8, BadLine, TooSmall}
 use Rattle.meaning.specs.declared.refusals.Checked.{Checked}
 use Rattle.meaning.specs.declared.refusals.Checked.the-variants.{Good, Refused}

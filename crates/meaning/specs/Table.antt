@@ -1,6 +1,6 @@
 -- Rule 12: a table is ten numbers a line, one line after the other; what a lent table, event buffer or token buffer holds.
 -- Assumes nothing.
-use Prim.Native.Nat.{ℕ, zero, suc, _+_, _-_, _*_, _/_}
+use Prim.Native.Nat.{ℕ, zero, suc, _+_, _/_}
 use mathlib.Core.List.{List, [], _∷_, _++_}
 use lib.ListN.{length, getD, drop}
 use Rattle.meaning.specs.declared.tokens.Token.{Token}

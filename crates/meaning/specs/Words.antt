@@ -9,7 +9,7 @@ use Rattle.meaning.specs.Characters.{glue}
 use Rattle.meaning.specs.SpaceConfig.{spacesWidth, spacesAfter}
 use Rattle.meaning.specs.declared.cursor.Spaces.{Spaces}
 use Rattle.meaning.specs.declared.line.EventKind.{EventKind}
-use Rattle.meaning.specs.declared.line.EventKind.the-variants.{Space, Printed, Move}
+use Rattle.meaning.specs.declared.line.EventKind.the-variants.{Space, Printed}
 
 -- What a pass draws: its bytes from the line's start, the spaces that it counts, and its width.
 pub record Drawn : Type 0 where
