@@ -1,6 +1,8 @@
+// Refusals 3 and 4: a text that is too long, or no UTF-8.
 use meaning::counts::Offset;
 use meaning::refusals::Checked;
 use meaning::refusals::Refusal;
+use meaning::sizes::TEXT_LIMIT;
 use unicode::text::valid_prefix;
 ghost use mathlib.Core.Path.{_≡_};
 ghost use Rattle.meaning.specs.Checks.{checkText};
@@ -9,7 +11,7 @@ ghost use Rattle.meaning.specs.Checks.{checkText};
 pub fn check_text(text: &[u8]) -> Checked
     ensures { λ r. ⌜ r ≡ checkText (now (text .entry)) ⌝ }
 {
-    if 65535 < text.len() {
+    if TEXT_LIMIT < text.len() {
         return Checked::Refused(Refusal::TextTooLong(text.len() as u64));
     }
     let prefix = valid_prefix(text);

@@ -53,10 +53,10 @@ pub record EditOf (s : Settings) (ed : Edit) (old new table : List ℕ) (lines :
   -- The settings are good.
   pub settings : checkSettings s ≡ Good
   -- The first lines of the table are the layout of the old text, all of it.
-  pub holds : 10 * lines ≤ length table
+  pub holds : entryNumbers * lines ≤ length table
   pub held : entriesIn lines table ≡ layout s old
   -- The table has room for the layout of the new text, ten numbers a line.
-  pub room : 10 * length (layout s new) ≤ length table
+  pub room : entryNumbers * length (layout s new) ≤ length table
   -- The part is the bytes of the new text from the first affected line's start on.
   pub lent : part ≡ drop (startOf (affected (ed .from .0) (layout s old))) (encodeAll new)
 
@@ -77,10 +77,10 @@ pub record Demand3 (s : Settings) (ed : Edit) (old new table : List ℕ) (lines 
   pub fresh-call : layoutAnswer s (encodeAll new) table ≡ laid.Lines (length (layout s new))
   pub fresh-table : relayTable s part table lines ed ≡ layoutTable s (encodeAll new) table
   -- The entries before the first affected line are as they were.
-  pub before-untouched : take (10 * length (unaffected (ed .from .0) (layout s old))) (relayTable s part table lines ed)
-      ≡ take (10 * length (unaffected (ed .from .0) (layout s old))) table
+  pub before-untouched : take (entryNumbers * length (unaffected (ed .from .0) (layout s old))) (relayTable s part table lines ed)
+      ≡ take (entryNumbers * length (unaffected (ed .from .0) (layout s old))) table
   -- So is everything past the last line.
-  pub past-untouched : drop (10 * length (layout s new)) (relayTable s part table lines ed) ≡ drop (10 * length (layout s new)) table
+  pub past-untouched : drop (entryNumbers * length (layout s new)) (relayTable s part table lines ed) ≡ drop (entryNumbers * length (layout s new)) table
 
 -- ---- why
 

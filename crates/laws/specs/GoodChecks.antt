@@ -40,13 +40,13 @@ utf8-good cs al =
     refuse-unless _ _ (eq-eqb _ _ (prefix-whole (encodeAll cs) .1 (record { scalars = cs; all = al; is = refl })))
 
 -- A table has room for as many lines as it has ten numbers each.
-pub room-good : (n : ℕ) (table : List ℕ) → 10 * n ≤ length table → checkRoom (capacityOf entryNumbers table) n ≡ Good
+pub room-good : (n : ℕ) (table : List ℕ) → entryNumbers * n ≤ length table → checkRoom (capacityOf entryNumbers table) n ≡ Good
 unfolding checkRoom
-room-good n table h = refuse-not _ _ (le-ltb _ _ (capacity-is 10 n table (omega arith) .1 h))
+room-good n table h = refuse-not _ _ (le-ltb _ _ (capacity-is entryNumbers n table (omega arith) .1 h))
 
 -- A table that holds the layout of a text is well formed.
-pub table-good : (s : Settings) (cs : List ℕ) (lines : ℕ) (table : List ℕ) → size cs ≤ 65535 → 10 * lines ≤ length table
+pub table-good : (s : Settings) (cs : List ℕ) (lines : ℕ) (table : List ℕ) → size cs ≤ 65535 → entryNumbers * lines ≤ length table
     → entriesIn lines table ≡ layout s cs → checkTable lines table ≡ Good
 unfolding checkTable
 table-good s cs lines table b h e =
-    pick-true _ _ _ (le-leb _ _ (capacity-is 10 lines table (omega arith) .1 h)) ∙ rw e (layout-good s cs b)
+    pick-true _ _ _ (le-leb _ _ (capacity-is entryNumbers lines table (omega arith) .1 h)) ∙ rw e (layout-good s cs b)

@@ -10,7 +10,7 @@ use Rattle.unicode.specs.Sizes.{size-is}
 use Rattle.unicode.specs.Walk.{decode-all-encode}
 use Rattle.meaning.specs.Checks.{firstOf, checkSettings}
 use Rattle.meaning.specs.Layout.{rows, layout}
-use Rattle.meaning.specs.Table.{ofEntry, ofAll, written}
+use Rattle.meaning.specs.Table.{entryNumbers, ofEntry, ofAll, written}
 use Rattle.meaning.specs.Calls.{textRows, textEntries, checkLayout, layoutAnswer, layoutTable}
 use Rattle.meaning.specs.declared.settings.Settings.{Settings}
 use Rattle.meaning.specs.declared.refusals.Checked.the-variants.{Good}
@@ -28,7 +28,7 @@ module _ (s : Settings) (cs : List ℕ) (al : Scalars cs) where
   unfolding textEntries layout
   text-layout = rw text-rows
 
-  module _ (good : checkSettings s ≡ Good) (short : size cs ≤ 65535) (table : List ℕ) (room : 10 * length (layout s cs) ≤ length table) where
+  module _ (good : checkSettings s ≡ Good) (short : size cs ≤ 65535) (table : List ℕ) (room : entryNumbers * length (layout s cs) ≤ length table) where
     layout-checked : checkLayout s (encodeAll cs) table ≡ Good
     unfolding checkLayout firstOf
     layout-checked =

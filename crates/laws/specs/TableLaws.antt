@@ -8,23 +8,23 @@ use mathlib.Core.List.{List, [], _∷_, _++_, append-assoc}
 use native.Mathlib.Nat.{mul-zero, mul-suc, mul-comm, le-div-iff-mul-le}
 use native.Mathlib.Omega.{arith}
 use lib.ListN.{length, getD, take, drop, length-append, length-drop}
-use lib.Seq.{take-at, drop-at, drop-append-seam, take-append-seam, take-add}
-use Rattle.meaning.specs.Table.{entryNumbers, ofEntry, ofEvent, ofToken, ofAll, capacityOf, written, entryIn, entriesIn}
+use lib.Seq.{take-at, drop-at, drop-append-seam, take-add}
+use Rattle.meaning.specs.Table.{entryNumbers, eventNumbers, tokenNumbers, ofEntry, ofEvent, ofToken, ofAll, capacityOf, written, entryIn, entriesIn}
 use Rattle.meaning.specs.declared.line.Entry.{Entry}
 use Rattle.meaning.specs.declared.line.Event.{Event}
 use Rattle.meaning.specs.declared.tokens.Token.{Token}
 
 -- ---- how many numbers there are
 
-pub entry-numbers : (e : Entry) → length (ofEntry e) ≡ 10
+pub entry-numbers : (e : Entry) → length (ofEntry e) ≡ entryNumbers
 unfolding ofEntry
 entry-numbers e = refl
 
-pub event-numbers : (e : Event) → length (ofEvent e) ≡ 6
+pub event-numbers : (e : Event) → length (ofEvent e) ≡ eventNumbers
 unfolding ofEvent
 event-numbers e = refl
 
-pub token-numbers : (t : Token) → length (ofToken t) ≡ 4
+pub token-numbers : (t : Token) → length (ofToken t) ≡ tokenNumbers
 unfolding ofToken
 token-numbers t = refl
 
@@ -35,14 +35,14 @@ unfolding ofAll
 all-numbers f n h [] = sym (mul-zero n)
 all-numbers f n h (x ∷ xs) = rw (length-append, mul-suc) (omega (arith, h x, all-numbers f n h xs))
 
-pub entries-numbers : (es : List Entry) → length (ofAll ofEntry es) ≡ 10 * length es
-entries-numbers = all-numbers ofEntry 10 entry-numbers
+pub entries-numbers : (es : List Entry) → length (ofAll ofEntry es) ≡ entryNumbers * length es
+entries-numbers = all-numbers ofEntry entryNumbers entry-numbers
 
-pub events-numbers : (es : List Event) → length (ofAll ofEvent es) ≡ 6 * length es
-events-numbers = all-numbers ofEvent 6 event-numbers
+pub events-numbers : (es : List Event) → length (ofAll ofEvent es) ≡ eventNumbers * length es
+events-numbers = all-numbers ofEvent eventNumbers event-numbers
 
-pub tokens-numbers : (ts : List Token) → length (ofAll ofToken ts) ≡ 4 * length ts
-tokens-numbers = all-numbers ofToken 4 token-numbers
+pub tokens-numbers : (ts : List Token) → length (ofAll ofToken ts) ≡ tokenNumbers * length ts
+tokens-numbers = all-numbers ofToken tokenNumbers token-numbers
 
 -- A buffer holds k of n numbers each exactly if it is at least so long.
 pub capacity-is : (n k : ℕ) (t : List ℕ) → 0 < n → (k ≤ capacityOf n t) ↔ (n * k ≤ length t)
@@ -66,7 +66,7 @@ unfolding entriesIn ofAll
 entries-read [] t = refl
 entries-read (e ∷ es) t =
     let more = ofAll ofEntry es ++ t in
-    rw (append-assoc, entry-read e more, drop-at (ofEntry e) more 10 (entry-numbers e), entries-read es t)
+    rw (append-assoc, entry-read e more, drop-at (ofEntry e) more entryNumbers (entry-numbers e), entries-read es t)
 
 pub entries-length : (n : ℕ) (t : List ℕ) → length (entriesIn n t) ≡ n
 unfolding entriesIn
@@ -90,16 +90,16 @@ values-are zero t h = refl
 values-are (suc n) [] h = absurd (omega arith)
 values-are (suc n) (x ∷ t) h = ap (λ (l : List ℕ). x ∷ l) (values-are n t (omega arith))
 
-pub numbers-read : (t : List ℕ) → 10 ≤ length t → ofEntry (entryIn t) ≡ take 10 t
+pub numbers-read : (t : List ℕ) → entryNumbers ≤ length t → ofEntry (entryIn t) ≡ take entryNumbers t
 unfolding ofEntry entryIn
-numbers-read t h = values-are 10 t h
+numbers-read t h = values-are entryNumbers t h
 
-pub all-numbers-read : (n : ℕ) (t : List ℕ) → 10 * n ≤ length t → ofAll ofEntry (entriesIn n t) ≡ take (10 * n) t
+pub all-numbers-read : (n : ℕ) (t : List ℕ) → entryNumbers * n ≤ length t → ofAll ofEntry (entriesIn n t) ≡ take (entryNumbers * n) t
 unfolding ofAll entriesIn
 all-numbers-read zero t h = refl
 all-numbers-read (suc n) t h =
-    let e : 10 * suc n ≡ 10 + 10 * n = omega arith in
-    rw (e, take-add 10 (10 * n) t, numbers-read t (omega arith), all-numbers-read n (drop 10 t) (omega (arith, length-drop 10 t)))
+    let e : entryNumbers * suc n ≡ entryNumbers + entryNumbers * n = omega arith in
+    rw (e, take-add entryNumbers (entryNumbers * n) t, numbers-read t (omega arith), all-numbers-read n (drop entryNumbers t) (omega (arith, length-drop entryNumbers t)))
 
 -- ---- a buffer that was written to
 
@@ -107,11 +107,6 @@ module _ (t xs : List ℕ) where
   pub written-length : length xs ≤ length t → length (written t xs) ≡ length t
   unfolding written
   written-length h = rw (length-append, length-drop) (omega arith)
-
-  -- Its front is what was written, and past that it is as it was.
-  pub written-front : take (length xs) (written t xs) ≡ xs
-  unfolding written
-  written-front = take-append-seam xs (drop (length xs) t)
 
   pub written-past : drop (length xs) (written t xs) ≡ drop (length xs) t
   unfolding written
@@ -122,11 +117,11 @@ unfolding written
 entries-written es t = entries-read es (drop (length (ofAll ofEntry es)) t)
 
 -- Entries that the table already holds at its front are written over by themselves.
-pub prefix-kept : (xs ys : List Entry) (t : List ℕ) → entriesIn (length xs) t ≡ xs → 10 * length xs ≤ length t
-    → take (10 * length xs) (written t (ofAll ofEntry (xs ++ ys))) ≡ take (10 * length xs) t
+pub prefix-kept : (xs ys : List Entry) (t : List ℕ) → entriesIn (length xs) t ≡ xs → entryNumbers * length xs ≤ length t
+    → take (entryNumbers * length xs) (written t (ofAll ofEntry (xs ++ ys))) ≡ take (entryNumbers * length xs) t
 unfolding written
 prefix-kept xs ys t e h =
     rw (all-append ofEntry xs ys, append-assoc)
-    (take-at (ofAll ofEntry xs) _ (10 * length xs) (entries-numbers xs)
+    (take-at (ofAll ofEntry xs) _ (entryNumbers * length xs) (entries-numbers xs)
     ∙ sym (ap (ofAll ofEntry) e)
     ∙ all-numbers-read (length xs) t h)

@@ -6,4 +6,5 @@ pub mod edit;
 pub mod line;
 pub mod refusals;
 pub mod settings;
+pub mod sizes;
 pub mod tokens;

@@ -9,7 +9,7 @@ use borrow.Author.Tests.{eq-eqb, ne-eqb}
 use lib.Dec.{eqb}
 use lib.ListN.{getD}
 use Rattle.basis.specs.Choice.{pick}
-use Rattle.meaning.specs.Table.{entriesIn}
+use Rattle.meaning.specs.Table.{entryNumbers, entriesIn}
 use Rattle.meaning.specs.Height.{endAdds, addedBefore}
 use Rattle.meaning.specs.declared.settings.Settings.{Settings}
 use Rattle.table.specs.LinesFrom.{linesFrom, lines-all, lines-more, lines-end, ending-at}
@@ -38,7 +38,7 @@ added-start s t k =
 module _ (s : Settings) (t : List ℕ) (k i : ℕ) where
   pub added-more : i < k
       → addedBefore s (k - i) (linesFrom t k i)
-      ≡ endAdds s (getD t (10 * i + 3) 0) + addedBefore s (k - (i + 1)) (linesFrom t k (i + 1))
+      ≡ endAdds s (getD t (entryNumbers * i + 3) 0) + addedBefore s (k - (i + 1)) (linesFrom t k (i + 1))
   unfolding addedBefore
   added-more h =
       let e : k - i ≡ suc (k - (i + 1)) = omega arith in
@@ -54,23 +54,22 @@ module _ (s : Settings) (n lines : ℕ) (t : List ℕ) where
 
   module _ (h : 2 ≤ lines) where
     abbrev at : ℕ
-    at = 10 * lines - 20
+    at = entryNumbers * (lines - 2)
 
-    two : notCounted s n (entriesIn lines t) ≡ pick (eqb (getD t (at + 3) 0) 3 && eqb (getD t (at + 10) 0) n) (s .spacing .0) 0
+    two : notCounted s n (entriesIn lines t) ≡ pick (eqb (getD t (at + 3) 0) 3 && eqb (getD t (at + entryNumbers) 0) n) (s .spacing .0) 0
     two =
         let e : lines ≡ suc (suc (lines - 2)) = omega arith in
-        let f : 10 * (lines - 2) ≡ at = omega arith in
-        ap (λ (l : ℕ). notCounted s n (entriesIn l t)) e ∙ rw f at (not-counted-two s n (lines - 2) t)
+        ap (λ (l : ℕ). notCounted s n (entriesIn l t)) e ∙ not-counted-two s n (lines - 2) t
 
     pub left-ending : (getD t (at + 3) 0 ≡ 3 → ⊥) → 0 ≡ notCounted s n (entriesIn lines t)
     unfolding pick
     left-ending d = sym (two ∙ rw (ne-eqb _ _ d))
 
     module _ (e : getD t (at + 3) 0 ≡ 3) where
-      pub left-start : (getD t (at + 10) 0 ≡ n → ⊥) → 0 ≡ notCounted s n (entriesIn lines t)
+      pub left-start : (getD t (at + entryNumbers) 0 ≡ n → ⊥) → 0 ≡ notCounted s n (entriesIn lines t)
       unfolding pick
       left-start d = sym (two ∙ rw (eq-eqb _ _ e, ne-eqb _ _ d))
 
-      pub left-out : getD t (at + 10) 0 ≡ n → s .spacing .0 ≡ notCounted s n (entriesIn lines t)
+      pub left-out : getD t (at + entryNumbers) 0 ≡ n → s .spacing .0 ≡ notCounted s n (entriesIn lines t)
       unfolding pick
       left-out f = sym (two ∙ rw (eq-eqb _ _ e, eq-eqb _ _ f))

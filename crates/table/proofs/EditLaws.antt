@@ -11,6 +11,7 @@ use Rattle.meaning.specs.Edit.{unaffected}
 use Rattle.meaning.specs.declared.edit.Edit.{Edit}
 use Rattle.meaning.specs.declared.refusals.Refusal.the-variants.{TextTooLong, BadEdit}
 use Rattle.meaning.specs.declared.refusals.Checked.the-variants.{Good, Refused}
+use Rattle.meaning.specs.Table.{entryNumbers}
 use Rattle.table.specs.LinesFrom.{linesFrom, lines-more, lines-end, reach-at}
 use Rattle.table.specs.EditAlone.{checkPlace}
 
@@ -39,12 +40,12 @@ module _ (n : ℕ) (ed : Edit) where
         whole-fits m = rw (le-leb _ _ h, le-leb _ _ p, le-ltb _ _ (rw q at m))
 
 module _ (t : List ℕ) (lines k a : ℕ) where
-  pub search-past : k < lines → getD t (10 * k + 9) 0 ≤ a
+  pub search-past : k < lines → getD t (entryNumbers * k + 9) 0 ≤ a
       → length (unaffected a (linesFrom t lines k)) ≡ suc (length (unaffected a (linesFrom t lines (k + 1))))
   unfolding unaffected pick
   search-past h r = rw (lines-more t lines k h, reach-at t k, le-leb _ _ r)
 
-  pub search-met : k < lines → a < getD t (10 * k + 9) 0 → length (unaffected a (linesFrom t lines k)) ≡ 0
+  pub search-met : k < lines → a < getD t (entryNumbers * k + 9) 0 → length (unaffected a (linesFrom t lines k)) ≡ 0
   unfolding unaffected pick
   search-met h r = rw (lines-more t lines k h, reach-at t k, lt-leb _ _ r)
 

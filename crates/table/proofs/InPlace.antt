@@ -6,14 +6,14 @@ use mathlib.Core.List.{List, [], _∷_}
 use native.Mathlib.Nat.{add-zero}
 use native.Mathlib.Omega.{arith}
 use borrow.Author.Tests.{eq-eqb, ne-eqb}
-use lib.ListN.{length, getD, set, drop}
+use lib.ListN.{length, getD, set}
 use lib.Seq.{set-getD, set-comm, getD-set-other}
 use Rattle.basis.specs.Choice.{pick}
-use Rattle.meaning.specs.Table.{ofEntry, entryIn}
+use Rattle.meaning.specs.Table.{entryNumbers, ofEntry}
 use Rattle.meaning.specs.Edit.{moved, movedRest, movedEntry}
 use Rattle.meaning.specs.declared.edit.Edit.{Edit}
 use Rattle.meaning.specs.declared.line.Entry.{Entry}
-use Rattle.table.specs.Numbers.{putNumbers, storedFrom, stored, stored-are}
+use Rattle.table.specs.Numbers.{putNumbers, storedFrom, stored-are}
 use Rattle.table.specs.Moving.{MovableEntry, Movable, lineMoved, line-movable}
 use Rattle.table.proofs.Reading.{entryFrom, entry-from}
 
@@ -36,7 +36,7 @@ module _ (t : List ℕ) (i : ℕ) where
       ∙ own-stored c (suc n) u xs (λ q p. h q (omega arith))
       ∙ ap (λ (m : ℕ). storedFrom u i m xs) e
 
-  module _ (room : i + 10 ≤ length t) (a b z : ℕ) where
+  module _ (room : i + entryNumbers ≤ length t) (a b z : ℕ) where
     -- The first two numbers of a line and its last.
     three-stored : set (set (set t i a) (i + 1) b) (i + 9) z ≡ putNumbers t i (a ∷ b ∷ own 2 7 (z ∷ []))
     three-stored =
@@ -46,16 +46,16 @@ module _ (t : List ℕ) (i : ℕ) where
 
 module _ (t : List ℕ) (k : ℕ) (ed : Edit) (m : Movable t k k 1 ed) where
   abbrev at : ℕ
-  at = 10 * k
+  at = entryNumbers * k
 
-  pub here-movable : MovableEntry ed (entryFrom t (10 * k))
-  here-movable = subst (MovableEntry ed) (sym (entry-from t (10 * k))) (line-movable t k k ed m)
+  pub here-movable : MovableEntry ed (entryFrom t (entryNumbers * k))
+  here-movable = subst (MovableEntry ed) (sym (entry-from t (entryNumbers * k))) (line-movable t k k ed m)
 
-  room : at + 10 ≤ length t
+  room : at + entryNumbers ≤ length t
   room = omega (arith, m .to-room)
 
   -- The two or three numbers that the code has stored.
-  module _ (start reach : ℕ) (s : start ≡ moved ed (getD t (10 * k) 0)) (r : reach ≡ moved ed (getD t (10 * k + 9) 0)) where
+  module _ (start reach : ℕ) (s : start ≡ moved ed (getD t (entryNumbers * k) 0)) (r : reach ≡ moved ed (getD t (entryNumbers * k + 9) 0)) where
     all-three : (end : ℕ) → end ≡ movedRest ed (entryFrom t at .rest) .end .0
         → set (set (set t at start) (at + 1) end) (at + 9) reach ≡ lineMoved t k k ed
     unfolding ofEntry movedEntry movedRest
@@ -64,14 +64,14 @@ module _ (t : List ℕ) (k : ℕ) (ed : Edit) (m : Movable t k k 1 ed) where
         ∙ (λ j. putNumbers t at (s j ∷ e j ∷ own t at 2 7 (r j ∷ [])))
         ∙ ap (λ (x : Entry). putNumbers t at (ofEntry (movedEntry ed x))) (entry-from t at)
 
-    pub moved-two : getD t (10 * k + 1) 0 ≡ 0 → set (set t (10 * k) start) (10 * k + 9) reach ≡ lineMoved t k k ed
+    pub moved-two : getD t (entryNumbers * k + 1) 0 ≡ 0 → set (set t (entryNumbers * k) start) (entryNumbers * k + 9) reach ≡ lineMoved t k k ed
     unfolding movedRest pick
     moved-two z =
         let same = own-number t at (set t at start) (at + 1) (getD-set-other t at (at + 1) start 0 (λ e. omega arith)) in
         ap (λ (u : List ℕ). set u (at + 9) reach) (sym same) ∙ all-three (getD t (at + 1) 0) (rw (eq-eqb _ _ z) z)
 
-    pub moved-three : (getD t (10 * k + 1) 0 ≡ 0 → ⊥) → (end : ℕ) → end ≡ moved ed (getD t (10 * k + 1) 0)
-        → set (set (set t (10 * k) start) (10 * k + 9) reach) (10 * k + 1) end ≡ lineMoved t k k ed
+    pub moved-three : (getD t (entryNumbers * k + 1) 0 ≡ 0 → ⊥) → (end : ℕ) → end ≡ moved ed (getD t (entryNumbers * k + 1) 0)
+        → set (set (set t (entryNumbers * k) start) (entryNumbers * k + 9) reach) (entryNumbers * k + 1) end ≡ lineMoved t k k ed
     unfolding movedRest pick
     moved-three d end e =
         set-comm (set t at start) (at + 9) (at + 1) reach end (λ q. omega arith) ∙ all-three end (rw (ne-eqb _ _ d) e)

@@ -11,7 +11,7 @@ use lib.Dec.{eqb}
 use lib.ListN.{length, getD, drop}
 use Rattle.basis.specs.Choice.{pick-true, pick-false}
 use Rattle.basis.specs.Order.{by-eq, within-is, within-not}
-use Rattle.meaning.specs.Table.{capacityOf, entryIn, entriesIn}
+use Rattle.meaning.specs.Table.{entryNumbers, capacityOf, entryIn, entriesIn}
 use Rattle.meaning.specs.WellFormed.{lastReach, textLength, Before, nothing, line, entryGood, checkLines, checkEntries, checkTable}
 use Rattle.meaning.specs.declared.line.Entry.{Entry}
 use Rattle.meaning.specs.declared.refusals.Refusal.the-variants.{BadLine}
@@ -30,7 +30,7 @@ module _ (t : List ℕ) (lines k : ℕ) where
   unfolding checkLines
   lines-done n b h = rw (lines-end t lines k h)
 
-  module _ (h : k < lines) (e : Entry) (q : e ≡ entryIn (drop (10 * k) t)) (n : ℕ) (b : Before) where
+  module _ (h : k < lines) (e : Entry) (q : e ≡ entryIn (drop (entryNumbers * k) t)) (n : ℕ) (b : Before) where
     abbrev rest : List Entry
     rest = linesFrom t lines (k + 1)
 
@@ -56,10 +56,10 @@ pub reach-none : (t : List ℕ) (lines : ℕ) → lines ≡ 0 → 0 ≡ lastReac
 unfolding lastReach entriesIn
 reach-none t lines e = rw e
 
-pub reach-last : (t : List ℕ) (lines : ℕ) → (lines ≡ 0 → ⊥) → getD t (10 * lines - 1) 0 ≡ lastReach (entriesIn lines t)
+pub reach-last : (t : List ℕ) (lines : ℕ) → (lines ≡ 0 → ⊥) → getD t (entryNumbers * (lines - 1) + 9) 0 ≡ lastReach (entriesIn lines t)
 reach-last t zero d = absurd (d refl)
 reach-last t (suc m) d =
-    let e : 10 * suc m - 1 ≡ 10 * m + 9 = omega arith in
+    let e : suc m - 1 ≡ m = omega arith in
     rw e (sym (last-reach m t))
 
 pub text-is : (es : List Entry) (r : ℕ) → r ≡ lastReach es → r - 1 ≡ textLength es
@@ -67,11 +67,11 @@ unfolding textLength
 text-is es r q = ap (λ (n : ℕ). n - 1) q
 
 module _ (t : List ℕ) (lines : ℕ) where
-  pub few : length t / 10 < lines → Refused (BadLine 0) ≡ checkTable lines t
+  pub few : length t / entryNumbers < lines → Refused (BadLine 0) ≡ checkTable lines t
   unfolding checkTable capacityOf
   few h = sym (pick-false _ _ _ (lt-leb _ _ h))
 
-  module _ (h : lines ≤ length t / 10) where
+  module _ (h : lines ≤ length t / entryNumbers) where
     by-entries : checkTable lines t ≡ checkEntries (entriesIn lines t)
     unfolding checkTable capacityOf
     by-entries = pick-true _ _ _ (le-leb _ _ h)

@@ -7,6 +7,7 @@ use native.Mathlib.Nat.{sub-zero, add-zero}
 use native.Mathlib.Omega.{arith}
 use lib.ListN.{length}
 use Rattle.meaning.specs.declared.edit.Edit.{Edit}
+use Rattle.meaning.specs.Table.{entryNumbers}
 use Rattle.table.specs.Moving.{linesMoved, lineMoved, Movable, line-length, first-movable, rest-movable, first-moved, last-movable, before-movable, last-moved, none-moved}
 
 -- ---- toward the front
@@ -42,7 +43,7 @@ module _ (t : List ℕ) (from to count : ℕ) (ed : Edit) where
 
     pub forward-next : (v : List ℕ) → to ≤ from → v ≡ lineMoved u (from + i) (to + i) ed → Forward t from to count ed v (i + 1)
     forward-next v o e =
-        let room : 10 * (to + i) + 10 ≤ length u = omega (arith, here .to-room) in
+        let room : entryNumbers * (to + i) + entryNumbers ≤ length u = omega (arith, here .to-room) in
         let w = lineMoved u (from + i) (to + i) ed in
         let f : from + i + 1 ≡ from + (i + 1) = omega arith in
         let g : to + i + 1 ≡ to + (i + 1) = omega arith in
@@ -93,7 +94,7 @@ module _ (t : List ℕ) (from to count : ℕ) (ed : Edit) where
     pub back-next : (v : List ℕ) → from ≤ to → v ≡ lineMoved u (from + (k - 1)) (to + (k - 1)) ed
         → Back t from to count ed v (k - 1)
     back-next v o e =
-        let room : 10 * (to + (k - 1)) + 10 ≤ length u = omega (arith, whole .to-room) in
+        let room : entryNumbers * (to + (k - 1)) + entryNumbers ≤ length u = omega (arith, whole .to-room) in
         record {
           left = subst (λ (x : List ℕ). Movable x from to (k - 1) ed) (sym e) (before-movable u from to (k - 1) ed o room whole);
           same =

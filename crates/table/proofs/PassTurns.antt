@@ -2,14 +2,14 @@
 -- Assumes nothing.
 use Prim.Native.Nat.{ℕ, suc, _+_, _-_, _*_, _/_, _≤_, _<_}
 use mathlib.Core.Path.{_≡_, refl, sym, ap, subst, _∙_}
-use mathlib.Core.Bool.{Bool, true, false, _&&_, _||_}
+use mathlib.Core.Bool.{Bool, true, false, _&&_}
 use mathlib.Core.List.{List}
 use native.Mathlib.Omega.{arith}
 use borrow.Author.Tests.{lt-ltb, le-ltb, le-leb, ne-eqb, leb-true}
 use lib.Dec.{leb, eqb}
 use lib.ListN.{length, getD, drop}
 use Rattle.basis.specs.Choice.{and-true}
-use Rattle.meaning.specs.Table.{entryIn, entriesIn}
+use Rattle.meaning.specs.Table.{entryNumbers, entryIn, entriesIn}
 use Rattle.meaning.specs.WellFormed.{Before, nothing, line, startGood, noRest, restGood, checkLines}
 use Rattle.meaning.specs.Edit.{unaffected}
 use Rattle.meaning.specs.declared.line.Entry.{Entry}
@@ -50,8 +50,8 @@ module _ (n reached start end count : ℕ) where
 -- ---- a line
 
 module _ (t : List ℕ) (at n most : ℕ) where
-  pub all-pass : most ≤ n + 1 → startFits n (getD t (at - 10) 0) (getD t (at - 1) 0) (getD t at 0) ≡ true
-      → restStands n (getD t (at - 1) 0) (getD t at 0) (getD t (at + 1) 0) (getD t (at + 2) 0) ≡ true
+  pub all-pass : most ≤ n + 1 → startFits n (getD t (at - entryNumbers) 0) (getD t (at - entryNumbers + 9) 0) (getD t at 0) ≡ true
+      → restStands n (getD t (at - entryNumbers + 9) 0) (getD t at 0) (getD t (at + 1) 0) (getD t (at + 2) 0) ≡ true
       → endingAt false (getD t (at + 3) 0) && leb (getD t (at + 9) 0) most ≡ true
       → Passes t at n most
   unfolding lineGood startGood restGood noRest startFits restStands
@@ -66,17 +66,16 @@ module _ (t : List ℕ) (at n most : ℕ) where
 
 module _ (t : List ℕ) (lines n k : ℕ) where
   -- The line before line k + 1 is line k.
-  before-next : (e : Entry) → e ≡ entryIn (drop (10 * k) t) → line (e .start .0) (e .reach .0) ≡ before t (10 * (k + 1))
+  before-next : (e : Entry) → e ≡ entryIn (drop (entryNumbers * k) t) → line (e .start .0) (e .reach .0) ≡ before t (entryNumbers * (k + 1))
   before-next e q =
-      let p : 10 * (k + 1) - 10 ≡ 10 * k = omega arith in
-      let r : 10 * (k + 1) - 1 ≡ 10 * k + 9 = omega arith in
-      rw (q, p, r, start-at t k, reach-at t k)
+      let p : entryNumbers * (k + 1) - entryNumbers ≡ entryNumbers * k = omega arith in
+      rw (q, p, start-at t k, reach-at t k)
 
-  pub line-on : k < lines → (e : Entry) → e ≡ entryIn (drop (10 * k) t)
-      → lineGood n (before t (10 * k)) e (eqb (k + 1) lines) ≡ true
+  pub line-on : k < lines → (e : Entry) → e ≡ entryIn (drop (entryNumbers * k) t)
+      → lineGood n (before t (entryNumbers * k)) e (eqb (k + 1) lines) ≡ true
       → checkFrom t lines n k ≡ checkFrom t lines n (k + 1)
   line-on h e q g =
-      line-passed t lines k h e q n (before t (10 * k)) g
+      line-passed t lines k h e q n (before t (entryNumbers * k)) g
       ∙ ap (λ (b : Before). checkLines n (k + 1) b (linesFrom t lines (k + 1))) (before-next e q)
 
 -- The first line, which has none before it.
@@ -94,11 +93,11 @@ module _ (t : List ℕ) (lines n most j : ℕ) where
   pub pass-none : j ≤ lines → Passed t lines n most j j
   pass-none h = record { forward = omega arith; inside = h; check = refl; search = λ a l. refl }
 
-  pass-one : (k : ℕ) → k + 1 < lines → Passes t (10 * k) n most → Passed t lines n most j k → Passed t lines n most j (k + 1)
+  pass-one : (k : ℕ) → k + 1 < lines → Passes t (entryNumbers * k) n most → Passed t lines n most j k → Passed t lines n most j (k + 1)
   pass-one k h p c =
-      let e = entryIn (drop (10 * k) t) in
+      let e = entryIn (drop (entryNumbers * k) t) in
       let test : eqb (k + 1) lines ≡ false = ne-eqb (k + 1) lines (λ q. omega arith) in
-      let good = ap (lineGood n (before t (10 * k)) e) test ∙ p .good in
+      let good = ap (lineGood n (before t (entryNumbers * k)) e) test ∙ p .good in
       record {
         forward = omega (arith, c .forward);
         inside = omega arith;
@@ -107,12 +106,12 @@ module _ (t : List ℕ) (lines n most j : ℕ) where
       }
 
   -- The loop goes by the number at which a line stands.
-  pub pass-next : (at : ℕ) → at ≡ 10 * (at / 10) → at + 10 < 10 * lines → Passes t at n most → Passed t lines n most j (at / 10)
-      → Passed t lines n most j ((at + 10) / 10)
+  pub pass-next : (at : ℕ) → at ≡ entryNumbers * (at / entryNumbers) → at + entryNumbers < entryNumbers * lines → Passes t at n most → Passed t lines n most j (at / entryNumbers)
+      → Passed t lines n most j ((at + entryNumbers) / entryNumbers)
   pass-next at q h p c =
-      let e : at / 10 + 1 ≡ (at + 10) / 10 = omega arith in
+      let e : at / entryNumbers + 1 ≡ (at + entryNumbers) / entryNumbers = omega arith in
       subst (Passed t lines n most j) e
-      (pass-one (at / 10) (omega arith) (subst (λ (x : ℕ). Passes t x n most) q p) c)
+      (pass-one (at / entryNumbers) (omega arith) (subst (λ (x : ℕ). Passes t x n most) q p) c)
 
 -- ---- the search, when the lines behind the first have passed up to line j
 

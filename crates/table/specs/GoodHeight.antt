@@ -7,7 +7,7 @@ use native.Mathlib.Omega.{arith}
 use borrow.Author.Tests.{lt-ltb, le-ltb}
 use lib.ListN.{length}
 use Rattle.basis.specs.Choice.{pick}
-use Rattle.meaning.specs.Table.{entriesIn}
+use Rattle.meaning.specs.Table.{entryNumbers, entriesIn}
 use Rattle.meaning.specs.Checks.{firstOf, checkSettings}
 use Rattle.meaning.specs.WellFormed.{textLength, checkTable}
 use Rattle.meaning.specs.Height.{heightFrom, heightOf, addedBefore, yOf}
@@ -65,7 +65,7 @@ module _ (s : Settings) (t : List ℕ) (lines : ℕ) where
     height-measures = measures s (height-settings g)
 
     -- Of k lines: the table holds them, there are few, and their ends add little.
-    pub few-held : (k : ℕ) → k ≤ lines → Measures s × (k ≤ 65536) × (10 * k ≤ length t)
+    pub few-held : (k : ℕ) → k ≤ lines → Measures s × (k ≤ 65536) × (entryNumbers * k ≤ length t)
     few-held k h =
         (height-measures, omega (arith, table-count lines t height-table), omega (arith, table-room lines t height-table))
 

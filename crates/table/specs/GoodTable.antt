@@ -10,7 +10,7 @@ use lib.Dec.{leb, ltb}
 use lib.ListN.{length}
 use Rattle.basis.specs.Choice.{pick, and-true}
 use Rattle.basis.specs.Order.{within, within-true}
-use Rattle.meaning.specs.Table.{capacityOf, entriesIn}
+use Rattle.meaning.specs.Table.{entryNumbers, capacityOf, entriesIn}
 use Rattle.meaning.specs.WellFormed.{lastReach, textLength, Before, nothing, line, startGood, restGood, endingGood, entryGood, checkLines, checkEntries, checkTable}
 use Rattle.meaning.specs.declared.line.Entry.{Entry}
 use Rattle.meaning.specs.declared.refusals.Refusal.{Refusal}
@@ -93,17 +93,17 @@ module _ (lines : ℕ) (t : List ℕ) (h : checkTable lines t ≡ Good) where
   abbrev old : List Entry
   old = entriesIn lines t
 
-  whole : (leb lines (capacityOf 10 t) ≡ true) × (checkEntries old ≡ Good)
+  whole : (leb lines (capacityOf entryNumbers t) ≡ true) × (checkEntries old ≡ Good)
   unfolding checkTable
-  whole = good-both (leb lines (capacityOf 10 t)) (checkEntries old) (BadLine 0) h
+  whole = good-both (leb lines (capacityOf entryNumbers t)) (checkEntries old) (BadLine 0) h
 
   reached : (within 1 65536 (lastReach old) ≡ true) × (checkLines (textLength old) 0 nothing old ≡ Good)
   unfolding checkEntries
   reached = good-both (within 1 65536 (lastReach old)) (checkLines (textLength old) 0 nothing old) (BadLine 0) (whole .1)
 
-  pub table-room : 10 * lines ≤ length t
+  pub table-room : entryNumbers * lines ≤ length t
   unfolding capacityOf
-  table-room = omega (arith, leb-true lines (length t / 10) (whole .0))
+  table-room = omega (arith, leb-true lines (length t / entryNumbers) (whole .0))
 
   pub table-reach : (1 ≤ lastReach old) × (lastReach old ≤ 65536)
   table-reach = within-true 1 65536 (lastReach old) (reached .0)

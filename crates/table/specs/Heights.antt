@@ -11,7 +11,7 @@ use lib.IntN.{ℤ}
 use lib.ListN.{length, getD, drop}
 use lib.Seq.{getD-drop}
 use Rattle.basis.specs.Choice.{pick, pick-cases, by-test, and-true}
-use Rattle.meaning.specs.Table.{entryIn, entriesIn}
+use Rattle.meaning.specs.Table.{entryNumbers, entryIn, entriesIn}
 use Rattle.meaning.specs.Height.{endAdds, heightAdds, heightFrom, addedBefore, showsAt}
 use Rattle.meaning.specs.declared.settings.Settings.{Settings}
 use Rattle.meaning.specs.declared.line.Entry.{Entry}
@@ -57,7 +57,7 @@ module _ (s : Settings) where
   added-alone zero zero t h = refl
   added-alone zero (suc m) t h = refl
   added-alone (suc k) zero t h = absurd (omega arith)
-  added-alone (suc k) (suc m) t h = omega (arith, added-alone k m (drop 10 t) (omega arith))
+  added-alone (suc k) (suc m) t h = omega (arith, added-alone k m (drop entryNumbers t) (omega arith))
 
   module _ (m : Measures s) where
     pub end-small : (ending : ℕ) → endAdds s ending ≤ 8192
@@ -81,10 +81,10 @@ not-counted-few s n (suc (suc m)) t h = absurd (omega arith)
 
 pub not-counted-two : (s : Settings) (n m : ℕ) (t : List ℕ)
     → notCounted s n (entriesIn (suc (suc m)) t)
-    ≡ pick (eqb (getD t (10 * m + 3) 0) 3 && eqb (getD t (10 * m + 10) 0) n) (s .spacing .0) 0
+    ≡ pick (eqb (getD t (entryNumbers * m + 3) 0) 3 && eqb (getD t (entryNumbers * m + entryNumbers) 0) n) (s .spacing .0) 0
 unfolding notCounted entriesIn entryIn
-not-counted-two s n zero t = rw (getD-drop 10 t 0 0)
+not-counted-two s n zero t = rw (getD-drop entryNumbers t 0 0)
 not-counted-two s n (suc m) t =
-    let e : 10 + (10 * m + 3) ≡ 10 * suc m + 3 = omega arith in
-    let f : 10 + (10 * m + 10) ≡ 10 * suc m + 10 = omega arith in
-    rw (getD-drop 10 t (10 * m + 3) 0, getD-drop 10 t (10 * m + 10) 0, e, f) at (not-counted-two s n m (drop 10 t))
+    let e : entryNumbers + (entryNumbers * m + 3) ≡ entryNumbers * suc m + 3 = omega arith in
+    let f : entryNumbers + (entryNumbers * m + entryNumbers) ≡ entryNumbers * suc m + entryNumbers = omega arith in
+    rw (getD-drop entryNumbers t (entryNumbers * m + 3) 0, getD-drop entryNumbers t (entryNumbers * m + entryNumbers) 0, e, f) at (not-counted-two s n m (drop entryNumbers t))

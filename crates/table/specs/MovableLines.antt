@@ -11,7 +11,7 @@ use lib.Dec.{leb, ltb, eqb}
 use lib.ListN.{length, drop}
 use lib.Seq.{drop-nil, drop-drop}
 use Rattle.basis.specs.Choice.{and-true, by-either}
-use Rattle.meaning.specs.Table.{entryIn, entriesIn}
+use Rattle.meaning.specs.Table.{entryNumbers, entryIn, entriesIn}
 use Rattle.meaning.specs.WellFormed.{lastReach, textLength, Before, nothing, line, startGood, noRest, restGood, checkLines, checkTable}
 use Rattle.meaning.specs.declared.edit.Edit.{Edit}
 use Rattle.meaning.specs.declared.line.Entry.{Entry}
@@ -21,7 +21,7 @@ use Rattle.table.specs.GoodTable.{good-more, good-start, good-rest, good
 use Rattle.table.specs.Moving.{MovableEntry, AllMovable}
 
 -- The lines of a table from line j on.
-pub entries-from : (j n : ℕ) (t : List ℕ) → drop j (entriesIn n t) ≡ entriesIn (n - j) (drop (10 * j) t)
+pub entries-from : (j n : ℕ) (t : List ℕ) → drop j (entriesIn n t) ≡ entriesIn (n - j) (drop (entryNumbers * j) t)
 unfolding entriesIn
 entries-from zero n t = ap (λ (k : ℕ). entriesIn k t) (sym (sub-zero n))
 entries-from (suc j) zero t =
@@ -29,8 +29,8 @@ entries-from (suc j) zero t =
     rw e
 entries-from (suc j) (suc n) t =
     let e : suc n - suc j ≡ n - j = omega arith in
-    let f : 10 + 10 * j ≡ 10 * suc j = omega arith in
-    rw (e, ← f) (entries-from j n (drop 10 t) ∙ ap (entriesIn (n - j)) (drop-drop (10 * j) 10 t))
+    let f : entryNumbers + entryNumbers * j ≡ entryNumbers * suc j = omega arith in
+    rw (e, ← f) (entries-from j n (drop entryNumbers t) ∙ ap (entriesIn (n - j)) (drop-drop (entryNumbers * j) entryNumbers t))
 
 -- ---- one line
 
@@ -98,8 +98,8 @@ module _ (n : ℕ) (ed : Edit) (short : n ≤ 65535) where
 -- ---- of a table
 
 module _ (t : List ℕ) (lines j : ℕ) (ed : Edit) where
-  pub table-movable : checkTable lines t ≡ Good → j < lines → ed .to .0 ≤ entryIn (drop (10 * j) t) .start .0
-      → AllMovable ed (entriesIn (lines - j) (drop (10 * j) t))
+  pub table-movable : checkTable lines t ≡ Good → j < lines → ed .to .0 ≤ entryIn (drop (entryNumbers * j) t) .start .0
+      → AllMovable ed (entriesIn (lines - j) (drop (entryNumbers * j) t))
   unfolding textLength linesFrom
   table-movable h k s =
       let old = entriesIn lines t in

@@ -11,7 +11,7 @@ use lib.Dec.{leb}
 use lib.ListN.{length, take, drop, set, length-append, length-take, length-drop}
 use lib.Seq.{sets, sets-eq, take-at, drop-drop, drop-append-add}
 use Rattle.basis.specs.Choice.{pick, pick-true, pick-false}
-use Rattle.meaning.specs.Table.{ofEntry, ofEvent, ofAll, written}
+use Rattle.meaning.specs.Table.{entryNumbers, eventNumbers, ofEntry, ofEvent, ofAll, written}
 use Rattle.meaning.specs.declared.line.Entry.{Entry}
 use Rattle.meaning.specs.declared.line.Event.{Event}
 use Rattle.laws.specs.TableLaws.{entry-numbers, event-numbers, events-numbers, all-numbers, all-append, written-length}
@@ -77,12 +77,12 @@ module _ {ℓ} {X : Type ℓ} (f : X → List ℕ) (n : ℕ) (width : (x : X) �
 
 -- Ten numbers a line, six an event.
 pub put-next-entry : (t : List ℕ) (es : List Entry) (e : Entry)
-    → putNumbers (written t (ofAll ofEntry es)) (10 * length es) (ofEntry e) ≡ written t (ofAll ofEntry (es ++ (e ∷ [])))
-put-next-entry = put-next ofEntry 10 entry-numbers
+    → putNumbers (written t (ofAll ofEntry es)) (entryNumbers * length es) (ofEntry e) ≡ written t (ofAll ofEntry (es ++ (e ∷ [])))
+put-next-entry = put-next ofEntry entryNumbers entry-numbers
 
 pub put-next-event : (t : List ℕ) (es : List Event) (e : Event)
-    → putNumbers (written t (ofAll ofEvent es)) (6 * length es) (ofEvent e) ≡ written t (ofAll ofEvent (es ++ (e ∷ [])))
-put-next-event = put-next ofEvent 6 event-numbers
+    → putNumbers (written t (ofAll ofEvent es)) (eventNumbers * length es) (ofEvent e) ≡ written t (ofAll ofEvent (es ++ (e ∷ [])))
+put-next-event = put-next ofEvent eventNumbers event-numbers
 
 -- ---- as long as there is room
 
@@ -98,17 +98,17 @@ module _ (n : ℕ) (t : List ℕ) (k : ℕ) (xs : List ℕ) where
 -- All events, from number k on.
 unfoldable pub putEvents : List ℕ → (k : ℕ) → List Event → List ℕ
 putEvents t k [] = t
-putEvents t k (e ∷ es) = putEvents (putIfRoom 6 t k (ofEvent e)) (k + 1) es
+putEvents t k (e ∷ es) = putEvents (putIfRoom eventNumbers t k (ofEvent e)) (k + 1) es
 
 -- One more event behind those that were written.
-pub put-event-next : (t : List ℕ) (es : List Event) (e : Event) → 6 * length es + 6 ≤ length t
-    → putIfRoom 6 (written t (ofAll ofEvent es)) (length es) (ofEvent e) ≡ written t (ofAll ofEvent (es ++ (e ∷ [])))
+pub put-event-next : (t : List ℕ) (es : List Event) (e : Event) → eventNumbers * length es + eventNumbers ≤ length t
+    → putIfRoom eventNumbers (written t (ofAll ofEvent es)) (length es) (ofEvent e) ≡ written t (ofAll ofEvent (es ++ (e ∷ [])))
 put-event-next t es e h =
-    room 6 (written t (ofAll ofEvent es)) (length es) (ofEvent e)
+    room eventNumbers (written t (ofAll ofEvent es)) (length es) (ofEvent e)
     (omega (arith, written-length t (ofAll ofEvent es) (omega (arith, events-numbers es)), events-numbers es))
     ∙ put-next-event t es e
 
-put-events-from : (t : List ℕ) (ds es : List Event) → 6 * (length ds + length es) ≤ length t
+put-events-from : (t : List ℕ) (ds es : List Event) → eventNumbers * (length ds + length es) ≤ length t
     → putEvents (written t (ofAll ofEvent ds)) (length ds) es ≡ written t (ofAll ofEvent (ds ++ es))
 unfolding putEvents
 put-events-from t ds [] h = rw (append-nil ds)
@@ -118,6 +118,6 @@ put-events-from t ds (e ∷ es) h =
     (put-events-from t (ds ++ (e ∷ [])) es (omega arith) ∙ rw append-assoc)
 
 -- Put one after the other, they are written.
-pub put-events : (t : List ℕ) (es : List Event) → 6 * length es ≤ length t → putEvents t 0 es ≡ written t (ofAll ofEvent es)
+pub put-events : (t : List ℕ) (es : List Event) → eventNumbers * length es ≤ length t → putEvents t 0 es ≡ written t (ofAll ofEvent es)
 unfolding ofAll written
 put-events t es h = put-events-from t [] es (omega arith)

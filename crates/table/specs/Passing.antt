@@ -6,7 +6,7 @@ use mathlib.Core.Bool.{Bool, true, false, _&&_, _||_}
 use mathlib.Core.List.{List}
 use lib.Dec.{leb, ltb, eqb}
 use lib.ListN.{length, getD, drop}
-use Rattle.meaning.specs.Table.{entryIn}
+use Rattle.meaning.specs.Table.{entryNumbers, entryIn}
 use Rattle.meaning.specs.WellFormed.{Before, line, checkLines}
 use Rattle.meaning.specs.Edit.{unaffected}
 use Rattle.meaning.specs.declared.refusals.Checked.{Checked}
@@ -24,7 +24,7 @@ restStands n reached start end count =
 
 -- The line before the one at a number of the table.
 abbrev pub before : List ℕ → (at : ℕ) → Before
-before t at = line (getD t (at - 10) 0) (getD t (at - 1) 0)
+before t at = line (getD t (at - entryNumbers) 0) (getD t (at - entryNumbers + 9) 0)
 
 -- The line at a number is good, not the last, and its reach at most this.
 pub record Passes (t : List ℕ) (at n most : ℕ) : Type 0 where
@@ -33,7 +33,7 @@ pub record Passes (t : List ℕ) (at n most : ℕ) : Type 0 where
 
 -- The check of the lines from line k on.
 abbrev pub checkFrom : List ℕ → (lines n k : ℕ) → Checked
-checkFrom t lines n k = checkLines n k (before t (10 * k)) (linesFrom t lines k)
+checkFrom t lines n k = checkLines n k (before t (entryNumbers * k)) (linesFrom t lines k)
 
 -- So do the lines from line j up to line k: the check goes on there, and so does the search for a reach above any a that is as high.
 pub record Passed (t : List ℕ) (lines n most j k : ℕ) : Type 0 where

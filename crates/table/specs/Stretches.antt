@@ -7,7 +7,7 @@ use native.Mathlib.Nat.{add-zero}
 use native.Mathlib.Omega.{arith}
 use lib.ListN.{length, take, drop, length-append, length-drop, take-append-drop}
 use lib.Seq.{length-take-le, take-append-le, take-take, take-at, drop-at, drop-drop, take-add}
-use Rattle.meaning.specs.Table.{entryIn, entriesIn}
+use Rattle.meaning.specs.Table.{entryNumbers, entryIn, entriesIn}
 use Rattle.laws.specs.TableLaws.{entries-length, entries-read, all-numbers-read}
 use Rattle.table.specs.Numbers.{putNumbers, put-length}
 
@@ -75,32 +75,32 @@ put-none t i = rw (append-nil (take i t), add-zero i) (take-append-drop i t)
 -- ---- lines read
 
 -- Lines are the same where their numbers are.
-pub entries-same : (n : ℕ) (t u : List ℕ) → 10 * n ≤ length t → take (10 * n) u ≡ take (10 * n) t → entriesIn n u ≡ entriesIn n t
+pub entries-same : (n : ℕ) (t u : List ℕ) → entryNumbers * n ≤ length t → take (entryNumbers * n) u ≡ take (entryNumbers * n) t → entriesIn n u ≡ entriesIn n t
 entries-same n t u h e =
     let es = entriesIn n t in
-    let past = drop (10 * n) u in
+    let past = drop (entryNumbers * n) u in
     ap (λ (k : ℕ). entriesIn k u) (sym (entries-length n t))
-    ∙ ap (entriesIn (length es)) (sym (take-append-drop (10 * n) u) ∙ ap (λ (l : List ℕ). l ++ past) (e ∙ sym (all-numbers-read n t h)))
+    ∙ ap (entriesIn (length es)) (sym (take-append-drop (entryNumbers * n) u) ∙ ap (λ (l : List ℕ). l ++ past) (e ∙ sym (all-numbers-read n t h)))
     ∙ entries-read es past
 
 drop-take : (m n : ℕ) (t : List ℕ) → m ≤ length t → drop m (take (m + n) t) ≡ take n (drop m t)
 drop-take m n t h = ap (drop m) (take-add m n t) ∙ drop-at (take m t) (take n (drop m t)) m (length-take-le m t h)
 
 -- Numbers put behind lines leave these as they were.
-pub entries-before : (n m i : ℕ) (t xs : List ℕ) → m + 10 * n ≤ i → i + length xs ≤ length t
+pub entries-before : (n m i : ℕ) (t xs : List ℕ) → m + entryNumbers * n ≤ i → i + length xs ≤ length t
     → entriesIn n (drop m (putNumbers t i xs)) ≡ entriesIn n (drop m t)
 entries-before n m i t xs h k =
     let u = putNumbers t i xs in
     entries-same n (drop m t) (drop m u) (omega (arith, length-drop m t))
-    (sym (drop-take m (10 * n) u (omega (arith, put-length t i xs k)))
-    ∙ ap (drop m) (put-before t i xs (omega arith) (m + 10 * n) h)
-    ∙ drop-take m (10 * n) t (omega arith))
+    (sym (drop-take m (entryNumbers * n) u (omega (arith, put-length t i xs k)))
+    ∙ ap (drop m) (put-before t i xs (omega arith) (m + entryNumbers * n) h)
+    ∙ drop-take m (entryNumbers * n) t (omega arith))
 
 -- One line more is read last.
-pub entries-last : (n : ℕ) (t : List ℕ) → entriesIn (suc n) t ≡ entriesIn n t ++ (entryIn (drop (10 * n) t) ∷ [])
+pub entries-last : (n : ℕ) (t : List ℕ) → entriesIn (suc n) t ≡ entriesIn n t ++ (entryIn (drop (entryNumbers * n) t) ∷ [])
 unfolding entriesIn
 entries-last zero t = refl
 entries-last (suc n) t =
-    let e : 10 + 10 * n ≡ 10 * suc n = omega arith in
-    ap (_∷_ (entryIn t)) (entries-last n (drop 10 t))
-    ∙ ap (λ (l : List ℕ). entryIn t ∷ entriesIn n (drop 10 t) ++ (entryIn l ∷ [])) (drop-drop (10 * n) 10 t ∙ ap (λ (k : ℕ). drop k t) e)
+    let e : entryNumbers + entryNumbers * n ≡ entryNumbers * suc n = omega arith in
+    ap (_∷_ (entryIn t)) (entries-last n (drop entryNumbers t))
+    ∙ ap (λ (l : List ℕ). entryIn t ∷ entriesIn n (drop entryNumbers t) ++ (entryIn l ∷ [])) (drop-drop (entryNumbers * n) entryNumbers t ∙ ap (λ (k : ℕ). drop k t) e)

@@ -1,3 +1,4 @@
+// The first line that an edit affects, with all that can be refused of the edit and the table alone.
 use crate::well_formed::look_over;
 use crate::well_formed::text_length;
 use meaning::answers::Affected;
@@ -5,6 +6,7 @@ use meaning::counts::Offset;
 use meaning::edit::Edit;
 use meaning::refusals::Checked;
 use meaning::refusals::Refusal;
+use meaning::sizes::TEXT_LIMIT;
 ghost use Prim.Native.Nat.{_+_, _-_, _≤_};
 ghost use mathlib.Core.Path.{_≡_};
 ghost use Rattle.meaning.specs.Calls.{affectedAnswer};
@@ -32,7 +34,7 @@ fn check_place(text: Offset, edit: Edit) -> Checked
         return Checked::Refused(Refusal::BadEdit);
     }
     let length = whole_length(text, edit);
-    if 65535 < length {
+    if (TEXT_LIMIT as u64) < length {
         return Checked::Refused(Refusal::TextTooLong(length));
     }
     Checked::Good

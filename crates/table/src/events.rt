@@ -1,8 +1,10 @@
+// The numbers of one event, written to a buffer.
 use meaning::line::Event;
 use meaning::line::EventKind;
+use meaning::sizes::EVENT_NUMBERS;
 ghost use Prim.Native.Nat.{_≤_};
 ghost use mathlib.Core.Path.{_≡_};
-ghost use Rattle.meaning.specs.Table.{eventNumber, ofEvent};
+ghost use Rattle.meaning.specs.Table.{eventNumbers, eventNumber, ofEvent};
 ghost use Rattle.table.specs.Numbers.{putIfRoom};
 
 fn event_number(kind: EventKind) -> u32
@@ -18,12 +20,12 @@ fn event_number(kind: EventKind) -> u32
 // Event k's six numbers, if the buffer holds them; else nothing.
 pub fn put_event(events: &mut [u32], k: usize, e: Event)
     requires { ⌜ k ≤ 1000000000 ⌝ }
-    ensures { λ _. ⌜ now (events .exit) ≡ putIfRoom 6 (now (events .entry)) k (ofEvent e) ⌝ }
+    ensures { λ _. ⌜ now (events .exit) ≡ putIfRoom eventNumbers (now (events .entry)) k (ofEvent e) ⌝ }
 {
     let kind = e.kind;
     let number = event_number(kind);
-    let at = 6 * k;
-    if events.len() < at + 6 {
+    let at = EVENT_NUMBERS * k;
+    if events.len() < at + EVENT_NUMBERS {
         return;
     }
     events[at] = number;

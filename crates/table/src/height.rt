@@ -1,3 +1,4 @@
+// Rule 11: the height of a text and the y of a line, from the table.
 use crate::spacing::added_before;
 use crate::spacing::not_counted;
 use crate::vertical::offset_of;

@@ -5,6 +5,9 @@ use meaning::counts::Offset;
 use meaning::edit::Edit;
 use meaning::line::Entry;
 use meaning::line::Rest;
+use meaning::sizes::ENTRY_NUMBERS;
+use meaning::sizes::REACH;
+use meaning::sizes::REST_END;
 ghost use Prim.Native.Nat.{_≤_, _<_};
 ghost use mathlib.Core.Path.{_≡_};
 ghost use Rattle.meaning.specs.Edit.{moved, movedRest, movedEntry};
@@ -63,16 +66,16 @@ fn move_here(table: &mut [u32], k: usize, edit: Edit)
     requires { ⌜ Movable (now table) k k 1 edit ⌝ }
     ensures { λ _. ⌜ now (table .exit) ≡ lineMoved (now (table .entry)) k k edit ⌝ }
 {
-    let at = 10 * k;
+    let at = ENTRY_NUMBERS * k;
     let start = table[at];
-    let end = table[at + 1];
-    let reach = table[at + 9];
+    let end = table[at + REST_END];
+    let reach = table[at + REACH];
     table[at] = moved_number(start, edit);
-    table[at + 9] = moved_number(reach, edit);
+    table[at + REACH] = moved_number(reach, edit);
     if end == 0 {
         return;
     }
-    table[at + 1] = moved_number(end, edit);
+    table[at + REST_END] = moved_number(end, edit);
 }
 
 // Line `from`, moved, written to line `to`.

@@ -1,7 +1,9 @@
+// Whether the numbers of one line are good behind those of the line before it.
 use meaning::counts::Offset;
 use meaning::line::Entry;
 ghost use Prim.Native.Nat.{_≤_};
 ghost use mathlib.Core.Path.{_≡_};
+ghost use Rattle.meaning.specs.Checks.{textLimit};
 ghost use Rattle.meaning.specs.WellFormed.{startGood, noRest, restGood};
 ghost use Rattle.table.specs.OneLine.{beforeOf, restWithin, endingAt, lineGood};
 
@@ -62,7 +64,7 @@ pub fn ending_good(last: bool, ending: u32) -> bool
 
 // One line of a text of so many bytes, given the line before it and whether it is the last.
 pub fn entry_good(length: Offset, prior: LineBefore, e: Entry, last: bool) -> bool
-    requires { ⌜ length .0 ≤ 65535 ⌝ }
+    requires { ⌜ length .0 ≤ textLimit ⌝ }
     ensures { λ r. ⌜ r ≡ lineGood (length .0) (beforeOf prior) e last ⌝ }
 {
     let start = start_good(length, prior, e);

@@ -1,3 +1,4 @@
+// Rule 11: where a text so high stands in its box, and whether a line shows.
 use meaning::answers::LineY;
 use meaning::settings::Settings;
 ghost use Prim.Native.Nat.{_≤_};

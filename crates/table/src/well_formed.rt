@@ -1,3 +1,4 @@
+// Refusal 5: whether a table is well formed, in one look that finds the first affected line too.
 use crate::entries::read_entry;
 use crate::one_line::LineBefore;
 use crate::one_line::entry_good;
@@ -7,28 +8,33 @@ use meaning::answers::Affected;
 use meaning::counts::Offset;
 use meaning::refusals::Checked;
 use meaning::refusals::Refusal;
+use meaning::sizes::ENTRY_NUMBERS;
+use meaning::sizes::REACH;
+use meaning::sizes::REACH_LIMIT;
 ghost use Prim.Native.Nat.{_*_, _≤_};
 ghost use mathlib.Core.Path.{_≡_};
 ghost use lib.ListN.{length};
-ghost use Rattle.meaning.specs.Table.{entriesIn};
+ghost use Rattle.meaning.specs.Checks.{textLimit};
+ghost use Rattle.meaning.specs.Table.{entryNumbers, entriesIn};
 ghost use Rattle.meaning.specs.WellFormed.{nothing, lastReach, textLength, checkLines, checkTable};
 ghost use Rattle.table.specs.Passing.{checkFrom};
 ghost use Rattle.table.specs.Looking.{lookedOver};
 
 // The reach of the last line, 0 if there is none.
 pub fn last_reach(table: &[u32], lines: usize) -> Offset
-    requires { ⌜ 10 * lines ≤ length (now table) ⌝ }
+    requires { ⌜ entryNumbers * lines ≤ length (now table) ⌝ }
     ensures { λ r. ⌜ r .0 ≡ lastReach (entriesIn lines (now (table .entry))) ⌝ }
 {
     if lines == 0 {
         return Offset(0);
     }
-    Offset(table[10 * lines - 1])
+    let last = ENTRY_NUMBERS * (lines - 1);
+    Offset(table[last + REACH])
 }
 
 // The length of the text, one less than that.
 pub fn text_length(table: &[u32], lines: usize) -> Offset
-    requires { ⌜ 10 * lines ≤ length (now table) ⌝ }
+    requires { ⌜ entryNumbers * lines ≤ length (now table) ⌝ }
     ensures { λ r. ⌜ r .0 ≡ textLength (entriesIn lines (now (table .entry))) ⌝ }
 {
     let reach = last_reach(table, lines);
@@ -40,15 +46,15 @@ pub fn text_length(table: &[u32], lines: usize) -> Offset
 
 // The first bad line from line j on, which is not the first line.
 fn check_on(table: &[u32], lines: usize, text: Offset, j: usize) -> Checked
-    requires { ⌜ (1 ≤ j) × (j ≤ lines) × (10 * lines ≤ length (now table)) × (text .0 ≤ 65535) ⌝ }
+    requires { ⌜ (1 ≤ j) × (j ≤ lines) × (entryNumbers * lines ≤ length (now table)) × (text .0 ≤ textLimit) ⌝ }
     ensures { λ r. ⌜ r ≡ checkFrom (now (table .entry)) lines (text .0) j ⌝ }
 {
     let mut k: usize = j;
     while k < lines {
         let e = read_entry(table, k);
-        let at = 10 * k;
-        let from = table[at - 10];
-        let reached = table[at - 1];
+        let before = ENTRY_NUMBERS * k - ENTRY_NUMBERS;
+        let from = table[before];
+        let reached = table[before + REACH];
         let prior = LineBefore::Line(Offset(from), Offset(reached));
         let next = k + 1;
         if !entry_good(text, prior, e, next == lines) {
@@ -70,7 +76,7 @@ fn smaller(a: u32, b: u32) -> u32
 
 // The lines behind the first: those with reach <= a are passed, then the others. What does not pass is looked at once more.
 fn look_behind(table: &[u32], lines: usize, text: Offset, a: Offset) -> Affected
-    requires { ⌜ (1 ≤ lines) × (10 * lines ≤ length (now table)) × (text .0 ≤ 65535) ⌝ }
+    requires { ⌜ (1 ≤ lines) × (entryNumbers * lines ≤ length (now table)) × (text .0 ≤ textLimit) ⌝ }
     ensures { λ r. ⌜ r ≡ lookedOver (a .0) (checkFrom (now (table .entry)) lines (text .0) 1) (entriesIn lines (now (table .entry))) ⌝ }
 {
     let most = text.0 + 1;
@@ -80,7 +86,7 @@ fn look_behind(table: &[u32], lines: usize, text: Offset, a: Offset) -> Affected
     if let Checked::Refused(r) = checked {
         return Affected::Refused(r);
     }
-    if a.0 < table[9] {
+    if a.0 < table[REACH] {
         return Affected::Line(0);
     }
     Affected::Line(affected_from(table, lines, low, a) as u64)
@@ -88,7 +94,7 @@ fn look_behind(table: &[u32], lines: usize, text: Offset, a: Offset) -> Affected
 
 // The lines of a text of so many bytes: the first bad one, or the first with reach > a.
 fn look_lines(table: &[u32], lines: usize, text: Offset, a: Offset) -> Affected
-    requires { ⌜ (1 ≤ lines) × (10 * lines ≤ length (now table)) × (text .0 ≤ 65535) ⌝ }
+    requires { ⌜ (1 ≤ lines) × (entryNumbers * lines ≤ length (now table)) × (text .0 ≤ textLimit) ⌝ }
     ensures { λ r. ⌜ r ≡ lookedOver (a .0) (checkLines (text .0) 0 nothing (entriesIn lines (now (table .entry)))) (entriesIn lines (now (table .entry))) ⌝ }
 {
     let e = read_entry(table, 0);
@@ -102,14 +108,14 @@ fn look_lines(table: &[u32], lines: usize, text: Offset, a: Offset) -> Affected
 pub fn look_over(table: &[u32], lines: usize, a: Offset) -> Affected
     ensures { λ r. ⌜ r ≡ lookedOver (a .0) (checkTable lines (now (table .entry))) (entriesIn lines (now (table .entry))) ⌝ }
 {
-    if table.len() / 10 < lines {
+    if table.len() / ENTRY_NUMBERS < lines {
         return Affected::Refused(Refusal::BadLine(0));
     }
     let reach = last_reach(table, lines);
     if reach.0 < 1 {
         return Affected::Refused(Refusal::BadLine(0));
     }
-    if 65536 < reach.0 {
+    if REACH_LIMIT < reach.0 {
         return Affected::Refused(Refusal::BadLine(0));
     }
     look_lines(table, lines, Offset(reach.0 - 1), a)

@@ -2,6 +2,7 @@
 -- Assumes nothing.
 use Prim.Native.Nat.{_*_}
 use borrow.Author.Needs.{needs}
+use Rattle.meaning.specs.Table.{entryNumbers}
 use Rattle.table.proofs.Reading.{entry-from}
 use Rattle.table.proofs.entries.read_entry.Statement.{statement}
 use Rattle.table.proofs.entries.read_entry.Tie as tie
@@ -99,7 +100,7 @@ shared-slice-read-t43 c = search needs
 returns : tie.Need-returns
 returns c =
     let s = c .before .before .before .before .before .before .before .before .before .before in
-    entry-from (s .args .table .now) (10 * s .args .k)
+    entry-from (s .args .table .now) (entryNumbers * s .args .k)
 
 pub read-entry-spec : {M : Type 1} → statement M
 read-entry-spec =

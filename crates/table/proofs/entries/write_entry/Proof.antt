@@ -4,7 +4,7 @@ use Prim.Native.Nat.{_*_}
 use native.Mathlib.Omega.{arith}
 use borrow.Author.Needs.{needs}
 use lib.ListN.{length-set}
-use Rattle.meaning.specs.Table.{ofEntry}
+use Rattle.meaning.specs.Table.{entryNumbers, ofEntry}
 use Rattle.table.specs.Numbers.{stored-are}
 use Rattle.table.proofs.entries.write_entry.Statement.{statement}
 use Rattle.table.proofs.entries.write_entry.Tie as tie
@@ -104,7 +104,7 @@ same-length c = simp length-set
 
 returns : tie.Need-returns
 unfolding ofEntry
-returns c = stored-are (ofEntry (c .args .e)) (c .args .table .now) (10 * c .args .k) (c .pre)
+returns c = stored-are (ofEntry (c .args .e)) (c .args .table .now) (entryNumbers * c .args .k) (c .pre)
 
 pub write-entry-spec : {M : Type 1} → statement M
 write-entry-spec =

@@ -4,7 +4,7 @@ use mathlib.Core.Path.{sym}
 use native.Mathlib.Omega.{arith}
 use borrow.Author.Needs.{needs}
 use lib.ListN.{length-set}
-use Rattle.meaning.specs.Table.{ofEvent}
+use Rattle.meaning.specs.Table.{eventNumbers, ofEvent}
 use Rattle.table.specs.Numbers.{no-room}
 use Rattle.table.proofs.Storing.{event-stored}
 use Rattle.table.proofs.events.put_event.Statement.{statement}
@@ -22,7 +22,7 @@ add-if1 c = search needs
 returns : tie.Need-returns
 returns c =
     let s = c .before .before .before in
-    sym (no-room 6 (s .args .events .now) (s .args .k) (ofEvent (s .args .e)) (c .if1 .taken))
+    sym (no-room eventNumbers (s .args .events .now) (s .args .k) (ofEvent (s .args .e)) (c .if1 .taken))
 
 mul-events : tie.Need-mul-events
 mul-events c = search needs

@@ -3,7 +3,7 @@
 use Prim.Native.Nat.{ℕ, _*_}
 use mathlib.Core.Path.{sym, subst, ap, _∙_}
 use borrow.Author.Needs.{needs}
-use Rattle.meaning.specs.Table.{ofEntry}
+use Rattle.meaning.specs.Table.{entryNumbers, ofEntry}
 use Rattle.meaning.specs.Edit.{movedEntry}
 use Rattle.meaning.specs.declared.line.Entry.{Entry}
 use Rattle.table.specs.Numbers.{putNumbers}
@@ -46,7 +46,7 @@ returns-2 c = let w = c .before .before in
     let m = w .before .before in
     let a = m .before .before .before .before .before .args in
     w .write-entry .ensures
-    ∙ ap (λ (e : Entry). putNumbers (a .table .now) (10 * a .to) (ofEntry e)) (m .moved-entry .ensures ∙ ap (movedEntry (a .edit)) (m .before .read-entry .ensures))
+    ∙ ap (λ (e : Entry). putNumbers (a .table .now) (entryNumbers * a .to) (ofEntry e)) (m .moved-entry .ensures ∙ ap (movedEntry (a .edit)) (m .before .read-entry .ensures))
 
 pub move-line-spec : {M : Type 1} → statement M
 move-line-spec =

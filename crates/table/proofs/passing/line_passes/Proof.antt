@@ -17,17 +17,17 @@ mul-start c = search needs
 shared-slice-read-start : tie.Need-shared-slice-read-start
 shared-slice-read-start c = search needs
 
-sub-reached : tie.Need-sub-reached
-sub-reached c = search needs
+sub-before : tie.Need-sub-before
+sub-before c = search needs
+
+add-reached : tie.Need-add-reached
+add-reached c = search needs
 
 mul-reached : tie.Need-mul-reached
 mul-reached c = search needs
 
 shared-slice-read-reached : tie.Need-shared-slice-read-reached
 shared-slice-read-reached c = search needs
-
-sub-from : tie.Need-sub-from
-sub-from c = search needs
 
 mul-from : tie.Need-mul-from
 mul-from c = search needs
@@ -104,10 +104,10 @@ line-passes-spec =
     (tie.spec
     mul-start
     shared-slice-read-start
-    sub-reached
+    sub-before
+    add-reached
     mul-reached
     shared-slice-read-reached
-    sub-from
     mul-from
     shared-slice-read-from
     start-fits-requires

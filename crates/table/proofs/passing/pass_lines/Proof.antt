@@ -5,13 +5,14 @@ use mathlib.Core.Path.{_≡_, subst}
 use native.Mathlib.Omega.{arith}
 use borrow.Author.Needs.{needs}
 use borrow.Author.Tests.{not-false}
+use Rattle.meaning.specs.Table.{entryNumbers}
 use Rattle.table.specs.Passing.{Passed}
 use Rattle.table.proofs.PassTurns.{pass-none, pass-next}
 use Rattle.table.proofs.passing.pass_lines.Statement.{statement}
 use Rattle.table.proofs.passing.pass_lines.Tie as tie
 
 abbrev Inv-loop : tie.InvT-loop
-Inv-loop table lines j text most last at₀ at = Passed table lines text most j (at / 10) × (at ≡ 10 * (at / 10))
+Inv-loop table lines j text most last at₀ at = Passed table lines text most j (at / entryNumbers) × (at ≡ entryNumbers * (at / entryNumbers))
 
 abbrev μ-loop : tie.MeasureT-loop
 μ-loop table lines j text most last at₀ at = last - at
@@ -28,7 +29,7 @@ mul-at c = search needs
 loop-holds : tie.Need-loop-holds Inv-loop μ-loop
 loop-holds c =
     let a = c .before .args in
-    let e : a .j ≡ 10 * a .j / 10 = omega arith in
+    let e : a .j ≡ entryNumbers * a .j / entryNumbers = omega arith in
     (subst (Passed (a .table .now) (a .lines) (a .text) (a .most) (a .j)) e (pass-none _ _ _ _ _ (omega arith)), omega arith)
 
 line-passes-requires : tie.Need-line-passes-requires Inv-loop μ-loop
@@ -62,8 +63,8 @@ pass-lines-spec =
     (tie.spec
     Inv-loop
     μ-loop
-    mul-last
     sub-last
+    mul-last
     mul-at
     loop-holds
     line-passes-requires

@@ -11,9 +11,6 @@ returns c = let a = c .before .args in left-few (a .s) (a .text .0) (a .lines) (
 mul-at : tie.Need-mul-at
 mul-at c = search needs
 
-sub-at : tie.Need-sub-at
-sub-at c = search needs
-
 add-if2 : tie.Need-add-if2
 add-if2 c = search needs
 
@@ -58,7 +55,6 @@ not-counted-spec =
     (tie.spec
     returns
     mul-at
-    sub-at
     add-if2
     mul-if2
     shared-slice-read-if2

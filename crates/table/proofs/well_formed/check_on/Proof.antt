@@ -5,6 +5,7 @@ use mathlib.Core.Path.{_≡_, refl, sym, _∙_}
 use native.Mathlib.Omega.{arith}
 use borrow.Author.Needs.{needs}
 use borrow.Author.Tests.{not-true, not-false}
+use Rattle.meaning.specs.Table.{entryNumbers}
 use Rattle.table.specs.Passing.{before, checkFrom}
 use Rattle.table.proofs.LineByLine.{lines-done, line-bad}
 use Rattle.table.proofs.PassTurns.{line-on}
@@ -24,11 +25,11 @@ loop-holds c = (refl, search needs, search needs)
 read-entry-requires : tie.Need-read-entry-requires Inv-loop μ-loop
 read-entry-requires c κs = search needs
 
-mul-at : tie.Need-mul-at Inv-loop μ-loop
-mul-at c = search needs
+mul-before : tie.Need-mul-before Inv-loop μ-loop
+mul-before c = search needs
 
-sub-from : tie.Need-sub-from Inv-loop μ-loop
-sub-from c = search needs
+sub-before : tie.Need-sub-before Inv-loop μ-loop
+sub-before c = search needs
 
 mul-from : tie.Need-mul-from Inv-loop μ-loop
 mul-from c = search needs
@@ -36,8 +37,8 @@ mul-from c = search needs
 shared-slice-read-from : tie.Need-shared-slice-read-from Inv-loop μ-loop
 shared-slice-read-from c = search needs
 
-sub-reached : tie.Need-sub-reached Inv-loop μ-loop
-sub-reached c = search needs
+add-reached : tie.Need-add-reached Inv-loop μ-loop
+add-reached c = search needs
 
 mul-reached : tie.Need-mul-reached Inv-loop μ-loop
 mul-reached c = search needs
@@ -58,7 +59,7 @@ returns c =
     let l = r .before .before in
     let s = l .before .before in
     sym (line-bad (s .args .table .now) (s .args .lines) (l .loop .k) (r .before .loop-test .taken) (r .read-entry .result)
-    (r .read-entry .ensures) (s .args .text .0) (before (s .args .table .now) (10 * l .loop .k))
+    (r .read-entry .ensures) (s .args .text .0) (before (s .args .table .now) (entryNumbers * l .loop .k))
     (sym (g .entry-good .ensures) ∙ not-true (g .entry-good .result) (c .if1 .taken))) ∙ l .loop .inv .0
 
 loop-less : tie.Need-loop-less Inv-loop μ-loop
@@ -82,7 +83,7 @@ returns-2 c =
     let l = c .before in
     let s = l .before .before in
     sym (lines-done (s .args .table .now) (s .args .lines) (l .loop .k) (s .args .text .0)
-    (before (s .args .table .now) (10 * l .loop .k)) (c .loop-test .left)) ∙ l .loop .inv .0
+    (before (s .args .table .now) (entryNumbers * l .loop .k)) (c .loop-test .left)) ∙ l .loop .inv .0
 
 pub check-on-spec : {M : Type 1} → statement M
 check-on-spec =
@@ -92,11 +93,11 @@ check-on-spec =
     μ-loop
     loop-holds
     read-entry-requires
-    mul-at
-    sub-from
+    mul-before
+    sub-before
     mul-from
     shared-slice-read-from
-    sub-reached
+    add-reached
     mul-reached
     shared-slice-read-reached
     add-next

@@ -8,11 +8,14 @@ use Rattle.table.proofs.well_formed.last_reach.Tie as tie
 returns : tie.Need-returns
 returns c = reach-none (c .before .args .table .now) (c .before .args .lines) (c .if1 .taken)
 
-mul-t4 : tie.Need-mul-t4
-mul-t4 c = search needs
+sub-last : tie.Need-sub-last
+sub-last c = search needs
 
-sub-t5 : tie.Need-sub-t5
-sub-t5 c = search needs
+mul-last : tie.Need-mul-last
+mul-last c = search needs
+
+add-t5 : tie.Need-add-t5
+add-t5 c = search needs
 
 mul-t6 : tie.Need-mul-t6
 mul-t6 c = search needs
@@ -24,4 +27,4 @@ returns-2 : tie.Need-returns-2
 returns-2 c = let s = c .before .before in reach-last (s .args .table .now) (s .args .lines) (c .before .if1 .left)
 
 pub last-reach-spec : {M : Type 1} → statement M
-last-reach-spec = tie.close (tie.spec returns mul-t4 sub-t5 mul-t6 shared-slice-read-t8 returns-2)
+last-reach-spec = tie.close (tie.spec returns sub-last mul-last add-t5 mul-t6 shared-slice-read-t8 returns-2)

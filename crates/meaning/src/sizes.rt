@@ -1,0 +1,33 @@
+// How many numbers a line, an event and a token are in a lent buffer, where each number of a line stands, and how long a
+// text may be. `entryNumbers`, `eventNumbers`, `tokenNumbers` and `textLimit` of specs/ say the same.
+
+// The numbers of a line entry, of an event and of a token.
+pub const ENTRY_NUMBERS: usize = 10;
+
+pub const EVENT_NUMBERS: usize = 6;
+
+pub const TOKEN_NUMBERS: usize = 4;
+
+// The most bytes of a text, and the farthest that a line reaches: the end of such a text counts as one byte more.
+pub const TEXT_LIMIT: usize = 65535;
+
+pub const REACH_LIMIT: u32 = TEXT_LIMIT as u32 + 1;
+
+// The place of each number of an entry; its start stands first.
+pub const REST_END: usize = 1;
+
+pub const REST_COUNT: usize = 2;
+
+pub const ENDING: usize = 3;
+
+pub const LEFT: usize = 4;
+
+pub const SPACE: usize = 5;
+
+pub const EXTRA: usize = 6;
+
+pub const WIDTH: usize = 7;
+
+pub const DROPPED: usize = 8;
+
+pub const REACH: usize = 9;
