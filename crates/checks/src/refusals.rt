@@ -1,3 +1,4 @@
+// Each refusal as a number, and the value that goes besides it.
 use meaning::refusals::Checked;
 use meaning::refusals::Refusal;
 ghost use mathlib.Core.Path.{_≡_};

@@ -1,3 +1,4 @@
+// Refusals 1 and 2: a setting that is out of range, an alignment that is unknown.
 use meaning::refusals::Checked;
 use meaning::refusals::Refusal;
 use meaning::settings::Settings;

@@ -1,6 +1,5 @@
-use crate::refusals::Refusal;
-
 // What each public call answers. specs/Answers.antt gives the scope's number and values of each case.
+use crate::refusals::Refusal;
 
 // How many tokens were written.
 pub enum Tokenized {

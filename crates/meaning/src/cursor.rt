@@ -1,3 +1,4 @@
+// Where a pass stands in its line, how wide its spaces are, and what it carries from token to token.
 use crate::counts::Pixels;
 
 // Rule 4: where a pass stands in its line.

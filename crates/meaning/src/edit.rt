@@ -1,3 +1,4 @@
+// An edit of a text, as offsets.
 use crate::counts::Offset;
 
 // Old bytes from `from` up to `to` give way to `inserted` new ones.

@@ -1,3 +1,4 @@
+// A line: how it ends, its measure and its place, and its numbers and events.
 use crate::counts::Chars;
 use crate::counts::Offset;
 use crate::counts::Pixels;

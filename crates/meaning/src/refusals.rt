@@ -1,3 +1,4 @@
+// Why a call refuses its input.
 use crate::counts::Offset;
 
 // Why a call refused its input. `numberOf` and `besides` (specs/Refusals.antt) give the scope's number and what goes with it.

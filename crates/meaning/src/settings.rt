@@ -1,3 +1,4 @@
+// What a text is laid by.
 use crate::counts::Pixels;
 
 // The twelve settings, in the scope's order.

@@ -1,3 +1,4 @@
+// Tokens: what each is, and which part of the text it shows.
 use crate::counts::Chars;
 use crate::counts::Offset;
 

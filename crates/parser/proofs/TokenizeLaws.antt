@@ -23,7 +23,7 @@ use Rattle.meaning.specs.declared.refusals.Checked.{Checked}
 use Rattle.meaning.specs.declared.refusals.Checked.the-variants.{Good, Refused}
 use Rattle.meaning.specs.declared.answers.Tokenized.the-variants as tokenized
 use Rattle.laws.specs.TokenLaws.{length-size}
-use Rattle.checks.proofs.TextLaws.{too-long}
+use Rattle.checks.specs.TextLaws.{too-long}
 use Rattle.laws.specs.TestOrder.{first-alone, first-refused, first-good}
 use Rattle.parser.specs.Lexing.{charsFrom}
 use Rattle.parser.specs.Writing.{numbersFrom, checkNeeded, roomAnswer, roomBuffer}

@@ -1,3 +1,5 @@
+-- `checks::settings::check_settings` meets its contract.
+-- Assumes nothing.
 use mathlib.Core.Bool.{true}
 use mathlib.Core.Path.{_≡_, sym, _∙_}
 use borrow.Author.Needs.{needs}

@@ -1,3 +1,5 @@
+-- `checks::settings::in_range` meets its contract.
+-- Assumes nothing.
 use borrow.Author.Needs.{needs}
 use mathlib.Core.Bool.{_&&_}
 use Rattle.meaning.specs.Settings.{inRange, isSwitch}

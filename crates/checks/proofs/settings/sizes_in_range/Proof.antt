@@ -1,3 +1,5 @@
+-- `checks::settings::sizes_in_range` meets its contract.
+-- Assumes nothing.
 use mathlib.Core.Path.{refl}
 use Rattle.meaning.specs.Settings.{sizesInRange}
 use Rattle.checks.proofs.settings.sizes_in_range.Statement.{statement}

@@ -1,3 +1,5 @@
+-- `checks::settings::top_in_range` meets its contract.
+-- Assumes nothing.
 use mir.Val.{SFits}
 use mir.Syntax.{w32}
 use mir.Facts.{toZ-ofZ}

@@ -1,7 +1,9 @@
+-- `checks::text::check_text` meets its contract.
+-- Assumes nothing.
 use native.Mathlib.Omega.{arith}
 use borrow.Author.Needs.{needs}
 use Rattle.unicode.specs.Prefix.{prefix-within}
-use Rattle.checks.proofs.TextLaws.{too-long, text-good, not-utf8}
+use Rattle.checks.specs.TextLaws.{too-long, text-good, not-utf8}
 use Rattle.checks.proofs.text.check_text.Statement.{statement}
 use Rattle.checks.proofs.text.check_text.Tie as tie
 
