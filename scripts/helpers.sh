@@ -1,0 +1,160 @@
+# shellcheck shell=sh disable=SC2034,SC2154
+# What the scripts have in common. It is for sh, read by `.`, and not run. The comment at a script's head is what it says on --help.
+# Set here:
+#   name      the script's own name, for what it says
+#   root      the repository's folder
+#   archive   where the library for C is when it is built
+# A script that installs, compiles or builds sets
+#   out       a folder for what it makes
+
+name=$(basename -- "$0")
+root=$(CDPATH='' cd -- "$(dirname -- "$0")/.." && pwd)
+archive=$root/target/staticlib/libbisquemop.a
+passed=0 failed=0
+
+# ---- what a script says, and the words that it is given
+
+say() { printf '%s: %s\n' "$name" "$*" >&2; }
+die() { say "$*"; exit 2; }
+
+usage() { sed -n -e 1d -e '/^#/!q' -e 's/^# \{0,1\}//p' "$0"; }
+help() { usage; exit 0; }
+wrong_words() { usage >&2; exit 2; }
+
+# The words of a script that takes none.
+no_words() { # WORD..
+    case ${1-} in -h | --help) help ;; esac
+    [ $# -eq 0 ] || wrong_words
+}
+
+# The words of a script that takes one at most, which is no option. A - alone is none either.
+one_word() { # WORD..
+    case ${1-} in
+    -h | --help) help ;;
+    -?*) wrong_words ;;
+    esac
+    [ $# -le 1 ] || wrong_words
+}
+
+# An option that has a value, at the front of the words that are left, and one whose value is a number.
+has_value() { [ $# -ge 2 ] || wrong_words; }
+has_number() { case ${2-} in '' | *[!0-9]*) wrong_words ;; esac; }
+
+# ---- what has to be there
+
+# Runs a command whose words matter only where it fails.
+quietly() { # LOG COMMAND..
+    log=$1
+    shift
+    "$@" >"$log" 2>&1 && return 0
+    cat "$log" >&2
+    say "failed: $*"
+    exit 1
+}
+
+may_install() { [ "$(id -u)" = 0 ] && command -v apt-get >/dev/null; }
+
+# A package of Debian's for x86-64 on another machine ends in :amd64.
+install_now() { # PACKAGE..
+    case "$* " in *:amd64\ *) dpkg --add-architecture amd64 || return ;; esac
+    apt-get update && DEBIAN_FRONTEND=noninteractive apt-get install -y --no-install-recommends "$@"
+}
+
+# Installs Debian packages, or says which ones are missing.
+install_packages() { # WHAT PACKAGE..
+    missing=$1
+    shift
+    may_install || die "there is no $missing: install the Debian packages $*"
+    say "installing $*"
+    mkdir -p "$out"
+    if ! install_now "$@" >"$out/packages.log" 2>&1; then
+        tail -n 5 "$out/packages.log" >&2
+        die "could not install the Debian packages $*"
+    fi
+}
+
+# Sees to it that a command is there.
+needs() { # COMMAND PACKAGE..
+    command -v "$1" >/dev/null || install_packages "$@"
+    command -v "$1" >/dev/null || die "there is no command $1"
+}
+
+needs_kit() {
+    command -v rt >/dev/null || die "there is no command rt: put the Rattle kit's bin folder on the PATH"
+}
+
+# ---- programs for x86-64, which the library is for
+
+# Finds the kit's loader and C library, in $tools, and on a machine of another kind the kit's emulator.
+find_tools() {
+    needs_kit
+    tools=$(dirname "$(dirname "$(rt doc)")")/on/$(uname -m)/toolchain emulator=''
+    [ "$(uname -m)" != x86_64 ] || return 0
+    emulator=$tools/bin/qemu-x86_64
+    [ -x "$emulator" ] || die "the kit has no emulator at $emulator"
+}
+
+# Does $cc compile, and link with the machine's C library, a program that does nothing.
+# shellcheck disable=SC2086
+links() { printf 'int main(void) { return 0; }\n' | "$cc" $static -x c -o "$out/nothing" - 2>/dev/null; }
+
+# Finds the compiler: $cc with $static makes programs that `emulated` runs.
+find_cc() {
+    mkdir -p "$out"
+    find_tools
+    cc=gcc static='' packages='gcc libc6-dev'
+    [ -z "$emulator" ] || cc=x86_64-linux-gnu-gcc static=-static packages='gcc-x86-64-linux-gnu libc6-dev-amd64-cross'
+    # shellcheck disable=SC2086
+    links || install_packages "C compiler for x86-64" $packages
+    links || die "$cc makes no programs"
+}
+
+# Compiles C, with any warning an error.
+# shellcheck disable=SC2086
+compile_c() { quietly "$out/cc.log" "$cc" -std=c99 -O2 -Wall -Wextra -Wpedantic -Werror $static -o "$@"; } # PROGRAM WORD..
+
+# Runs a program for x86-64 that needs nothing but this machine, and one that `rt check` made.
+emulated() { ${emulator:+"$emulator"} "$@"; } # PROGRAM WORD..
+run_program() { emulated "$tools/lib/ld-linux-x86-64.so.2" --library-path "$tools/lib" "$root/target/bin/$1"; } # NAME
+
+# Proves and builds the library for C, unless that is done already.
+build_library() {
+    needs_kit
+    needs make make
+    mkdir -p "$out"
+    say "proving and building the library, unless that is done already"
+    quietly "$out/library.log" make -C "$root" library
+}
+
+# Proves and builds a program, unless that is done already.
+build_program() { # NAME
+    find_tools
+    mkdir -p "$out"
+    say "proving $1, unless that is done already"
+    quietly "$out/$1.log" in_root rt check "$1" </dev/null
+}
+in_root() { (cd "$root" && "$@"); }
+
+# ---- tests
+
+pass() { passed=$((passed + 1)); }
+fail() { # WHAT
+    failed=$((failed + 1))
+    say "failed: $*"
+}
+
+# One test: a command that succeeds, or a text that is the one expected.
+holds() { # WHAT COMMAND..
+    what=$1
+    shift
+    if "$@"; then pass; else fail "$what"; fi
+}
+same() { # WHAT EXPECTED GOT
+    if [ "$3" = "$2" ]; then pass; else fail "$(printf '%s: expected\n%s\ngot\n%s' "$1" "$2" "$3")"; fi
+}
+
+# The last line of a script that tests, and its exit status.
+finish() {
+    printf '%s passed, %s failed\n' "$passed" "$failed"
+    [ "$failed" -eq 0 ]
+}
