@@ -1,4 +1,5 @@
 /* bisquemop_lay_again: the examples, edits of every kind, tables of every size that matters, long texts. */
+#include "examples.h"
 #include "harness.h"
 
 #include <string.h>
@@ -9,8 +10,7 @@
 /* Glyph 6, tab 24, left, leading on, trailing off. */
 static struct bisquemop_settings boxed(uint32_t width)
 {
-    struct bisquemop_settings s = {6, width, 24, 10, 3, 8, 40, 0, BISQUEMOP_ALIGN_LEFT, BISQUEMOP_VERTICAL_TOP, 1, 0};
-    return s;
+    return laid(6, width, LEFT, 1, 0);
 }
 
 static uint8_t text[BISQUEMOP_TEXT_MAX];
@@ -57,7 +57,7 @@ static void lines_become(const char *what, struct bisquemop_settings s, struct r
 }
 
 /* A line: start, rest end, rest count, end type, left, space width, extra, width, dropped, reach. */
-struct example {
+struct edit_example {
     const char *what;
     uint32_t width;
     const char *old;
@@ -67,7 +67,7 @@ struct example {
     uint32_t lines[MOST * NUMBERS];
 };
 
-static void test_example(const struct example *x)
+static void test_example(const struct edit_example *x)
 {
     struct bisquemop_settings s = boxed(x->width);
     uint8_t edited[64];
@@ -92,7 +92,7 @@ static void test_example(const struct example *x)
 
 static void test_examples(void)
 {
-    static const struct example list[] = {
+    static const struct edit_example list[] = {
         /* the scope's: "x" put in; "e" taken out, which stands on line 1 and affects line 0 */
         {"the scope's first", 30, "aa\nbb\ncc", 3, 3, "x", 1, 1, 3,
          {0, 0, 0, 0, 0, 6, 0, 12, 0, 3, /**/ 3, 0, 0, 0, 0, 6, 0, 18, 0, 7, /**/ 7, 0, 0, 2, 0, 6, 0, 12, 0, 10}},

@@ -154,7 +154,7 @@ static void test_counts(void)
                                       UINT64_C(0x100000000),
                                       UINT64_C(0x100000001),
                                       UINT64_C(0x100000002),
-                                      UINT64_C(0x199999999999999A), /* times ten it is 4, in 64 bits */
+                                      UINT64_MAX / NUMBERS + 1, /* so many numbers are less than NUMBERS, in 64 bits */
                                       UINT64_C(0x8000000000000001),
                                       UINT64_MAX};
     const uint32_t *good = table_examples[0].numbers;
