@@ -12,12 +12,9 @@ to = $(DESTDIR)$(PREFIX)
 
 library: $(archive)
 
-# Only what is proved is built. The log is shown where it is not.
+# Only what is proved is built.
 $(archive): $(sources)
-	@command -v rt >/dev/null || { echo "make: there is no command rt: put the Rattle kit's bin folder on the PATH" >&2; exit 1; }
-	@mkdir -p target
-	@echo "proving and building $@, which takes some minutes the first time"
-	@rt staticlib bisquemop >target/staticlib.log 2>&1 || { cat target/staticlib.log >&2; exit 1; }
+	@scripts/build library
 	@touch $@
 
 # A relative folder would be another one for each reader of bisquemop.pc, and a blank ends a flag there.

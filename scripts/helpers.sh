@@ -117,22 +117,19 @@ compile_c() { quietly "$out/cc.log" "$cc" -std=c99 -O2 -Wall -Wextra -Wpedantic 
 emulated() { ${emulator:+"$emulator"} "$@"; } # PROGRAM WORD..
 run_program() { emulated "$tools/lib/ld-linux-x86-64.so.2" --library-path "$tools/lib" "$root/target/bin/$1"; } # NAME
 
-# Proves and builds the library for C, unless that is done already.
+# Proves and builds the library for C, or a program, unless that is done already, and shows how far that is.
 build_library() {
     needs_kit
     needs make make
-    mkdir -p "$out"
-    say "proving and building the library, unless that is done already"
-    quietly "$out/library.log" make -C "$root" library
+    make -s -C "$root" library >&2 || exit 1
 }
-
-# Proves and builds a program, unless that is done already.
 build_program() { # NAME
     find_tools
     mkdir -p "$out"
-    say "proving $1, unless that is done already"
-    quietly "$out/$1.log" in_root rt check "$1" </dev/null
+    "$root/scripts/build" "$1" </dev/null || exit
 }
+
+# Runs a command in the repository's folder.
 in_root() { (cd "$root" && "$@"); }
 
 # ---- tests
