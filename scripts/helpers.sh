@@ -79,6 +79,14 @@ needs() { # COMMAND PACKAGE..
     command -v "$1" >/dev/null || die "there is no command $1"
 }
 
+# The compilers of the header, for this machine.
+needs_compilers() {
+    needs gcc gcc libc6-dev
+    needs g++ g++
+    needs clang clang
+    needs clang++ clang
+}
+
 needs_kit() {
     command -v rt >/dev/null || die "there is no command rt: put the Rattle kit's bin folder on the PATH"
 }
