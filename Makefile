@@ -45,6 +45,6 @@ help:
 	@echo '                              FOLDER/lib/pkgconfig/bisquemop.pc; by default FOLDER is /usr/local.'
 	@echo '                              DESTDIR=STAGE puts STAGE before each of these paths, as packagers need it'
 	@echo 'make uninstall PREFIX=FOLDER  remove them'
-	@echo 'make test                     all tests and all proofs'
+	@echo 'make test                     all proofs and all tests'
 	@echo
 	@echo 'The Rattle kit has to be on the PATH for all but make uninstall. The library is for x86-64 Linux.'
