@@ -5,14 +5,24 @@ use meaning::refusals::Refusal;
 use meaning::sizes::TEXT_LIMIT;
 use unicode::text::valid_prefix;
 ghost use mathlib.Core.Path.{_≡_};
-ghost use Rattle.meaning.specs.Checks.{checkText};
+ghost use Rattle.meaning.specs.Checks.{checkLength, checkText};
+
+// Refusal 3, of a text of so many bytes.
+pub fn check_length(bytes: u64) -> Checked
+    ensures { λ r. ⌜ r ≡ checkLength bytes ⌝ }
+{
+    if (TEXT_LIMIT as u64) < bytes {
+        return Checked::Refused(Refusal::TextTooLong(bytes));
+    }
+    Checked::Good
+}
 
 // Refusals 3 and 4. A text that is too long is not read at all.
 pub fn check_text(text: &[u8]) -> Checked
     ensures { λ r. ⌜ r ≡ checkText (now (text .entry)) ⌝ }
 {
-    if TEXT_LIMIT < text.len() {
-        return Checked::Refused(Refusal::TextTooLong(text.len() as u64));
+    if let Checked::Refused(r) = check_length(text.len() as u64) {
+        return Checked::Refused(r);
     }
     let prefix = valid_prefix(text);
     if prefix == text.len() {
