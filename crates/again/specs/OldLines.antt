@@ -20,7 +20,7 @@ use Rattle.meaning.specs.declared.refusals.Checked.the-variants.{Good}
 use Rattle.laws.specs.Affected.{affected-split}
 use Rattle.table.specs.LinesFrom.{linesFrom}
 use Rattle.table.specs.MovableLines.{entries-from}
-use Rattle.table.specs.GoodTable.{good-more, good-start, start-after}
+use Rattle.laws.specs.GoodLines.{good-more, good-start, start-after}
 use Rattle.again.specs.Pointer.{Above, Rising}
 
 -- The lines of a table from a line on are what is left of all of them.

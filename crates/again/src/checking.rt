@@ -10,7 +10,7 @@ use meaning::line::Entry;
 use meaning::refusals::Checked;
 use meaning::refusals::Refusal;
 use meaning::settings::Settings;
-use table::affected::whole_length;
+use table::edited::whole_length;
 use table::entries::read_entry;
 use table::well_formed::look_over;
 use table::well_formed::text_length;

@@ -5,7 +5,7 @@ use meaning::counts::Chars;
 use meaning::counts::Offset;
 use meaning::line::Entry;
 use steps::step::Resumed;
-use table::one_line::no_rest;
+use table::one_line::has_no_rest;
 use unicode::text::count_chars;
 use unicode::text::is_boundary;
 ghost use Prim.Native.Nat.{_≤_};
@@ -39,7 +39,7 @@ pub fn rest_fits(part: &[u8], e: Entry) -> bool
     requires { ⌜ checkUtf8 (now part) ≡ Good ⌝ }
     ensures { λ r. ⌜ r ≡ restFits e (decodeAll (now (part .entry))) ⌝ }
 {
-    if no_rest(e) {
+    if has_no_rest(e) {
         return true;
     }
     let end = rest_end(e);
@@ -54,7 +54,7 @@ pub fn held_of(part: &[u8], e: Entry) -> Resumed
     requires { ⌜ (checkUtf8 (now part) ≡ Good) × (restFits e (decodeAll (now part)) ≡ true) × (length (now part) ≤ 65535) ⌝ }
     ensures { λ r. ⌜ r ≡ resumedOf e (decodeAll (now (part .entry))) ⌝ }
 {
-    if no_rest(e) {
+    if has_no_rest(e) {
         return nothing();
     }
     let end = rest_end(e);

@@ -101,7 +101,7 @@ pub lay-again-agrees : {s : Settings} {part table : List ℕ} {lines : ℕ} {edi
     → (m .answer ≡ n .answer) × (m .written ≡ n .written)
 lay-again-agrees m n = (agree (m .answer-is) (n .answer-is), agree (m .written-is) (n .written-is))
 
--- table::height::text_height
+-- heights::height::text_height
 pub record TextHeight (s : Settings) (table : List ℕ) (lines : ℕ) : Type 0 where
   pub answer : Height
   pub answer-is : answer ≡ heightAnswer s table lines
@@ -110,7 +110,7 @@ pub text-height-agrees : {s : Settings} {table : List ℕ} {lines : ℕ} (m n : 
     → m .answer ≡ n .answer
 text-height-agrees m n = agree (m .answer-is) (n .answer-is)
 
--- table::height::line_y
+-- heights::height::line_y
 pub record LineYOf (s : Settings) (table : List ℕ) (lines line : ℕ) : Type 0 where
   pub answer : LineY
   pub answer-is : answer ≡ yAnswer s table lines line

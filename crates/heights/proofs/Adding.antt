@@ -12,8 +12,8 @@ use Rattle.basis.specs.Choice.{pick}
 use Rattle.meaning.specs.Table.{entryNumbers, entriesIn}
 use Rattle.meaning.specs.Height.{endAdds, addedBefore}
 use Rattle.meaning.specs.declared.settings.Settings.{Settings}
 use Rattle.table.specs.LinesFrom.{linesFrom, lines-all, lines-more, lines-end, ending-at}
-use Rattle.table.specs.Heights.{notCounted, not-counted-few, not-counted-two}
+use Rattle.heights.specs.Heights.{notCounted, not-counted-few, not-counted-two}
 
 module _ (s : Settings) (ending : ℕ) where
   pub end-new : ending ≡ 0 → s .spacing .0 + s .paragraph .0 ≡ endAdds s ending

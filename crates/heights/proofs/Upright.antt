@@ -17,9 +17,9 @@ use Rattle.meaning.specs.Table.{entriesIn}
 use Rattle.meaning.specs.Height.{heightOf, offsetOf, addedBefore, yOf, showsAt}
 use Rattle.meaning.specs.declared.settings.Settings.{Settings}
 use Rattle.meaning.specs.declared.answers.LineY.the-variants.{Shows, Hidden}
-use Rattle.table.specs.GoodSettings.{Measures}
-use Rattle.table.specs.Heights.{shownAt, added-alone}
-use Rattle.table.proofs.Signs.{mag-sum, mag-less, mag-half, fits, kept, widened}
+use Rattle.heights.specs.GoodSettings.{Measures}
+use Rattle.heights.specs.Heights.{shownAt, added-alone}
+use Rattle.heights.proofs.Signs.{mag-sum, mag-less, mag-half, fits, kept, widened}
 
 module _ (s : Settings) (t : ℕ) where
   pub offset-top : s .vertical ≡ 0 → pos 0 ≡ offsetOf s t

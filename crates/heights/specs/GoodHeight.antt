@@ -20,9 +20,9 @@ use Rattle.meaning.specs.declared.refusals.Checked.the-variants.{Good, Refused}
 use Rattle.meaning.specs.declared.answers.Height.the-variants as height
 use Rattle.meaning.specs.declared.answers.LineY.the-variants as liney
 use Rattle.laws.specs.TableLaws.{entries-length}
 use Rattle.table.specs.GoodTable.{table-room, table-count}
-use Rattle.table.specs.GoodSettings.{Measures, measures}
-use Rattle.table.specs.Heights.{notCounted, shownAt, height-counted, added-small}
+use Rattle.heights.specs.GoodSettings.{Measures, measures}
+use Rattle.heights.specs.Heights.{notCounted, shownAt, height-counted, added-small}
 
 first-alone : (c : Checked) → firstOf (c ∷ []) ≡ c
 unfolding firstOf

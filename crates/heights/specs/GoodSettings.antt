@@ -15,7 +15,7 @@ use Rattle.meaning.specs.Checks.{checkSettings}
 use Rattle.meaning.specs.declared.settings.Settings.{Settings}
 use Rattle.meaning.specs.declared.refusals.Refusal.the-variants.{SettingOutOfRange, UnknownAlignment}
 use Rattle.meaning.specs.declared.refusals.Checked.the-variants.{Good, Refused}
-use Rattle.table.specs.GoodTable.{good-both}
+use Rattle.laws.specs.GoodLines.{good-both}
 
 pub record Measures (s : Settings) : Type 0 where
   pub spacing : s .spacing .0 ≤ 4096

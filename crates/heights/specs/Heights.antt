@@ -17,7 +17,7 @@ use Rattle.meaning.specs.declared.settings.Settings.{Settings}
 use Rattle.meaning.specs.declared.line.Entry.{Entry}
 use Rattle.meaning.specs.declared.answers.LineY.{LineY}
 use Rattle.meaning.specs.declared.answers.LineY.the-variants.{Shows, Hidden}
-use Rattle.table.specs.GoodSettings.{Measures}
+use Rattle.heights.specs.GoodSettings.{Measures}
 
 -- What the height leaves out: the spacing of a LineBreak (3) before a last line that starts at the text's end.
 unfoldable pub notCounted : Settings → (length : ℕ) → List Entry → ℕ

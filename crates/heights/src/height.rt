@@ -3,13 +3,13 @@ use crate::spacing::added_before;
 use crate::spacing::not_counted;
 use crate::vertical::offset_of;
 use crate::vertical::shown_at;
-use crate::well_formed::check_table;
-use crate::well_formed::text_length;
 use checks::settings::check_settings;
 use meaning::answers::Height;
 use meaning::answers::LineY;
 use meaning::refusals::Checked;
 use meaning::settings::Settings;
+use table::well_formed::check_table;
+use table::well_formed::text_length;
 ghost use Prim.Native.Nat.{_<_};
 ghost use mathlib.Core.Path.{_≡_};
 ghost use Rattle.meaning.specs.Table.{entriesIn};
@@ -32,9 +32,9 @@ fn height_of(s: Settings, table: &[u32], lines: usize) -> u32
     ensures { λ r. ⌜ r ≡ heightOf s (entriesIn lines (now (table .entry))) ⌝ }
 {
     let added = added_before(s, table, lines);
-    let text = text_length(table, lines);
-    let less = not_counted(s, table, lines, text);
-    s.base.0 + (added - less)
+    let bytes = text_length(table, lines);
+    let left_out = not_counted(s, table, lines, bytes);
+    s.base.0 + (added - left_out)
 }
 
 // The height of a text, from its table.
@@ -51,8 +51,8 @@ fn y_of(s: Settings, table: &[u32], lines: usize, line: usize) -> i32
     requires { ⌜ (checkHeight s (now table) lines ≡ Good) × (line < lines) ⌝ }
     ensures { λ r. ⌜ r ≡ yOf s line (entriesIn lines (now (table .entry))) ⌝ }
 {
-    let text = height_of(s, table, lines);
-    let offset = offset_of(s, text);
+    let high = height_of(s, table, lines);
+    let offset = offset_of(s, high);
     let added = added_before(s, table, line);
     s.top + offset + added as i32
 }

@@ -8,8 +8,8 @@ ghost use mathlib.Core.Path.{_≡_};
 ghost use lib.ListN.{length};
 ghost use Rattle.meaning.specs.Table.{entryNumbers, entriesIn};
 ghost use Rattle.meaning.specs.Height.{endAdds, addedBefore};
-ghost use Rattle.table.specs.GoodSettings.{Measures};
-ghost use Rattle.table.specs.Heights.{notCounted};
+ghost use Rattle.heights.specs.GoodSettings.{Measures};
+ghost use Rattle.heights.specs.Heights.{notCounted};
 
 // What a line's end adds.
 fn end_adds(s: Settings, ending: u32) -> u32
@@ -41,9 +41,9 @@ pub fn added_before(s: Settings, table: &[u32], k: usize) -> u32
 }
 
 // Of that, what the height leaves out: a LineBreak before a last line that starts at the text's end.
-pub fn not_counted(s: Settings, table: &[u32], lines: usize, text: Offset) -> u32
+pub fn not_counted(s: Settings, table: &[u32], lines: usize, bytes: Offset) -> u32
     requires { ⌜ entryNumbers * lines ≤ length (now table) ⌝ }
-    ensures { λ r. ⌜ r ≡ notCounted s (text .0) (entriesIn lines (now (table .entry))) ⌝ }
+    ensures { λ r. ⌜ r ≡ notCounted s (bytes .0) (entriesIn lines (now (table .entry))) ⌝ }
 {
     if lines < 2 {
         return 0;
@@ -52,7 +52,7 @@ pub fn not_counted(s: Settings, table: &[u32], lines: usize, text: Offset) -> u3
     if table[at + ENDING] != 3 {
         return 0;
     }
-    if table[at + ENTRY_NUMBERS] != text.0 {
+    if table[at + ENTRY_NUMBERS] != bytes.0 {
         return 0;
     }
     s.spacing.0

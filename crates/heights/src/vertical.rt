@@ -4,18 +4,18 @@ use meaning::settings::Settings;
 ghost use Prim.Native.Nat.{_≤_};
 ghost use mathlib.Core.Path.{_≡_};
 ghost use Rattle.meaning.specs.Height.{offsetOf, showsAt};
-ghost use Rattle.table.specs.GoodSettings.{Measures};
-ghost use Rattle.table.specs.Heights.{shownAt};
+ghost use Rattle.heights.specs.GoodSettings.{Measures};
+ghost use Rattle.heights.specs.Heights.{shownAt};
 
 // The vertical offset of a text so high. `/` rounds toward zero.
-pub fn offset_of(s: Settings, text: u32) -> i32
-    requires { ⌜ Measures s × (text ≤ 1000000000) ⌝ }
-    ensures { λ r. ⌜ r ≡ offsetOf s text ⌝ }
+pub fn offset_of(s: Settings, high: u32) -> i32
+    requires { ⌜ Measures s × (high ≤ 1000000000) ⌝ }
+    ensures { λ r. ⌜ r ≡ offsetOf s high ⌝ }
 {
     if s.vertical == 0 {
         return 0;
     }
-    let difference = s.height.0 as i32 - text as i32;
+    let difference = s.height.0 as i32 - high as i32;
     if s.vertical == 1 {
         return difference / 2;
     }

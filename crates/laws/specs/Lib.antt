@@ -8,6 +8,7 @@ pub mod Demand3Calls
 pub mod EditChecks
 pub mod Fuel
 pub mod GoodChecks
+pub mod GoodLines
 pub mod Kept
 pub mod LayoutBounds
 pub mod LayoutCalls

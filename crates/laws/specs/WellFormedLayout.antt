@@ -2,15 +2,14 @@
 -- Assumes nothing.
 use Prim.Native.Nat.{ℕ, suc, _+_, _-_, _≤_, _<_}
 use mathlib.Core.Path.{_≡_, refl, _∙_}
-use mathlib.Core.Bool.{Bool, true, false, _&&_}
+use mathlib.Core.Bool.{true}
 use mathlib.Core.List.{List, [], _∷_, map}
 use native.Mathlib.Nat.{zero-add}
 use native.Mathlib.Omega.{arith}
-use borrow.Author.Tests.{lt-ltb, le-leb, eq-eqb, ne-eqb, ltb-true}
-use lib.Dec.{leb, ltb}
+use borrow.Author.Tests.{lt-ltb, le-leb, eq-eqb, ne-eqb}
 use lib.ListN.{length, take, drop, take-append-drop}
 use lib.Seq.{take-add}
-use Rattle.basis.specs.Choice.{pick, pick-true, and-true}
+use Rattle.basis.specs.Choice.{pick, pick-true}
 use Rattle.basis.specs.Order.{by-eq, within-is}
 use Rattle.unicode.specs.Encoding.{size}
 use Rattle.unicode.specs.Sizes.{size-append}
@@ -22,14 +21,12 @@ use Rattle.meaning.specs.declared.settings.Settings.{Settings}
 use Rattle.meaning.specs.declared.line.LineEnd.{LineEnd}
 use Rattle.meaning.specs.declared.line.LineEnd.the-variants.{NewLine, CarriageReturn, EndOfText, LineBreak}
 use Rattle.meaning.specs.declared.line.Entry.{Entry}
-use Rattle.meaning.specs.declared.refusals.Refusal.{Refusal}
-use Rattle.meaning.specs.declared.refusals.Refusal.the-variants.{BadLine}
-use Rattle.meaning.specs.declared.refusals.Checked.{Checked}
-use Rattle.meaning.specs.declared.refusals.Checked.the-variants.{Good, Refused}
+use Rattle.meaning.specs.declared.refusals.Checked.the-variants.{Good}
 use Rattle.laws.specs.Suffixes.{take-size}
 use Rattle.laws.specs.PassBounds.{size-take}
 use Rattle.laws.specs.LineBounds.{line-chars, line-takes, line-reach-low, line-reach-high, line-end}
 use Rattle.laws.specs.RowInduction.{FitsIn, each-row}
+use Rattle.laws.specs.GoodLines.{good-more, good-start, start-after}
 
 -- ---- one line
 
@@ -162,22 +159,6 @@ module _ (s : Settings) where
 
 -- ---- what the check says of starts
 
-good-both : (t : Bool) (c : Checked) (r : Refusal) → pick t c (Refused r) ≡ Good → (t ≡ true) × (c ≡ Good)
-unfolding pick
-good-both true c r e = (refl, e)
-good-both false c r e = absurd (let z : _≡_ {A = ℕ} 0 1 = cc in omega arith)
-
-good-first : (n k : ℕ) (b : Before) (e : Entry) (es : List Entry) → checkLines n k b (e ∷ es) ≡ Good
-    → (startGood n b e ≡ true) × (checkLines n (suc k) (line (e .start .0) (e .reach .0)) es ≡ Good)
-unfolding checkLines entryGood
-good-first n k b e es h =
-    let more = checkLines n (suc k) (line (e .start .0) (e .reach .0)) es in
-    let g = good-both (entryGood n b e es) more (BadLine k) h in
-    let p = startGood n b e in
-    let q = restGood n b e in
-    let r = endingGood es (e .ending) in
-    (and-true p q (and-true (p && q) r (and-true (p && q && r) (leb (e .reach .0) (suc n)) (g .0) .0) .0) .0, g .1)
-
 -- Each line starts past the start of the line before it.
 abbrev pub Rising : List Entry → Type 0
 Rising [] = Unit {0}
@@ -185,17 +166,12 @@ Rising (e ∷ []) = Unit {0}
 Rising (e ∷ f ∷ es) = (e .start .0 < f .start .0) × Rising (f ∷ es)
 
 pub lines-rise : (n k : ℕ) (b : Before) (es : List Entry) → checkLines n k b es ≡ Good → Rising es
-unfolding startGood
 lines-rise n k b [] h = tt
 lines-rise n k b (e ∷ []) h = tt
 lines-rise n k b (e ∷ f ∷ es) h =
-    let more = good-first n k b e (f ∷ es) h .1 in
-    let g = good-first n (suc k) (line (e .start .0) (e .reach .0)) f es more .0 in
-    let p = ltb (e .start .0) (f .start .0) in
-    let q = leb (f .start .0) (e .reach .0) in (
-      ltb-true (e .start .0) (f .start .0) (and-true p q (and-true (p && q) (leb (f .start .0) n) g .0) .0),
-      lines-rise n (suc k) (line (e .start .0) (e .reach .0)) (f ∷ es) more,
-    )
+    let more = good-more n k b e (f ∷ es) h in
+    let c = line (e .start .0) (e .reach .0) in
+    (start-after n (e .start .0) (e .reach .0) f (good-start n (suc k) c f es more) .0, lines-rise n (suc k) c (f ∷ es) more)
 
 module _ (s : Settings) (cs : List ℕ) where
   pub layout-rises : Rising (layout s cs)

@@ -23,7 +23,7 @@ use Rattle.parser.specs.Lexing.{charsFrom}
 use Rattle.parser.proofs.TokenizeLaws.{good-length}
 use Rattle.steps.specs.Fine.{FineSettings}
 use Rattle.steps.specs.Lexed.{chars-within}
-use Rattle.table.specs.GoodTable.{good-both}
+use Rattle.laws.specs.GoodLines.{good-both}
 use Rattle.layout.specs.RowsFrom.{TextReady, entriesOf}
 
 module _ (s : Settings) (h : checkSettings s ≡ Good) where

@@ -3,10 +3,7 @@ pub mod Storing
 pub mod Judging
 pub mod LineByLine
 pub mod EditLaws
-pub mod PassTurns
-pub mod Signs
-pub mod Upright
-pub mod Adding
+pub mod SkipTurns
 pub mod MovedParts
 pub mod InPlace
 pub mod MoveTurns

@@ -40,10 +40,10 @@ module _ (t : List ℕ) (lines k : ℕ) where
     tested : entryGood n b e rest ≡ lineGood n b e (eqb (k + 1) lines)
     tested = sym (line-good n b e rest) ∙ ap (lineGood n b e) (last-is h)
 
-    pub line-passed : lineGood n b e (eqb (k + 1) lines) ≡ true
+    pub line-checked : lineGood n b e (eqb (k + 1) lines) ≡ true
         → checkLines n k b (linesFrom t lines k) ≡ checkLines n (k + 1) (line (e .start .0) (e .reach .0)) rest
     unfolding checkLines
-    line-passed g =
+    line-checked g =
         ap (checkLines n k b) here
         ∙ pick-true _ _ _ (tested ∙ g)
         ∙ ap (λ (j : ℕ). checkLines n j (line (e .start .0) (e .reach .0)) rest) (sym (add-one k))

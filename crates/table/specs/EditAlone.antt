@@ -18,13 +18,21 @@ use Rattle.meaning.specs.declared.refusals.Refusal.the-variants.{BadEdit}
 use Rattle.meaning.specs.declared.refusals.Checked.{Checked}
 use Rattle.meaning.specs.declared.refusals.Checked.the-variants.{Good, Refused}
 use Rattle.meaning.specs.declared.answers.Affected.the-variants as affecting
+use Rattle.table.specs.declared.edited.Whole.{Whole}
+use Rattle.table.specs.declared.edited.Whole.the-variants.{Length, OutOfPlace}
 
--- Of a text of so many bytes.
+-- The length of the edited whole, of a text of so many bytes.
+unfoldable pub editedWhole : (length : ℕ) → Edit → Whole
+editedWhole n ed =
+    pick (leb (ed .from .0) (ed .to .0) && leb (ed .to .0) n) (Length (n + ed .inserted .0 - (ed .to .0 - ed .from .0))) OutOfPlace
+
+-- What is refused of it.
+abbrev pub placeChecked : Whole → Checked
+placeChecked (Length n) = checkLength n
+placeChecked OutOfPlace = Refused BadEdit
+
 unfoldable pub checkPlace : (length : ℕ) → Edit → Checked
-checkPlace n ed =
-    pick (leb (ed .from .0) (ed .to .0) && leb (ed .to .0) n)
-    (checkLength (n + ed .inserted .0 - (ed .to .0 - ed .from .0)))
-    (Refused BadEdit)
+checkPlace n ed = placeChecked (editedWhole n ed)
 
 first-alone : (c : Checked) → firstOf (c ∷ Good ∷ Good ∷ []) ≡ c
 unfolding firstOf
@@ -33,7 +41,7 @@ first-alone (Refused r) = refl
 
 module _ (t : List ℕ) (lines : ℕ) (ed : Edit) where
   pub affected-place : checkTable lines t ≡ Good → checkAffected t lines ed ≡ checkPlace (textLength (entriesIn lines t)) ed
-  unfolding checkAffected checkWhole checkOrder checkPlace inOrder newLength refuseIf pick firstOf
+  unfolding checkAffected checkWhole checkOrder checkPlace editedWhole inOrder newLength refuseIf pick firstOf
   affected-place h =
       by-test (leb (ed .from .0) (ed .to .0) && leb (ed .to .0) (textLength (entriesIn lines t)))
       (λ e. rw (h, e) (first-alone (checkLength (newLength (entriesIn lines t) ed)))) (λ e. rw (h, e))

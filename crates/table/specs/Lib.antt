@@ -4,10 +4,7 @@ pub mod Moving
 pub mod MovableLines
 pub mod LinesFrom
 pub mod OneLine
-pub mod Passing
+pub mod Skipping
 pub mod Looking
 pub mod GoodTable
-pub mod GoodSettings
 pub mod EditAlone
-pub mod Heights
-pub mod GoodHeight

@@ -17,7 +17,8 @@ use Rattle.meaning.specs.declared.edit.Edit.{Edit}
 use Rattle.meaning.specs.declared.line.Entry.{Entry}
 use Rattle.meaning.specs.declared.refusals.Checked.the-variants.{Good}
 use Rattle.table.specs.LinesFrom.{linesFrom, lines-more}
-use Rattle.table.specs.GoodTable.{good-more, good-start, good-rest, good-reach, start-after, table-reach, table-text, table-lines}
+use Rattle.laws.specs.GoodLines.{good-more, good-start, good-rest, good-reach, start-after}
+use Rattle.table.specs.GoodTable.{table-reach, table-text, table-lines}
 use Rattle.table.specs.Moving.{MovableEntry, AllMovable}
 
 -- The lines of a table from line j on.

@@ -2,7 +2,7 @@
 -- Assumes nothing.
 use Prim.Native.Nat.{ℕ, suc, _-_}
 use mathlib.Core.Path.{_≡_, refl}
-use mathlib.Core.Bool.{Bool, true, false, _&&_, not}
+use mathlib.Core.Bool.{Bool, true, false, _&&_, _||_, not}
 use mathlib.Core.List.{List, [], _∷_}
 use lib.Dec.{leb, ltb, eqb}
 use Rattle.meaning.specs.WellFormed.{Before, nothing, line, startGood, restGood, endingGood, entryGood}
@@ -14,13 +14,14 @@ abbrev pub beforeOf : LineBefore → Before
 beforeOf Nothing = nothing
 beforeOf (Line start reach) = line (start .0) (reach .0)
 
--- A rest that there is.
-unfoldable pub restWithin : (length reach : ℕ) → Entry → Bool
-restWithin n reach e =
-    ltb (e .start .0) (e .rest .end .0)
-    && leb (e .rest .end .0) n
-    && leb (e .rest .end .0) reach
-    && leb (e .rest .count .0) (e .rest .end .0 - e .start .0)
+-- A start, in a text of n bytes, where the line before starts at `from` and reaches `reached`.
+unfoldable pub startFits : (n from reached start : ℕ) → Bool
+startFits n from reached start = ltb from start && leb start reached && leb start n
+
+-- A rest, or none.
+unfoldable pub restStands : (n reached start end count : ℕ) → Bool
+restStands n reached start end count =
+    (eqb end 0 && eqb count 0) || (ltb start end && leb end n && leb end reached && leb count (end - start))
 
 -- The end type of the last line, or of another.
 unfoldable pub endingAt : (last : Bool) → ℕ → Bool

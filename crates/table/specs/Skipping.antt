@@ -1,10 +1,9 @@
--- Good lines that are not the last, passed one after the other by plain numbers.
+-- Good lines that are not the last, skipped one after the other by plain numbers.
 -- Assumes nothing.
 use Prim.Native.Nat.{ℕ, _+_, _-_, _*_, _≤_}
 use mathlib.Core.Path.{_≡_}
-use mathlib.Core.Bool.{Bool, true, false, _&&_, _||_}
+use mathlib.Core.Bool.{true, false}
 use mathlib.Core.List.{List}
-use lib.Dec.{leb, ltb, eqb}
 use lib.ListN.{length, getD, drop}
 use Rattle.meaning.specs.Table.{entryNumbers, entryIn}
 use Rattle.meaning.specs.WellFormed.{Before, line, checkLines}
@@ -13,21 +12,12 @@ use Rattle.meaning.specs.declared.refusals.Checked.{Checked}
 use Rattle.table.specs.OneLine.{lineGood}
 use Rattle.table.specs.LinesFrom.{linesFrom}
 
--- A start, in a text of n bytes, where the line before starts at `from` and reaches `reached`.
-unfoldable pub startFits : (n from reached start : ℕ) → Bool
-startFits n from reached start = ltb from start && leb start reached && leb start n
-
--- A rest, or none.
-unfoldable pub restStands : (n reached start end count : ℕ) → Bool
-restStands n reached start end count =
-    (eqb end 0 && eqb count 0) || (ltb start end && leb end n && leb end reached && leb count (end - start))
-
 -- The line before the one at a number of the table.
 abbrev pub before : List ℕ → (at : ℕ) → Before
 before t at = line (getD t (at - entryNumbers) 0) (getD t (at - entryNumbers + 9) 0)
 
 -- The line at a number is good, not the last, and its reach at most this.
-pub record Passes (t : List ℕ) (at n most : ℕ) : Type 0 where
+pub record GoodLine (t : List ℕ) (at n most : ℕ) : Type 0 where
   pub good : lineGood n (before t at) (entryIn (drop at t)) false ≡ true
   pub low : getD t (at + 9) 0 ≤ most
 
@@ -35,8 +25,8 @@ pub record Passes (t : List ℕ) (at n most : ℕ) : Type 0 where
 abbrev pub checkFrom : List ℕ → (lines n k : ℕ) → Checked
 checkFrom t lines n k = checkLines n k (before t (entryNumbers * k)) (linesFrom t lines k)
 
--- So do the lines from line j up to line k: the check goes on there, and so does the search for a reach above any a that is as high.
-pub record Passed (t : List ℕ) (lines n most j k : ℕ) : Type 0 where
+-- So are the lines from line j up to line k: the check goes on there, and so does the search for a reach above any a that is as high.
+pub record Skipped (t : List ℕ) (lines n most j k : ℕ) : Type 0 where
   pub forward : j ≤ k
   pub inside : k ≤ lines
   pub check : checkFrom t lines n k ≡ checkFrom t lines n j

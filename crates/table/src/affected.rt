@@ -1,43 +1,26 @@
 // The first line that an edit affects, with all that can be refused of the edit and the table alone.
+use crate::edited::Whole;
+use crate::edited::edited_whole;
 use crate::well_formed::look_over;
 use crate::well_formed::text_length;
+use checks::text::check_length;
 use meaning::answers::Affected;
 use meaning::counts::Offset;
 use meaning::edit::Edit;
 use meaning::refusals::Checked;
 use meaning::refusals::Refusal;
-use meaning::sizes::TEXT_LIMIT;
-ghost use Prim.Native.Nat.{_+_, _-_, _≤_};
 ghost use mathlib.Core.Path.{_≡_};
 ghost use Rattle.meaning.specs.Calls.{affectedAnswer};
 ghost use Rattle.table.specs.EditAlone.{checkPlace};
 
-// The length of the edited whole. 32-bit numbers are added in 64 bits, so that nothing wraps.
-pub fn whole_length(text: Offset, edit: Edit) -> u64
-    requires { ⌜ (edit .from .0 ≤ edit .to .0) × (edit .to .0 ≤ text .0) ⌝ }
-    ensures { λ r. ⌜ r ≡ text .0 + edit .inserted .0 - (edit .to .0 - edit .from .0) ⌝ }
-{
-    let replaced = edit.to.0 - edit.from.0;
-    text.0 as u64 + edit.inserted.0 as u64 - replaced as u64
-}
-
 // Refusals 3 and 6, of an edit of a text of so many bytes.
-fn check_place(text: Offset, edit: Edit) -> Checked
-    ensures { λ r. ⌜ r ≡ checkPlace (text .0) edit ⌝ }
+fn check_place(bytes: Offset, edit: Edit) -> Checked
+    ensures { λ r. ⌜ r ≡ checkPlace (bytes .0) edit ⌝ }
 {
-    let from = edit.from.0;
-    let to = edit.to.0;
-    if to < from {
-        return Checked::Refused(Refusal::BadEdit);
+    match edited_whole(bytes, edit) {
+        Whole::Length(whole) => check_length(whole),
+        Whole::OutOfPlace => Checked::Refused(Refusal::BadEdit),
     }
-    if text.0 < to {
-        return Checked::Refused(Refusal::BadEdit);
-    }
-    let length = whole_length(text, edit);
-    if (TEXT_LIMIT as u64) < length {
-        return Checked::Refused(Refusal::TextTooLong(length));
-    }
-    Checked::Good
 }
 
 // The first line that an edit affects; refusals 3, 5 and 6.

@@ -1,12 +1,10 @@
-// Line tables as numbers: read, written, checked, searched and measured.
+// Line tables as numbers: read, written, checked, searched and moved.
 pub mod affected;
+pub mod edited;
 pub mod entries;
 pub mod events;
-pub mod height;
 pub mod moving;
 pub mod one_line;
-mod passing;
 mod search;
-pub mod spacing;
-pub mod vertical;
+mod skipping;
 pub mod well_formed;

@@ -1,4 +1,5 @@
 // The old lines that follow after an edit, moved within their table.
+use crate::edited::moved_number;
 use crate::entries::read_entry;
 use crate::entries::write_entry;
 use meaning::counts::Offset;
@@ -12,15 +13,6 @@ ghost use Prim.Native.Nat.{_≤_, _<_};
 ghost use mathlib.Core.Path.{_≡_};
 ghost use Rattle.meaning.specs.Edit.{moved, movedRest, movedEntry};
 ghost use Rattle.table.specs.Moving.{MovableEdit, MovableOffset, MovableEntry, Movable, lineMoved, linesMoved};
-
-// An offset behind the replaced bytes, as a number of a table.
-fn moved_number(x: u32, edit: Edit) -> u32
-    requires { ⌜ MovableEdit edit × MovableOffset edit x ⌝ }
-    ensures { λ r. ⌜ r ≡ moved edit x ⌝ }
-{
-    let replaced = edit.to.0 - edit.from.0;
-    x + edit.inserted.0 - replaced
-}
 
 fn moved_offset(x: Offset, edit: Edit) -> Offset
     requires { ⌜ MovableEdit edit × MovableOffset edit (x .0) ⌝ }

@@ -5,7 +5,7 @@ ghost use Prim.Native.Nat.{_≤_};
 ghost use mathlib.Core.Path.{_≡_};
 ghost use Rattle.meaning.specs.Checks.{textLimit};
 ghost use Rattle.meaning.specs.WellFormed.{startGood, noRest, restGood};
-ghost use Rattle.table.specs.OneLine.{beforeOf, restWithin, endingAt, lineGood};
+ghost use Rattle.table.specs.OneLine.{beforeOf, startFits, restStands, endingAt, lineGood};
 
 // What a line is held to of the line before it: that line's start and reach.
 pub enum LineBefore {
@@ -15,41 +15,54 @@ pub enum LineBefore {
 
 // Every test of a line is made, whatever the others say, as in the definitions.
 
-fn start_good(length: Offset, prior: LineBefore, e: Entry) -> bool
-    ensures { λ r. ⌜ r ≡ startGood (length .0) (beforeOf prior) e ⌝ }
+// A start, where the line before starts at `from` and reaches `reached`.
+pub fn start_fits(bytes: u32, from: u32, reached: u32, start: u32) -> bool
+    ensures { λ r. ⌜ r ≡ startFits bytes from reached start ⌝ }
 {
-    let start = e.start.0;
-    match prior {
-        LineBefore::Nothing => start == 0,
-        LineBefore::Line(from, reach) => {
-            (from.0 < start) & (start <= reach.0) & (start <= length.0)
-        }
-    }
+    (from < start) & (start <= reached) & (start <= bytes)
 }
 
-pub fn no_rest(e: Entry) -> bool
+// A rest, or none.
+pub fn rest_stands(bytes: u32, reached: u32, start: u32, end: u32, count: u32) -> bool
+    ensures { λ r. ⌜ r ≡ restStands bytes reached start end count ⌝ }
+{
+    if (end == 0) & (count == 0) {
+        return true;
+    }
+    if end <= start {
+        return false;
+    }
+    (end <= bytes) & (end <= reached) & (count <= end - start)
+}
+
+pub fn has_no_rest(e: Entry) -> bool
     ensures { λ r. ⌜ r ≡ noRest e ⌝ }
 {
     (e.rest.end.0 == 0) & (e.rest.count.0 == 0)
 }
 
-fn rest_within(length: Offset, reach: Offset, e: Entry) -> bool
-    ensures { λ r. ⌜ r ≡ restWithin (length .0) (reach .0) e ⌝ }
+fn start_good(bytes: Offset, prior: LineBefore, e: Entry) -> bool
+    ensures { λ r. ⌜ r ≡ startGood (bytes .0) (beforeOf prior) e ⌝ }
 {
     let start = e.start.0;
-    let end = e.rest.end.0;
-    if end <= start {
-        return false;
+    match prior {
+        LineBefore::Nothing => start == 0,
+        LineBefore::Line(from, reach) => start_fits(bytes.0, from.0, reach.0, start),
     }
-    (end <= length.0) & (end <= reach.0) & (e.rest.count.0 <= end - start)
 }
 
-fn rest_good(length: Offset, prior: LineBefore, e: Entry) -> bool
-    ensures { λ r. ⌜ r ≡ restGood (length .0) (beforeOf prior) e ⌝ }
+fn rest_good(bytes: Offset, prior: LineBefore, e: Entry) -> bool
+    ensures { λ r. ⌜ r ≡ restGood (bytes .0) (beforeOf prior) e ⌝ }
 {
     match prior {
-        LineBefore::Nothing => no_rest(e),
-        LineBefore::Line(_, reach) => no_rest(e) | rest_within(length, reach, e),
+        LineBefore::Nothing => has_no_rest(e),
+        LineBefore::Line(_, reach) => rest_stands(
+            bytes.0,
+            reach.0,
+            e.start.0,
+            e.rest.end.0,
+            e.rest.count.0,
+        ),
     }
 }
 
@@ -63,12 +76,12 @@ pub fn ending_good(last: bool, ending: u32) -> bool
 }
 
 // One line of a text of so many bytes, given the line before it and whether it is the last.
-pub fn entry_good(length: Offset, prior: LineBefore, e: Entry, last: bool) -> bool
-    requires { ⌜ length .0 ≤ textLimit ⌝ }
-    ensures { λ r. ⌜ r ≡ lineGood (length .0) (beforeOf prior) e last ⌝ }
+pub fn entry_good(bytes: Offset, prior: LineBefore, e: Entry, last: bool) -> bool
+    requires { ⌜ bytes .0 ≤ textLimit ⌝ }
+    ensures { λ r. ⌜ r ≡ lineGood (bytes .0) (beforeOf prior) e last ⌝ }
 {
-    let start = start_good(length, prior, e);
-    let rest = rest_good(length, prior, e);
+    let start = start_good(bytes, prior, e);
+    let rest = rest_good(bytes, prior, e);
     let ending = ending_good(last, e.ending);
-    start & rest & ending & (e.reach.0 <= length.0 + 1)
+    start & rest & ending & (e.reach.0 <= bytes.0 + 1)
 }

@@ -2,8 +2,9 @@
 use crate::entries::read_entry;
 use crate::one_line::LineBefore;
 use crate::one_line::entry_good;
-use crate::passing::pass_lines;
 use crate::search::affected_from;
+use crate::skipping::skip_good;
+use basis::numbers::lesser;
 use meaning::answers::Affected;
 use meaning::counts::Offset;
 use meaning::refusals::Checked;
@@ -17,7 +18,7 @@ ghost use lib.ListN.{length};
 ghost use Rattle.meaning.specs.Checks.{textLimit};
 ghost use Rattle.meaning.specs.Table.{entryNumbers, entriesIn};
 ghost use Rattle.meaning.specs.WellFormed.{nothing, lastReach, textLength, checkLines, checkTable};
-ghost use Rattle.table.specs.Passing.{checkFrom};
+ghost use Rattle.table.specs.Skipping.{checkFrom};
 ghost use Rattle.table.specs.Looking.{lookedOver};
 
 // The reach of the last line, 0 if there is none.
@@ -45,9 +46,9 @@ pub fn text_length(table: &[u32], lines: usize) -> Offset
 }
 
 // The first bad line from line j on, which is not the first line.
-fn check_on(table: &[u32], lines: usize, text: Offset, j: usize) -> Checked
-    requires { ⌜ (1 ≤ j) × (j ≤ lines) × (entryNumbers * lines ≤ length (now table)) × (text .0 ≤ textLimit) ⌝ }
-    ensures { λ r. ⌜ r ≡ checkFrom (now (table .entry)) lines (text .0) j ⌝ }
+fn check_on(table: &[u32], lines: usize, bytes: Offset, j: usize) -> Checked
+    requires { ⌜ (1 ≤ j) × (j ≤ lines) × (entryNumbers * lines ≤ length (now table)) × (bytes .0 ≤ textLimit) ⌝ }
+    ensures { λ r. ⌜ r ≡ checkFrom (now (table .entry)) lines (bytes .0) j ⌝ }
 {
     let mut k: usize = j;
     while k < lines {
@@ -57,7 +58,7 @@ fn check_on(table: &[u32], lines: usize, text: Offset, j: usize) -> Checked
         let reached = table[before + REACH];
         let prior = LineBefore::Line(Offset(from), Offset(reached));
         let next = k + 1;
-        if !entry_good(text, prior, e, next == lines) {
+        if !entry_good(bytes, prior, e, next == lines) {
             return Checked::Refused(Refusal::BadLine(k as u64));
         }
         k = next;
@@ -65,24 +66,16 @@ fn check_on(table: &[u32], lines: usize, text: Offset, j: usize) -> Checked
     Checked::Good
 }
 
-fn smaller(a: u32, b: u32) -> u32
-    ensures { λ r. ⌜ (r ≤ a) × (r ≤ b) ⌝ }
+// The lines behind the first: good ones with reach <= a are skipped, then the other good ones. What is left is looked at once more,
+// in the plain way, and that answers.
+fn look_behind(table: &[u32], lines: usize, bytes: Offset, a: Offset) -> Affected
+    requires { ⌜ (1 ≤ lines) × (entryNumbers * lines ≤ length (now table)) × (bytes .0 ≤ textLimit) ⌝ }
+    ensures { λ r. ⌜ r ≡ lookedOver (a .0) (checkFrom (now (table .entry)) lines (bytes .0) 1) (entriesIn lines (now (table .entry))) ⌝ }
 {
-    if a < b {
-        return a;
-    }
-    b
-}
-
-// The lines behind the first: those with reach <= a are passed, then the others. What does not pass is looked at once more.
-fn look_behind(table: &[u32], lines: usize, text: Offset, a: Offset) -> Affected
-    requires { ⌜ (1 ≤ lines) × (entryNumbers * lines ≤ length (now table)) × (text .0 ≤ textLimit) ⌝ }
-    ensures { λ r. ⌜ r ≡ lookedOver (a .0) (checkFrom (now (table .entry)) lines (text .0) 1) (entriesIn lines (now (table .entry))) ⌝ }
-{
-    let most = text.0 + 1;
-    let low = pass_lines(table, lines, 1, text.0, smaller(a.0, most));
-    let good = pass_lines(table, lines, low, text.0, most);
-    let checked = check_on(table, lines, text, good);
+    let most = bytes.0 + 1;
+    let low = skip_good(table, lines, 1, bytes.0, lesser(a.0, most));
+    let good = skip_good(table, lines, low, bytes.0, most);
+    let checked = check_on(table, lines, bytes, good);
     if let Checked::Refused(r) = checked {
         return Affected::Refused(r);
     }
@@ -93,18 +86,18 @@ fn look_behind(table: &[u32], lines: usize, text: Offset, a: Offset) -> Affected
 }
 
 // The lines of a text of so many bytes: the first bad one, or the first with reach > a.
-fn look_lines(table: &[u32], lines: usize, text: Offset, a: Offset) -> Affected
-    requires { ⌜ (1 ≤ lines) × (entryNumbers * lines ≤ length (now table)) × (text .0 ≤ textLimit) ⌝ }
-    ensures { λ r. ⌜ r ≡ lookedOver (a .0) (checkLines (text .0) 0 nothing (entriesIn lines (now (table .entry)))) (entriesIn lines (now (table .entry))) ⌝ }
+fn look_lines(table: &[u32], lines: usize, bytes: Offset, a: Offset) -> Affected
+    requires { ⌜ (1 ≤ lines) × (entryNumbers * lines ≤ length (now table)) × (bytes .0 ≤ textLimit) ⌝ }
+    ensures { λ r. ⌜ r ≡ lookedOver (a .0) (checkLines (bytes .0) 0 nothing (entriesIn lines (now (table .entry)))) (entriesIn lines (now (table .entry))) ⌝ }
 {
     let e = read_entry(table, 0);
-    if !entry_good(text, LineBefore::Nothing, e, 1 == lines) {
+    if !entry_good(bytes, LineBefore::Nothing, e, 1 == lines) {
         return Affected::Refused(Refusal::BadLine(0));
     }
-    look_behind(table, lines, text, a)
+    look_behind(table, lines, bytes, a)
 }
 
-// Refusal 5, of any numbers and any count of lines; or else the first line with reach > a, found in the same pass.
+// Refusal 5, of any numbers and any count of lines; or else the first line with reach > a, found in the same look.
 pub fn look_over(table: &[u32], lines: usize, a: Offset) -> Affected
     ensures { λ r. ⌜ r ≡ lookedOver (a .0) (checkTable lines (now (table .entry))) (entriesIn lines (now (table .entry))) ⌝ }
 {

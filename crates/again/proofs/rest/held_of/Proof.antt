@@ -7,8 +7,8 @@ use borrow.Author.Needs.{needs}
 use Rattle.again.proofs.rest.held_of.Statement.{statement}
 use Rattle.again.proofs.rest.held_of.Tie as tie
 
-no-rest-requires : tie.Need-no-rest-requires
-no-rest-requires c κs = search needs
+has-no-rest-requires : tie.Need-has-no-rest-requires
+has-no-rest-requires c κs = search needs
 
 nothing-requires : tie.Need-nothing-requires
 nothing-requires c κs = search needs
@@ -16,7 +16,7 @@ nothing-requires c κs = search needs
 returns : tie.Need-returns
 returns c =
     let none = c .before in
-    resumed-none _ _ (sym (none .before .no-rest .ensures) ∙ none .if1 .taken) _ (c .nothing .ensures)
+    resumed-none _ _ (sym (none .before .has-no-rest .ensures) ∙ none .if1 .taken) _ (c .nothing .ensures)
 
 rest-end-requires : tie.Need-rest-end-requires
 rest-end-requires c κs = search needs
@@ -25,7 +25,7 @@ chars-before-requires : tie.Need-chars-before-requires
 chars-before-requires c κs =
     let some = c .before in
     let p = some .before .before .before .pre in
-    (p .0, ends-there _ _ (p .0) (sym (some .before .no-rest .ensures) ∙ some .if1 .left) _ (c .rest-end .ensures) (p .1))
+    (p .0, ends-there _ _ (p .0) (sym (some .before .has-no-rest .ensures) ∙ some .if1 .left) _ (c .rest-end .ensures) (p .1))
 
 cast-t7 : tie.Need-cast-t7
 cast-t7 c = search needs
@@ -39,7 +39,7 @@ cast-t9 c =
     omega (
       arith,
       p .2,
-      few-chars _ _ (p .0) (sym (some .before .no-rest .ensures) ∙ some .if1 .left) _ (end .rest-end .ensures) _
+      few-chars _ _ (p .0) (sym (some .before .has-no-rest .ensures) ∙ some .if1 .left) _ (end .rest-end .ensures) _
           (chars .chars-before .ensures),
     )
 
@@ -49,13 +49,13 @@ returns-2 c =
     let end = chars .before in
     let some = end .before in
     let p = some .before .before .before .pre in
-    resumed-some _ _ (p .0) (sym (some .before .no-rest .ensures) ∙ some .if1 .left) _ (end .rest-end .ensures) _ (chars .chars-before .ensures)
+    resumed-some _ _ (p .0) (sym (some .before .has-no-rest .ensures) ∙ some .if1 .left) _ (end .rest-end .ensures) _ (chars .chars-before .ensures)
 
 pub held-of-spec : {M : Type 1} → statement M
 held-of-spec =
     tie.close
     (tie.spec
-    no-rest-requires
+    has-no-rest-requires
     nothing-requires
     returns
     rest-end-requires

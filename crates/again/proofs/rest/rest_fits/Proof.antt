@@ -8,11 +8,11 @@ use borrow.Author.Needs.{needs}
 use Rattle.again.proofs.rest.rest_fits.Statement.{statement}
 use Rattle.again.proofs.rest.rest_fits.Tie as tie
 
-no-rest-requires : tie.Need-no-rest-requires
-no-rest-requires c κs = search needs
+has-no-rest-requires : tie.Need-has-no-rest-requires
+has-no-rest-requires c κs = search needs
 
 returns : tie.Need-returns
-returns c = fits-none _ _ (sym (c .before .no-rest .ensures) ∙ c .if1 .taken)
+returns c = fits-none _ _ (sym (c .before .has-no-rest .ensures) ∙ c .if1 .taken)
 
 rest-end-requires : tie.Need-rest-end-requires
 rest-end-requires c κs = search needs
@@ -26,7 +26,7 @@ returns-2 c =
     let end = b .before in
     let some = end .before in
     let start = some .before .before .before in
-    no-boundary _ _ (start .pre) (sym (some .before .no-rest .ensures) ∙ some .if1 .left) _ (end .rest-end .ensures)
+    no-boundary _ _ (start .pre) (sym (some .before .has-no-rest .ensures) ∙ some .if1 .left) _ (end .rest-end .ensures)
     (sym (b .is-boundary .ensures) ∙ not-true (b .is-boundary .result) (c .if2 .taken))
 
 cast-result : tie.Need-cast-result
@@ -40,7 +40,7 @@ chars-before-requires c κs =
     let some = end .before in
     let start = some .before .before .before in (
       start .pre,
-      a-boundary _ _ (start .pre) (sym (some .before .no-rest .ensures) ∙ some .if1 .left) _ (end .rest-end .ensures)
+      a-boundary _ _ (start .pre) (sym (some .before .has-no-rest .ensures) ∙ some .if1 .left) _ (end .rest-end .ensures)
           (sym (b .is-boundary .ensures) ∙ not-false (b .is-boundary .result) (n .if2 .left)),
     )
 
@@ -51,14 +51,14 @@ returns-3 c =
     let end = b .before in
     let some = end .before in
     let start = some .before .before .before in
-    counts-few _ _ (start .pre) (sym (some .before .no-rest .ensures) ∙ some .if1 .left) _ (end .rest-end .ensures) _
+    counts-few _ _ (start .pre) (sym (some .before .has-no-rest .ensures) ∙ some .if1 .left) _ (end .rest-end .ensures) _
     (sym (b .is-boundary .ensures) ∙ not-false (b .is-boundary .result) (n .if2 .left)) (c .chars-before .ensures)
 
 pub rest-fits-spec : {M : Type 1} → statement M
 rest-fits-spec =
     tie.close
     (tie.spec
-    no-rest-requires
+    has-no-rest-requires
     returns
     rest-end-requires
     is-boundary-requires

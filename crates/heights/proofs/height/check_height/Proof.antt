@@ -1,10 +1,10 @@
--- `table::height::check_height` meets its contract.
+-- `heights::height::check_height` meets its contract.
 -- Assumes nothing.
 use mathlib.Core.Path.{sym, _∙_}
 use borrow.Author.Needs.{needs}
-use Rattle.table.specs.GoodHeight.{height-checked, height-bad}
-use Rattle.table.proofs.height.check_height.Statement.{statement}
-use Rattle.table.proofs.height.check_height.Tie as tie
+use Rattle.heights.specs.GoodHeight.{height-checked, height-bad}
+use Rattle.heights.proofs.height.check_height.Statement.{statement}
+use Rattle.heights.proofs.height.check_height.Tie as tie
 
 check-settings-requires : tie.Need-check-settings-requires
 check-settings-requires c κs = search needs

@@ -1,4 +1,4 @@
--- `table::height::height_of` meets its contract.
+-- `heights::height::height_of` meets its contract.
 -- Assumes nothing.
 use Prim.Native.Nat.{ℕ, _+_, _-_}
 use mathlib.Core.Path.{_≡_, ap}
@@ -6,10 +6,10 @@ use native.Mathlib.Omega.{arith}
 use Rattle.meaning.specs.Height.{heightOf}
 use Rattle.meaning.specs.WellFormed.{textLength}
 use Rattle.meaning.specs.Table.{entriesIn}
-use Rattle.table.specs.GoodHeight.{few-held, left-within, height-is, height-small}
-use Rattle.table.specs.Heights.{notCounted}
-use Rattle.table.proofs.height.height_of.Statement.{statement}
-use Rattle.table.proofs.height.height_of.Tie as tie
+use Rattle.heights.specs.GoodHeight.{few-held, left-within, height-is, height-small}
+use Rattle.heights.specs.Heights.{notCounted}
+use Rattle.heights.proofs.height.height_of.Statement.{statement}
+use Rattle.heights.proofs.height.height_of.Tie as tie
 
 added-before-requires : tie.Need-added-before-requires
 added-before-requires c κs =

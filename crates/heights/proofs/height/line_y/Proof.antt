@@ -1,4 +1,4 @@
--- `table::height::line_y` meets its contract.
+-- `heights::height::line_y` meets its contract.
 -- Assumes nothing.
 use mathlib.Core.Path.{_≡_, sym, ap, _∙_}
 use borrow.Author.Needs.{needs}
@@ -7,10 +7,10 @@ use mir.Syntax.{w32}
 use mir.Val.{SFits}
 use Rattle.meaning.specs.declared.refusals.Checked.the-variants.{Good}
 use Rattle.meaning.specs.Calls.{checkHeight}
-use Rattle.table.specs.Heights.{shownAt}
-use Rattle.table.specs.GoodHeight.{height-measures, no-line, y-answered, y-refused}
-use Rattle.table.proofs.height.line_y.Statement.{statement}
-use Rattle.table.proofs.height.line_y.Tie as tie
+use Rattle.heights.specs.Heights.{shownAt}
+use Rattle.heights.specs.GoodHeight.{height-measures, no-line, y-answered, y-refused}
+use Rattle.heights.proofs.height.line_y.Statement.{statement}
+use Rattle.heights.proofs.height.line_y.Tie as tie
 
 check-height-requires : tie.Need-check-height-requires
 check-height-requires c κs = search needs

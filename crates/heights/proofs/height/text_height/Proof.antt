@@ -1,13 +1,13 @@
--- `table::height::text_height` meets its contract.
+-- `heights::height::text_height` meets its contract.
 -- Assumes nothing.
 use mathlib.Core.Path.{_≡_, sym, ap, _∙_}
 use borrow.Author.Needs.{needs}
 use Rattle.meaning.specs.declared.answers.Height.the-variants.{Pixels}
 use Rattle.meaning.specs.declared.refusals.Checked.the-variants.{Good}
 use Rattle.meaning.specs.Calls.{checkHeight}
-use Rattle.table.specs.GoodHeight.{height-answered, height-refused}
-use Rattle.table.proofs.height.text_height.Statement.{statement}
-use Rattle.table.proofs.height.text_height.Tie as tie
+use Rattle.heights.specs.GoodHeight.{height-answered, height-refused}
+use Rattle.heights.proofs.height.text_height.Statement.{statement}
+use Rattle.heights.proofs.height.text_height.Tie as tie
 
 check-height-requires : tie.Need-check-height-requires
 check-height-requires c κs = search needs

@@ -1,4 +1,4 @@
--- `table::height::y_of` meets its contract.
+-- `heights::height::y_of` meets its contract.
 -- Assumes nothing.
 use Prim.Native.Nat.{ℕ, _≤_}
 use mathlib.Core.Path.{_∙_}
@@ -6,11 +6,11 @@ use native.Mathlib.Omega.{arith}
 use borrow.Author.Needs.{needs}
 use lib.Signed.{mag}
 use lib.IntN.{ℤ, pos}
-use Rattle.table.specs.GoodHeight.{height-measures, few-held, little-added, height-small}
-use Rattle.table.proofs.Upright.{offset-limit, sum-fits, y-fits, y-is, y-parts}
-use Rattle.table.proofs.Signs.{fits}
-use Rattle.table.proofs.height.y_of.Statement.{statement}
-use Rattle.table.proofs.height.y_of.Tie as tie
+use Rattle.heights.specs.GoodHeight.{height-measures, few-held, little-added, height-small}
+use Rattle.heights.proofs.Upright.{offset-limit, sum-fits, y-fits, y-is, y-parts}
+use Rattle.heights.proofs.Signs.{fits}
+use Rattle.heights.proofs.height.y_of.Statement.{statement}
+use Rattle.heights.proofs.height.y_of.Tie as tie
 
 height-of-requires : tie.Need-height-of-requires
 height-of-requires c κs = search needs

@@ -1,4 +1,4 @@
--- `table::spacing::added_before` meets its contract.
+-- `heights::spacing::added_before` meets its contract.
 -- Assumes nothing.
 use Prim.Native.Nat.{_+_, _-_, _≤_}
 use mathlib.Core.Path.{_≡_}
@@ -6,11 +6,11 @@ use native.Mathlib.Omega.{arith}
 use borrow.Author.Needs.{needs}
 use Rattle.meaning.specs.Height.{addedBefore}
 use Rattle.meaning.specs.Table.{entriesIn}
-use Rattle.table.specs.Heights.{added-small}
+use Rattle.heights.specs.Heights.{added-small}
 use Rattle.table.specs.LinesFrom.{linesFrom}
-use Rattle.table.proofs.Adding.{added-start, added-more, added-end}
-use Rattle.table.proofs.spacing.added_before.Statement.{statement}
-use Rattle.table.proofs.spacing.added_before.Tie as tie
+use Rattle.heights.proofs.Adding.{added-start, added-more, added-end}
+use Rattle.heights.proofs.spacing.added_before.Statement.{statement}
+use Rattle.heights.proofs.spacing.added_before.Tie as tie
 
 abbrev Inv-loop : tie.InvT-loop
 Inv-loop s table k sum₀ i₀ sum i =

@@ -1,9 +1,9 @@
--- `table::spacing::end_adds` meets its contract.
+-- `heights::spacing::end_adds` meets its contract.
 -- Assumes nothing.
 use borrow.Author.Needs.{needs}
-use Rattle.table.proofs.Adding.{end-new, end-break, end-other}
-use Rattle.table.proofs.spacing.end_adds.Statement.{statement}
-use Rattle.table.proofs.spacing.end_adds.Tie as tie
+use Rattle.heights.proofs.Adding.{end-new, end-break, end-other}
+use Rattle.heights.proofs.spacing.end_adds.Statement.{statement}
+use Rattle.heights.proofs.spacing.end_adds.Tie as tie
 
 add-result : tie.Need-add-result
 add-result c = search needs

@@ -1,12 +1,12 @@
--- `table::spacing::not_counted` meets its contract.
+-- `heights::spacing::not_counted` meets its contract.
 -- Assumes nothing.
 use borrow.Author.Needs.{needs}
-use Rattle.table.proofs.Adding.{left-few, left-ending, left-start, left-out}
-use Rattle.table.proofs.spacing.not_counted.Statement.{statement}
-use Rattle.table.proofs.spacing.not_counted.Tie as tie
+use Rattle.heights.proofs.Adding.{left-few, left-ending, left-start, left-out}
+use Rattle.heights.proofs.spacing.not_counted.Statement.{statement}
+use Rattle.heights.proofs.spacing.not_counted.Tie as tie
 
 returns : tie.Need-returns
-returns c = let a = c .before .args in left-few (a .s) (a .text .0) (a .lines) (a .table .now) (c .if1 .taken)
+returns c = let a = c .before .args in left-few (a .s) (a .bytes .0) (a .lines) (a .table .now) (c .if1 .taken)
 
 mul-at : tie.Need-mul-at
 mul-at c = search needs
@@ -24,7 +24,7 @@ returns-2 : tie.Need-returns-2
 returns-2 c =
     let l = c .before .before in
     let a = l .before .args in
-    left-ending (a .s) (a .text .0) (a .lines) (a .table .now) (l .if1 .left) (c .if2 .taken)
+    left-ending (a .s) (a .bytes .0) (a .lines) (a .table .now) (l .if1 .left) (c .if2 .taken)
 
 add-if3 : tie.Need-add-if3
 add-if3 c = search needs
@@ -40,14 +40,14 @@ returns-3 c =
     let m = c .before .before .before in
     let l = m .before .before in
     let a = l .before .args in
-    left-start (a .s) (a .text .0) (a .lines) (a .table .now) (l .if1 .left) (m .if2 .left) (c .if3 .taken)
+    left-start (a .s) (a .bytes .0) (a .lines) (a .table .now) (l .if1 .left) (m .if2 .left) (c .if3 .taken)
 
 returns-4 : tie.Need-returns-4
 returns-4 c =
     let m = c .before .before .before in
     let l = m .before .before in
     let a = l .before .args in
-    left-out (a .s) (a .text .0) (a .lines) (a .table .now) (l .if1 .left) (m .if2 .left) (c .if3 .left)
+    left-out (a .s) (a .bytes .0) (a .lines) (a .table .now) (l .if1 .left) (m .if2 .left) (c .if3 .left)
 
 pub not-counted-spec : {M : Type 1} → statement M
 not-counted-spec =

@@ -1,10 +1,10 @@
--- `table::vertical::shown_at` meets its contract.
+-- `heights::vertical::shown_at` meets its contract.
 -- Assumes nothing.
 use mathlib.Core.Path.{sym, _∙_}
 use borrow.Author.Needs.{needs}
-use Rattle.table.proofs.Upright.{shown, hidden}
-use Rattle.table.proofs.vertical.shown_at.Statement.{statement}
-use Rattle.table.proofs.vertical.shown_at.Tie as tie
+use Rattle.heights.proofs.Upright.{shown, hidden}
+use Rattle.heights.proofs.vertical.shown_at.Statement.{statement}
+use Rattle.heights.proofs.vertical.shown_at.Tie as tie
 
 shows-requires : tie.Need-shows-requires
 shows-requires c κs = search needs

@@ -1,9 +1,9 @@
--- `table::vertical::shows` meets its contract.
+-- `heights::vertical::shows` meets its contract.
 -- Assumes nothing.
 use borrow.Author.Needs.{needs}
-use Rattle.table.proofs.Upright.{bottom-fits, lowest-fits, shows-is}
-use Rattle.table.proofs.vertical.shows.Statement.{statement}
-use Rattle.table.proofs.vertical.shows.Tie as tie
+use Rattle.heights.proofs.Upright.{bottom-fits, lowest-fits, shows-is}
+use Rattle.heights.proofs.vertical.shows.Statement.{statement}
+use Rattle.heights.proofs.vertical.shows.Tie as tie
 
 cast-lowest : tie.Need-cast-lowest
 cast-lowest c = search needs

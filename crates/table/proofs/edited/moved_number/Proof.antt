@@ -1,10 +1,10 @@
--- `table::moving::moved_number` meets its contract.
+-- `table::edited::moved_number` meets its contract.
 -- Assumes nothing.
 use native.Mathlib.Omega.{arith}
 use borrow.Author.Needs.{needs}
 use Rattle.meaning.specs.Edit.{moved}
-use Rattle.table.proofs.moving.moved_number.Statement.{statement}
-use Rattle.table.proofs.moving.moved_number.Tie as tie
+use Rattle.table.proofs.edited.moved_number.Statement.{statement}
+use Rattle.table.proofs.edited.moved_number.Tie as tie
 
 sub-replaced : tie.Need-sub-replaced
 sub-replaced c = search needs

@@ -23,7 +23,7 @@ returns c =
     let r = g .before in
     let t = r .before in
     let s = t .before in
-    all-tests (s .args .length .0) (s .args .e) (s .args .prior) (s .args .last) _ _ _ (t .start-good .ensures)
+    all-tests (s .args .bytes .0) (s .args .e) (s .args .prior) (s .args .last) _ _ _ (t .start-good .ensures)
     (r .rest-good .ensures) (g .ending-good .ensures)
 
 pub entry-good-spec : {M : Type 1} → statement M

@@ -1,13 +1,13 @@
--- `table::one_line::no_rest` meets its contract.
+-- `table::one_line::has_no_rest` meets its contract.
 -- Assumes nothing.
 use mathlib.Core.Path.{refl}
 use Rattle.meaning.specs.WellFormed.{noRest}
-use Rattle.table.proofs.one_line.no_rest.Statement.{statement}
-use Rattle.table.proofs.one_line.no_rest.Tie as tie
+use Rattle.table.proofs.one_line.has_no_rest.Statement.{statement}
+use Rattle.table.proofs.one_line.has_no_rest.Tie as tie
 
 returns : tie.Need-returns
 unfolding noRest
 returns c = refl
 
-pub no-rest-spec : {M : Type 1} → statement M
-no-rest-spec = tie.close (tie.spec returns)
+pub has-no-rest-spec : {M : Type 1} → statement M
+has-no-rest-spec = tie.close (tie.spec returns)

@@ -1,9 +1,9 @@
--- `table::passing::rest_stands` meets its contract.
+-- `table::one_line::rest_stands` meets its contract.
 -- Assumes nothing.
 use borrow.Author.Needs.{needs}
-use Rattle.table.proofs.PassTurns.{stands-none, stands-short, stands-tested}
-use Rattle.table.proofs.passing.rest_stands.Statement.{statement}
-use Rattle.table.proofs.passing.rest_stands.Tie as tie
+use Rattle.table.proofs.Judging.{stands-none, stands-short, stands-tested}
+use Rattle.table.proofs.one_line.rest_stands.Statement.{statement}
+use Rattle.table.proofs.one_line.rest_stands.Tie as tie
 
 returns : tie.Need-returns
 returns c = stands-none _ _ _ _ _ (c .if1 .taken)

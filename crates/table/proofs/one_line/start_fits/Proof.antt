@@ -1,9 +1,9 @@
--- `table::passing::start_fits` meets its contract.
+-- `table::one_line::start_fits` meets its contract.
 -- Assumes nothing.
 use mathlib.Core.Path.{refl}
-use Rattle.table.specs.Passing.{startFits}
-use Rattle.table.proofs.passing.start_fits.Statement.{statement}
-use Rattle.table.proofs.passing.start_fits.Tie as tie
+use Rattle.table.specs.OneLine.{startFits}
+use Rattle.table.proofs.one_line.start_fits.Statement.{statement}
+use Rattle.table.proofs.one_line.start_fits.Tie as tie
 
 returns : tie.Need-returns
 unfolding startFits

@@ -1,4 +1,4 @@
--- `table::passing::line_passes` meets its contract.
+-- `table::skipping::line_is_good` meets its contract.
 -- Assumes nothing.
 use Prim.Native.Nat.{_+_}
 use mathlib.Core.Path.{sym, ap, _∙_}
@@ -7,9 +7,9 @@ use borrow.Author.Needs.{needs}
 use borrow.Author.Tests.{not-false}
 use lib.Dec.{leb}
 use lib.ListN.{getD}
-use Rattle.table.proofs.PassTurns.{no-pass, all-pass}
-use Rattle.table.proofs.passing.line_passes.Statement.{statement}
-use Rattle.table.proofs.passing.line_passes.Tie as tie
+use Rattle.table.proofs.SkipTurns.{not-good, all-good}
+use Rattle.table.proofs.skipping.line_is_good.Statement.{statement}
+use Rattle.table.proofs.skipping.line_is_good.Tie as tie
 
 mul-start : tie.Need-mul-start
 mul-start c = search needs
@@ -39,7 +39,7 @@ start-fits-requires : tie.Need-start-fits-requires
 start-fits-requires c κs = search needs
 
 returns : tie.Need-returns
-returns c = no-pass
+returns c = not-good
 
 add-end : tie.Need-add-end
 add-end c = search needs
@@ -63,7 +63,7 @@ rest-stands-requires : tie.Need-rest-stands-requires
 rest-stands-requires c κs = search needs
 
 returns-2 : tie.Need-returns-2
-returns-2 c = no-pass
+returns-2 c = not-good
 
 add-ending : tie.Need-add-ending
 add-ending c = search needs
@@ -93,13 +93,13 @@ returns-3 c e =
     let start-passed = rest .before .before .before in
     let fits = start-passed .before in
     let s = fits .before .before .before .before .before in
-    all-pass (s .args .table .now) (s .args .at) (s .args .text) (s .args .most) (s .pre .2)
+    all-good (s .args .table .now) (s .args .at) (s .args .bytes) (s .args .most) (s .pre .2)
     (sym (fits .start-fits .ensures) ∙ not-false _ (start-passed .if1 .left))
     (sym (rest .rest-stands .ensures) ∙ not-false _ (rest-passed .if2 .left))
     (ap (λ (b : Bool). b && leb (getD (s .args .table .now) (s .args .at + 9) 0) (s .args .most)) (sym (c .ending-good .ensures)) ∙ e)
 
-pub line-passes-spec : {M : Type 1} → statement M
-line-passes-spec =
+pub line-is-good-spec : {M : Type 1} → statement M
+line-is-good-spec =
     tie.close
     (tie.spec
     mul-start

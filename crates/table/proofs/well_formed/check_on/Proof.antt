@@ -6,18 +6,18 @@ use native.Mathlib.Omega.{arith}
 use borrow.Author.Needs.{needs}
 use borrow.Author.Tests.{not-true, not-false}
 use Rattle.meaning.specs.Table.{entryNumbers}
-use Rattle.table.specs.Passing.{before, checkFrom}
+use Rattle.table.specs.Skipping.{before, checkFrom}
 use Rattle.table.proofs.LineByLine.{lines-done, line-bad}
-use Rattle.table.proofs.PassTurns.{line-on}
+use Rattle.table.proofs.SkipTurns.{line-on}
 use Rattle.table.proofs.well_formed.check_on.Statement.{statement}
 use Rattle.table.proofs.well_formed.check_on.Tie as tie
 
 abbrev Inv-loop : tie.InvT-loop
-Inv-loop table lines text j k₀ k =
-    (checkFrom table lines (text .0) k ≡ checkFrom table lines (text .0) j) × (1 ≤ k) × (k ≤ lines)
+Inv-loop table lines bytes j k₀ k =
+    (checkFrom table lines (bytes .0) k ≡ checkFrom table lines (bytes .0) j) × (1 ≤ k) × (k ≤ lines)
 
 abbrev μ-loop : tie.MeasureT-loop
-μ-loop table lines text j k₀ k = lines - k
+μ-loop table lines bytes j k₀ k = lines - k
 
 loop-holds : tie.Need-loop-holds Inv-loop μ-loop
 loop-holds c = (refl, search needs, search needs)
@@ -59,7 +59,7 @@ returns c =
     let l = r .before .before in
     let s = l .before .before in
     sym (line-bad (s .args .table .now) (s .args .lines) (l .loop .k) (r .before .loop-test .taken) (r .read-entry .result)
-    (r .read-entry .ensures) (s .args .text .0) (before (s .args .table .now) (entryNumbers * l .loop .k))
+    (r .read-entry .ensures) (s .args .bytes .0) (before (s .args .table .now) (entryNumbers * l .loop .k))
     (sym (g .entry-good .ensures) ∙ not-true (g .entry-good .result) (c .if1 .taken))) ∙ l .loop .inv .0
 
 loop-less : tie.Need-loop-less Inv-loop μ-loop
@@ -71,7 +71,7 @@ loop-again c =
     let r = g .before .before .before in
     let l = r .before .before in
     let s = l .before .before in (
-      sym (line-on (s .args .table .now) (s .args .lines) (s .args .text .0) (l .loop .k) (r .before .loop-test .taken)
+      sym (line-on (s .args .table .now) (s .args .lines) (s .args .bytes .0) (l .loop .k) (r .before .loop-test .taken)
           (r .read-entry .result) (r .read-entry .ensures)
           (sym (g .entry-good .ensures) ∙ not-false (g .entry-good .result) (c .if1 .left))) ∙ l .loop .inv .0,
       omega arith,
@@ -82,7 +82,7 @@ returns-2 : tie.Need-returns-2 Inv-loop μ-loop
 returns-2 c =
     let l = c .before in
     let s = l .before .before in
-    sym (lines-done (s .args .table .now) (s .args .lines) (l .loop .k) (s .args .text .0)
+    sym (lines-done (s .args .table .now) (s .args .lines) (l .loop .k) (s .args .bytes .0)
     (before (s .args .table .now) (entryNumbers * l .loop .k)) (c .loop-test .left)) ∙ l .loop .inv .0
 
 pub check-on-spec : {M : Type 1} → statement M

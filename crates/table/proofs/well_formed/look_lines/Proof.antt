@@ -6,7 +6,7 @@ use borrow.Author.Tests.{not-true, not-false}
 use Rattle.meaning.specs.Table.{entriesIn}
 use Rattle.meaning.specs.declared.refusals.Checked.{Checked}
 use Rattle.table.specs.Looking.{lookedOver, looked-bad}
-use Rattle.table.proofs.PassTurns.{first-on, first-bad}
+use Rattle.table.proofs.SkipTurns.{first-on, first-bad}
 use Rattle.table.proofs.well_formed.look_lines.Statement.{statement}
 use Rattle.table.proofs.well_formed.look_lines.Tie as tie
 
@@ -21,7 +21,7 @@ returns c =
     let g = c .before in
     let r = g .before in
     let s = r .before .before in
-    looked-bad _ _ _ _ (first-bad (s .args .table .now) (s .args .lines) (s .args .text .0) (s .pre .0) (r .read-entry .result) (r .read-entry .ensures)
+    looked-bad _ _ _ _ (first-bad (s .args .table .now) (s .args .lines) (s .args .bytes .0) (s .pre .0) (r .read-entry .result) (r .read-entry .ensures)
     (sym (g .entry-good .ensures) ∙ not-true (g .entry-good .result) (c .if1 .taken)))
 
 look-behind-requires : tie.Need-look-behind-requires
@@ -36,7 +36,7 @@ returns-2 c =
     let es = entriesIn (s .args .lines) (s .args .table .now) in
     c .look-behind .ensures
     ∙ ap (λ (k : Checked). lookedOver (s .args .a .0) k es)
-    (sym (first-on (s .args .table .now) (s .args .lines) (s .args .text .0) (s .pre .0) (r .read-entry .result) (r .read-entry .ensures)
+    (sym (first-on (s .args .table .now) (s .args .lines) (s .args .bytes .0) (s .pre .0) (r .read-entry .result) (r .read-entry .ensures)
     (sym (g .entry-good .ensures) ∙ not-false (g .entry-good .result) (e .if1 .left))))
 
 pub look-lines-spec : {M : Type 1} → statement M

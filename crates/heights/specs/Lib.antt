@@ -1,0 +1,3 @@
+pub mod GoodSettings
+pub mod Heights
+pub mod GoodHeight

@@ -1,0 +1,55 @@
+// An edit of a text of so many bytes: how long the text is then, and where an offset behind the edit comes to stand.
+use basis::numbers::less_wide;
+use meaning::counts::Offset;
+use meaning::edit::Edit;
+ghost use Prim.Native.Nat.{_+_, _-_, _≤_};
+ghost use mathlib.Core.Path.{_≡_};
+ghost use Rattle.meaning.specs.Edit.{moved};
+ghost use Rattle.table.specs.EditAlone.{editedWhole};
+ghost use Rattle.table.specs.Moving.{MovableEdit, MovableOffset};
+
+// The length of the edited whole; or the edit does not replace bytes of the text.
+pub enum Whole {
+    Length(u64),
+    OutOfPlace,
+}
+
+// The length of the edited whole. 32-bit numbers are added in 64 bits, so that nothing wraps.
+pub fn whole_length(bytes: Offset, edit: Edit) -> u64
+    requires { ⌜ (edit .from .0 ≤ edit .to .0) × (edit .to .0 ≤ bytes .0) ⌝ }
+    ensures { λ r. ⌜ r ≡ bytes .0 + edit .inserted .0 - (edit .to .0 - edit .from .0) ⌝ }
+{
+    let replaced = edit.to.0 - edit.from.0;
+    bytes.0 as u64 + edit.inserted.0 as u64 - replaced as u64
+}
+
+// The same of any edit: a <= b <= length is what makes it one of this text.
+pub fn edited_whole(bytes: Offset, edit: Edit) -> Whole
+    ensures { λ r. ⌜ r ≡ editedWhole (bytes .0) edit ⌝ }
+{
+    if edit.to.0 < edit.from.0 {
+        return Whole::OutOfPlace;
+    }
+    if bytes.0 < edit.to.0 {
+        return Whole::OutOfPlace;
+    }
+    Whole::Length(whole_length(bytes, edit))
+}
+
+// An offset behind the replaced bytes, moved by the change of length. Any edit and any number will do.
+pub fn moved_to(edit: Edit, x: u32) -> u64
+    ensures { λ r. ⌜ r ≡ moved edit x ⌝ }
+{
+    let replaced = less_wide(edit.to.0 as u64, edit.from.0 as u64);
+    less_wide(x as u64 + edit.inserted.0 as u64, replaced)
+}
+
+// The same of an offset that is known to be moved within a text. It makes no test and stays in 32 bits, since each line that is
+// moved has three of them.
+pub fn moved_number(x: u32, edit: Edit) -> u32
+    requires { ⌜ MovableEdit edit × MovableOffset edit x ⌝ }
+    ensures { λ r. ⌜ r ≡ moved edit x ⌝ }
+{
+    let replaced = edit.to.0 - edit.from.0;
+    x + edit.inserted.0 - replaced
+}
