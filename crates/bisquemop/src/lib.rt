@@ -1,6 +1,4 @@
 // The calls for C. include/bisquemop.h says what each one does.
-mod answers;
-
 use again::relay::lay_again;
 use answers::affected_number;
 use answers::affected_value;

@@ -1,11 +1,12 @@
--- `put_y` meets its contract. A y that an answer holds is a number of 32 bits, so it is stored as it is.
+-- `answers::put_y` meets its contract. A y that an answer holds is a number of 32 bits, so it is stored as it is.
+-- Assumes nothing.
 use mathlib.Core.Path.{sym, ap, _∙_}
 use mir.Facts.{toZ-ofZ}
 use borrow.Author.Needs.{needs}
 use Rattle.meaning.specs.Answers.{yPlace}
 use Rattle.meaning.specs.declared.answers.LineY.{LineY}
-use Rattle.bisquemop.proofs.answers.put_y.Statement.{statement}
-use Rattle.bisquemop.proofs.answers.put_y.Tie as tie
+use Rattle.answers.proofs.put_y.Statement.{statement}
+use Rattle.answers.proofs.put_y.Tie as tie
 
 enum-known-a : tie.Need-enum-known-a
 enum-known-a c = search needs

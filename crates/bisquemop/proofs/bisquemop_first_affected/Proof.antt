@@ -1,3 +1,5 @@
+-- `bisquemop::bisquemop_first_affected` meets its contract.
+-- Assumes nothing.
 use mathlib.Core.Path.{ap, _∙_}
 use borrow.Author.Needs.{needs}
 use Rattle.meaning.specs.Answers.{affectedNumber, affectedValue}

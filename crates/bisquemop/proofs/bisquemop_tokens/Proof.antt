@@ -1,3 +1,5 @@
+-- `bisquemop::bisquemop_tokens` meets its contract.
+-- Assumes nothing.
 use mathlib.Core.Path.{ap, _∙_}
 use borrow.Author.Needs.{needs}
 use Rattle.meaning.specs.Answers.{tokensNumber, tokensValue}

@@ -1,3 +1,5 @@
+-- `bisquemop::settings_from` meets its contract.
+-- Assumes nothing.
 use mir.Facts.{toZ-ofZ}
 use Rattle.meaning.specs.Settings.{settingsOf}
 use Rattle.bisquemop.proofs.settings_from.Statement.{statement}
