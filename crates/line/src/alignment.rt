@@ -1,3 +1,4 @@
+// Where a measured line is placed, and how wide its spaces are drawn (rule 6).
 use meaning::counts::Pixels;
 use meaning::cursor::Spaces;
 use meaning::line::LineEnd;

@@ -1,4 +1,4 @@
-// One pass over a line, token by token (rules 7 to 9).
+// One pass over a line, in strides of words where it can, else token by token (rules 8 and 9).
 use meaning::cursor::Place;
 use meaning::line::LineEnd;
 use meaning::line::Measure;

@@ -1,4 +1,4 @@
-// What a look ahead sees is kept while white space is passed (rule 8).
+// What a look ahead sees is kept while white space is taken (rule 8).
 use crate::cursor::advanced;
 use crate::cursor::fits;
 use crate::line_iter::next_word_fits;

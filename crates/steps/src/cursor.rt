@@ -1,3 +1,4 @@
+// The cursor within a line: its room, its moves, and the next tab stop (rule 4).
 use meaning::counts::Pixels;
 use meaning::cursor::LineCursor;
 use meaning::cursor::Moved;

@@ -1,4 +1,4 @@
-// A line that ends with nothing left of a run.
+// A line that ends with nothing left of a run (rules 8 and 9).
 use crate::step::Ended;
 use crate::step::Resumed;
 use meaning::counts::Chars;

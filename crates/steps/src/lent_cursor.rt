@@ -1,5 +1,5 @@
-// The cursor lent and moved, as the crate's `move_cursor` and `move_cursor_forward` do it. The checker covers no reference to a
-// struct, so `move_cursor` is proved by hand, and leaves the work to covered functions.
+// The cursor lent and moved, as the crate's `move_cursor` and `move_cursor_forward` do it (rule 4). The checker covers no reference
+// to a struct, so `move_cursor` is proved by hand, and leaves the work to covered functions.
 ghost use mathlib.Core.Path.{_≡_};
 ghost use Rattle.meaning.specs.Cursor.{moveBy};
 ghost use Rattle.steps.specs.Fine.{FineCursor};
@@ -19,7 +19,8 @@ fn position_after(c: LineCursor, moved: Moved) -> Pixels
     }
 }
 
-// A move by any signed distance, of a cursor that is lent: the position that `move_by` answers is stored.
+// A move by any signed distance, of a cursor that is lent: the position that `move_by` answers is stored. Nothing calls it: it
+// stands because the scope names its form.
 pub fn move_cursor(cursor: &mut LineCursor, by: i32) -> Moved
     requires { ⌜ FineCursor (now cursor) ⌝ }
     ensures { λ r. ⌜ (r ≡ moveBy (now (cursor .entry)) by)

@@ -1,3 +1,4 @@
+// What a look ahead answers, and what is known of one before it is taken (rules 8 and 12).
 use meaning::counts::Offset;
 use meaning::cursor::NextWord;
 

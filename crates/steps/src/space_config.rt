@@ -1,3 +1,4 @@
+// How wide spaces are, and what they leave of the extra pixels (rule 5).
 use meaning::counts::Pixels;
 use meaning::cursor::Spaces;
 ghost use Prim.Native.Nat.{_≤_, min};

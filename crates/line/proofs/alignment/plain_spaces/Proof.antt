@@ -1,3 +1,5 @@
+-- `line::alignment::plain_spaces` meets its contract.
+-- Assumes nothing.
 use Rattle.meaning.specs.Alignment.{plainSpaces}
 use mathlib.Core.Path.{refl}
 use Rattle.line.proofs.alignment.plain_spaces.Statement.{statement}

@@ -1,3 +1,5 @@
+-- `line::alignment::shared_out` meets its contract.
+-- Assumes nothing.
 use Rattle.steps.specs.FineLaws.{times-bound}
 use Prim.Native.Nat.{_*_, _≤_}
 use native.Mathlib.Omega.{arith}

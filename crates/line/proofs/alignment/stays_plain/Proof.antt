@@ -1,3 +1,5 @@
+-- `line::alignment::stays_plain` meets its contract.
+-- Assumes nothing.
 use borrow.Author.Needs.{needs}
 use Rattle.line.proofs.alignment.stays_plain.Statement.{statement}
 use Rattle.line.proofs.alignment.stays_plain.Tie as tie

@@ -1,3 +1,5 @@
+-- `line::cut::cut_line` meets its contract.
+-- Assumes nothing.
 use mathlib.Core.Path.{_≡_, subst}
 use Prim.Native.Nat.{ℕ}
 use borrow.Author.Needs.{needs}

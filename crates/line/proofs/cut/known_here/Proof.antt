@@ -1,3 +1,5 @@
+-- `line::cut::known_here` meets its contract.
+-- Assumes nothing.
 use borrow.Author.Needs.{needs}
 use Rattle.steps.specs.Knowing.{known-fits}
 use Rattle.line.proofs.cut.known_here.Statement.{statement}

@@ -1,3 +1,5 @@
+-- `line::entry::entry_at` meets its contract.
+-- Assumes nothing.
 use Rattle.line.specs.Laying.{laidAt}
 use borrow.Author.Needs.{needs}
 use Rattle.line.proofs.entry.entry_at.Statement.{statement}

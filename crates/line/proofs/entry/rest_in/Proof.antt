@@ -1,3 +1,5 @@
+-- `line::entry::rest_in` meets its contract.
+-- Assumes nothing.
 use Rattle.line.specs.Laying.{restIn}
 use Rattle.basis.specs.Choice.{pick}
 use Rattle.basis.specs.Order.{tests}

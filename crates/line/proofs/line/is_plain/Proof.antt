@@ -1,3 +1,5 @@
+-- `line::line::is_plain` meets its contract.
+-- Assumes nothing.
 use Rattle.line.specs.Laying.{isPlain}
 use Rattle.basis.specs.Order.{tests}
 use Rattle.line.proofs.line.is_plain.Statement.{statement}

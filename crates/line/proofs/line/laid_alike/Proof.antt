@@ -1,3 +1,5 @@
+-- `line::line::laid_alike` meets its contract.
+-- Assumes nothing.
 use borrow.Author.Needs.{needs}
 use Rattle.line.proofs.line.laid_alike.Statement.{statement}
 use Rattle.line.proofs.line.laid_alike.Tie as tie

@@ -1,3 +1,5 @@
+-- `line::line::laid_at` meets its contract.
+-- Assumes nothing.
 use Rattle.line.specs.Laying.{laidAt}
 use borrow.Author.Needs.{needs}
 use Rattle.line.proofs.line.laid_at.Statement.{statement}

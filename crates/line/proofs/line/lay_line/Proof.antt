@@ -1,3 +1,5 @@
+-- `line::line::lay_line` meets its contract.
+-- Assumes nothing.
 use mathlib.Core.Path.{subst}
 use native.Mathlib.Omega.{arith}
 use borrow.Author.Needs.{needs}

@@ -1,3 +1,5 @@
+-- `line::line::lay_twice` meets its contract.
+-- Assumes nothing.
 use Rattle.line.proofs.LayLaws.{plain-ready, few-spaces, placed-ready, laid-twice, laid-once}
 use Rattle.line.specs.Laying.{LineReady}
 use Rattle.steps.specs.Knowing.{KnownFits}

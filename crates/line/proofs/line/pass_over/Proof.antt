@@ -1,3 +1,5 @@
+-- `line::line::pass_over` meets its contract.
+-- Assumes nothing.
 use Rattle.line.proofs.LayLaws.{start-ready, passes}
 use borrow.Author.Needs.{needs}
 use Rattle.line.proofs.line.pass_over.Statement.{statement}

@@ -1,3 +1,5 @@
+-- `line::line::placed_by` meets its contract.
+-- Assumes nothing.
 use Rattle.line.specs.Laying.{placedBy}
 use borrow.Author.Needs.{needs}
 use Rattle.line.proofs.line.placed_by.Statement.{statement}

@@ -1,3 +1,5 @@
+-- `line::line::placed_plainly` meets its contract.
+-- Assumes nothing.
 use borrow.Author.Needs.{needs}
 use Rattle.line.proofs.line.placed_plainly.Statement.{statement}
 use Rattle.line.proofs.line.placed_plainly.Tie as tie

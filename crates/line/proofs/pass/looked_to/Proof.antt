@@ -1,3 +1,5 @@
+-- `line::pass::looked_to` meets its contract.
+-- Assumes nothing.
 use Rattle.steps.specs.Unrolled as unrolled
 use borrow.Author.Needs.{needs}
 use Rattle.line.proofs.pass.looked_to.Statement.{statement}

@@ -1,3 +1,5 @@
+-- `line::pass::run_pass` meets its contract.
+-- Assumes nothing.
 use Prim.Native.Nat.{_-_, max}
 use mathlib.Core.Path.{_≡_, sym, ap, _∙_}
 use native.Mathlib.Omega.{arith}

@@ -1,3 +1,5 @@
+-- `line::quick::count_words` meets its contract.
+-- Assumes nothing.
 use mathlib.Core.Path.{refl}
 use Prim.Native.Nat.{_-_, _/_, _≤_}
 use native.Mathlib.Nat.{div-le-self}

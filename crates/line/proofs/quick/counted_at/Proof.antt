@@ -1,3 +1,5 @@
+-- `line::quick::counted_at` meets its contract.
+-- Assumes nothing.
 use mathlib.Core.Path.{refl}
 use Rattle.line.specs.Quick.{countedAt}
 use Rattle.line.proofs.quick.counted_at.Statement.{statement}

@@ -1,3 +1,5 @@
+-- `line::quick::first_known` meets its contract.
+-- Assumes nothing.
 use borrow.Author.Needs.{needs}
 use Rattle.line.proofs.ShortLaws.{first-kept}
 use Rattle.line.proofs.quick.first_known.Statement.{statement}

@@ -1,3 +1,5 @@
+-- `line::quick::next_pair` meets its contract.
+-- Assumes nothing.
 use native.Mathlib.Omega.{arith}
 use borrow.Author.Needs.{needs}
 use Rattle.strides.specs.PlainWords.{Stride}

@@ -1,3 +1,5 @@
+-- `line::quick::quick_line` meets its contract.
+-- Assumes nothing.
 use native.Mathlib.Omega.{arith}
 use borrow.Author.Needs.{needs}
 use Rattle.line.specs.Quick.{CountedWords}

@@ -1,3 +1,5 @@
+-- `line::short_words::ender_len` meets its contract.
+-- Assumes nothing.
 use mathlib.Core.Path.{sym, _∙_}
 use borrow.Author.Needs.{needs}
 use Rattle.line.proofs.ShortLaws.{ends-ender, ends-blank}

@@ -1,3 +1,5 @@
+-- `line::short_words::kept_within` meets its contract.
+-- Assumes nothing.
 use mathlib.Core.Path.{_∙_}
 use borrow.Author.Needs.{needs}
 use Rattle.basis.specs.Choice.{pick}

@@ -1,3 +1,5 @@
+-- `line::short_words::none_scanned` meets its contract.
+-- Assumes nothing.
 use mathlib.Core.Path.{refl}
 use Rattle.parser.specs.Scanning.{scannedAt}
 use Rattle.line.proofs.short_words.none_scanned.Statement.{statement}

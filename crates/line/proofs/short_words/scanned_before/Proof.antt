@@ -1,3 +1,5 @@
+-- `line::short_words::scanned_before` meets its contract.
+-- Assumes nothing.
 use mathlib.Core.Path.{refl}
 use borrow.Author.Needs.{needs}
 use Rattle.parser.specs.Scanning.{scannedAt}

@@ -1,3 +1,5 @@
+-- `line::short_words::scanned_to` meets its contract.
+-- Assumes nothing.
 use borrow.Author.Needs.{needs}
 use Rattle.line.proofs.short_words.scanned_to.Statement.{statement}
 use Rattle.line.proofs.short_words.scanned_to.Tie as tie

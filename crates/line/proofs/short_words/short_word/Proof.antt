@@ -1,3 +1,5 @@
+-- `line::short_words::short_word` meets its contract.
+-- Assumes nothing.
 use native.Mathlib.Omega.{arith}
 use borrow.Author.Needs.{needs}
 use Rattle.parser.specs.Ascii.{Letter}

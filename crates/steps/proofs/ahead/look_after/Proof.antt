@@ -1,3 +1,5 @@
+-- `steps::ahead::look_after` meets its contract.
+-- Assumes nothing.
 use Rattle.steps.specs.KindLaws.{white-of}
 use borrow.Author.Needs.{needs}
 use Rattle.steps.proofs.ahead.look_after.Statement.{statement}

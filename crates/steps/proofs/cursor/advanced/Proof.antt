@@ -1,3 +1,5 @@
+-- `steps::cursor::advanced` meets its contract.
+-- Assumes nothing.
 use Rattle.meaning.specs.Cursor.{advance}
 use borrow.Author.Needs.{needs}
 use Rattle.steps.proofs.cursor.advanced.Statement.{statement}

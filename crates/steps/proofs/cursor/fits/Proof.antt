@@ -1,3 +1,5 @@
+-- `steps::cursor::fits` meets its contract.
+-- Assumes nothing.
 use lib.Dec.{leb}
 use mathlib.Core.Path.{ap}
 use Rattle.meaning.specs.Cursor.{fitsIn}

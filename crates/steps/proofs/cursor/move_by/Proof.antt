@@ -1,3 +1,5 @@
+-- `steps::cursor::move_by` meets its contract.
+-- Assumes nothing.
 use Prim.Native.Nat.{suc}
 use mathlib.Core.Path.{_≡_}
 use native.Mathlib.Omega.{arith}

@@ -1,3 +1,5 @@
+-- `steps::cursor::room` meets its contract.
+-- Assumes nothing.
 use mathlib.Core.Path.{refl}
 use Rattle.meaning.specs.Cursor.{roomOf}
 use borrow.Author.Needs.{needs}

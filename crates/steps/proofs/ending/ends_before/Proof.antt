@@ -1,3 +1,5 @@
+-- `steps::ending::ends_before` meets its contract.
+-- Assumes nothing.
 use Rattle.steps.specs.Stopping.{endsBefore}
 use borrow.Author.Needs.{needs}
 use Rattle.steps.proofs.ending.ends_before.Statement.{statement}

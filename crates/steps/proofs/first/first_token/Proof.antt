@@ -1,3 +1,5 @@
+-- `steps::first::first_token` meets its contract.
+-- Assumes nothing.
 use mathlib.Core.Path.{_∙_}
 use Rattle.steps.proofs.RestLaws.{none-read}
 use borrow.Author.Needs.{needs}

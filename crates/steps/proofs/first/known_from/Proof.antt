@@ -1,3 +1,5 @@
+-- `steps::first::known_from` meets its contract.
+-- Assumes nothing.
 use Rattle.steps.specs.Knowing.{nothing-fits, known-fits}
 use borrow.Author.Needs.{needs}
 use Rattle.steps.proofs.first.known_from.Statement.{statement}

@@ -1,3 +1,5 @@
+-- `steps::hyphens::hyphenated` meets its contract.
+-- Assumes nothing.
 use mathlib.Core.Path.{sym, ap, _∙_}
 use Rattle.steps.specs.declared.step.Stepped.the-variants.{Stop}
 use Rattle.steps.specs.HyphenLaws.{hyphen-goes, hyphen-ends, hyphen-passes, hyphen-stays}

@@ -1,3 +1,5 @@
+-- `steps::hyphens::on_break` meets its contract.
+-- Assumes nothing.
 use mathlib.Core.Path.{sym, _∙_}
 use native.Mathlib.Omega.{arith}
 use Rattle.steps.specs.HyphenLaws.{break-end, break-alone, break-shows, break-hides}

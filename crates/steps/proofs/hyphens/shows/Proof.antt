@@ -1,3 +1,5 @@
+-- `steps::hyphens::shows` meets its contract.
+-- Assumes nothing.
 use Rattle.steps.specs.HyphenLaws.{shows-not}
 use borrow.Author.Needs.{needs}
 use Rattle.steps.proofs.hyphens.shows.Statement.{statement}

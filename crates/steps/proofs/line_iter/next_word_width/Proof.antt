@@ -1,3 +1,5 @@
+-- `steps::line_iter::next_word_width` meets its contract.
+-- Assumes nothing.
 use Prim.Native.Nat.{_*_, _-_, _≤_}
 use mathlib.Core.Path.{_≡_, sym, _∙_}
 use native.Mathlib.Omega.{arith}

@@ -1,3 +1,5 @@
+-- `steps::line_iter::white_width` meets its contract.
+-- Assumes nothing.
 use mathlib.Core.Path.{sym, _∙_}
 use borrow.Author.Needs.{needs}
 use Rattle.steps.specs.Ahead.{whiteWidth}

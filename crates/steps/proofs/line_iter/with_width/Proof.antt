@@ -1,3 +1,5 @@
+-- `steps::line_iter::with_width` meets its contract.
+-- Assumes nothing.
 use mathlib.Core.Path.{ap}
 use native.Mathlib.Omega.{arith}
 use borrow.Author.Needs.{needs}

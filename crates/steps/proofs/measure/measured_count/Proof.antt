@@ -1,3 +1,5 @@
+-- `steps::measure::measured_count` meets its contract.
+-- Assumes nothing.
 use Rattle.meaning.specs.Line.{measuredCount}
 use Rattle.basis.specs.Choice.{pick}
 use Rattle.basis.specs.Order.{tests}

@@ -1,3 +1,5 @@
+-- `steps::measure::measured_width` meets its contract.
+-- Assumes nothing.
 use Rattle.meaning.specs.Line.{measuredWidth}
 use Rattle.basis.specs.Choice.{pick}
 use Rattle.basis.specs.Order.{tests}

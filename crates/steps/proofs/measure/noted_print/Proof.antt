@@ -1,3 +1,5 @@
+-- `steps::measure::noted_print` meets its contract.
+-- Assumes nothing.
 use native.Mathlib.Nat.{add-zero}
 use borrow.Author.Needs.{needs}
 use Rattle.steps.proofs.measure.noted_print.Statement.{statement}

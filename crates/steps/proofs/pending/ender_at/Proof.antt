@@ -1,3 +1,5 @@
+-- `steps::pending::ender_at` meets its contract.
+-- Assumes nothing.
 use mathlib.Core.Path.{sym, ap, _∙_}
 use Rattle.unicode.specs.Walk.{isChar}
 use Rattle.steps.proofs.RestLaws.{ender-char, ender-none}

@@ -1,3 +1,5 @@
+-- `steps::pending::pending` meets its contract.
+-- Assumes nothing.
 use mathlib.Core.Path.{ap, _∙_}
 use native.Mathlib.Omega.{arith}
 use Rattle.parser.specs.declared.lexeme.Lexed.the-variants as lexed

@@ -1,3 +1,5 @@
+-- `steps::pending::rest_lexeme` meets its contract.
+-- Assumes nothing.
 use mathlib.Core.Path.{refl}
 use Rattle.steps.specs.Pending.{restLexeme}
 use borrow.Author.Needs.{needs}

@@ -1,3 +1,5 @@
+-- `steps::place::moved_on` meets its contract.
+-- Assumes nothing.
 use borrow.Author.Needs.{needs}
 use Rattle.steps.proofs.place.moved_on.Statement.{statement}
 use Rattle.steps.proofs.place.moved_on.Tie as tie

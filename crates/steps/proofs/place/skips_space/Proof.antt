@@ -1,3 +1,5 @@
+-- `steps::place::skips_space` meets its contract.
+-- Assumes nothing.
 use Rattle.meaning.specs.LineIter.{skips}
 use Rattle.steps.proofs.place.skips_space.Statement.{statement}
 use Rattle.steps.proofs.place.skips_space.Tie as tie

@@ -1,3 +1,5 @@
+-- `steps::place::start_place` meets its contract.
+-- Assumes nothing.
 use Rattle.meaning.specs.Line.{startPlace}
 use mathlib.Core.Path.{refl}
 use Rattle.steps.proofs.place.start_place.Statement.{statement}

@@ -1,3 +1,5 @@
+-- `steps::place::used_up` meets its contract.
+-- Assumes nothing.
 use borrow.Author.Needs.{needs}
 use Rattle.steps.proofs.place.used_up.Statement.{statement}
 use Rattle.steps.proofs.place.used_up.Tie as tie

@@ -1,3 +1,5 @@
+-- `steps::space_config::spaces_width` meets its contract.
+-- Assumes nothing.
 use Prim.Native.Nat.{_*_, _≤_}
 use native.Mathlib.Omega.{arith}
 use borrow.Author.Needs.{needs}

@@ -1,3 +1,5 @@
+-- `steps::spaces::cut_measure` meets its contract.
+-- Assumes nothing.
 use Rattle.steps.specs.RunLaws.{shown-wide, shown-thin}
 use mathlib.Core.Path.{_∙_}
 use Rattle.steps.specs.Runs.{cutShown}

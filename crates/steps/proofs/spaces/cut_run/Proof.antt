@@ -1,3 +1,5 @@
+-- `steps::spaces::cut_run` meets its contract.
+-- Assumes nothing.
 use Prim.Native.Nat.{_*_, _/_, _≤_}
 use Rattle.steps.specs.RunLaws.{cut-some, cut-single, cut-numbers, cut-fewer, cut-answer}
 use native.Mathlib.Omega.{arith}

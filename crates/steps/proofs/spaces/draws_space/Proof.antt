@@ -1,3 +1,5 @@
+-- `steps::spaces::draws_space` meets its contract.
+-- Assumes nothing.
 use Rattle.steps.specs.DrawLaws.{draws-front, draws-all, draws-some, draws-known}
 use borrow.Author.Needs.{needs}
 use Rattle.steps.proofs.spaces.draws_space.Statement.{statement}

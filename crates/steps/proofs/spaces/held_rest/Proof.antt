@@ -1,3 +1,5 @@
+-- `steps::spaces::held_rest` meets its contract.
+-- Assumes nothing.
 use Rattle.steps.specs.RunLaws.{none-left, some-left}
 use borrow.Author.Needs.{needs}
 use Rattle.steps.proofs.spaces.held_rest.Statement.{statement}

@@ -1,3 +1,5 @@
+-- `steps::spaces::on_space` meets its contract.
+-- Assumes nothing.
 use Rattle.steps.specs.RunLaws.{space-few, whole-ready, space-skipped, space-whole, space-cut}
 use Rattle.steps.specs.FineLaws.{fits-room}
 use Rattle.meaning.specs.declared.cursor.Place.{Place}

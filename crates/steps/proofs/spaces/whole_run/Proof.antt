@@ -1,3 +1,5 @@
+-- `steps::spaces::whole_run` meets its contract.
+-- Assumes nothing.
 use Rattle.steps.specs.DrawLaws.{whole-drawn, whole-hidden}
 use borrow.Author.Needs.{needs}
 use Rattle.steps.proofs.spaces.whole_run.Statement.{statement}

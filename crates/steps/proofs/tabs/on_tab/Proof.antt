@@ -1,3 +1,5 @@
+-- `steps::tabs::on_tab` meets its contract.
+-- Assumes nothing.
 use Rattle.steps.specs.TabLaws.{tab-skipped, tab-fits, tab-beyond, tab-moved, tab-foresees}
 use Rattle.steps.specs.FineLaws.{fits-room}
 use Rattle.meaning.specs.LineIter.{skips}

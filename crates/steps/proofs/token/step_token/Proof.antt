@@ -1,3 +1,5 @@
+-- `steps::token::step_token` meets its contract.
+-- Assumes nothing.
 use mathlib.Core.Path.{ap, _∙_}
 use Rattle.steps.specs.declared.step.Stepped.the-variants.{Stop}
 use Rattle.steps.specs.PassLaws.{line-ends, line-returns}

@@ -1,3 +1,5 @@
+-- `steps::words::cut_word` meets its contract.
+-- Assumes nothing.
 use Prim.Native.Nat.{ℕ, _/_}
 use mathlib.Core.Path.{_≡_, ap, _∙_}
 use native.Mathlib.Omega.{arith}

@@ -1,3 +1,5 @@
+-- `steps::words::on_word` meets its contract.
+-- Assumes nothing.
 use Prim.Native.Nat.{_≤_}
 use mathlib.Core.Path.{sym, ap, _∙_}
 use native.Mathlib.Omega.{arith}

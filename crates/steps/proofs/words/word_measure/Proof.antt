@@ -1,3 +1,5 @@
+-- `steps::words::word_measure` meets its contract.
+-- Assumes nothing.
 use Rattle.steps.specs.WordLaws.{letters-small}
 use Rattle.steps.specs.FineLaws.{width-bound}
 use Rattle.steps.specs.Stopping.{wordMeasure}

@@ -1,3 +1,5 @@
+-- `steps::words::word_place` meets its contract.
+-- Assumes nothing.
 use mathlib.Core.Bool.{false}
 use Prim.Native.Nat.{_+_, _*_, _≤_}
 use Rattle.steps.specs.WordLaws.{fits-small}
