@@ -5,10 +5,8 @@ use native.Mathlib.Nat.{add-mul, mul-le-mul, div-mul-le-self, lt-div-mul-add, di
 use native.Mathlib.Omega.{arith}
 use mathlib.Core.Path.{_≡_}
 use mathlib.Core.Bool.{true}
-use lib.Dec.{eqb}
-use borrow.Author.Tests.{leb-true, eqb-false}
-use Rattle.basis.specs.Choice.{pick-cases}
-use Rattle.meaning.specs.Cursor.{roomOf, fitsIn, advance, tabWidth}
+use borrow.Author.Tests.{leb-true}
+use Rattle.meaning.specs.Cursor.{roomOf, fitsIn, advance}
 use Rattle.meaning.specs.SpaceConfig.{spacesWidth, spacesAfter}
 use Rattle.meaning.specs.declared.cursor.LineCursor.{LineCursor}
 use Rattle.meaning.specs.declared.cursor.Spaces.{Spaces}
@@ -19,12 +17,6 @@ use Rattle.steps.specs.Fine.{FineCursor, FineSpaces}
 -- The next tab stop is above the position, by no more than a tab's width.
 pub next-stop : (p t : ℕ) → 1 ≤ t → (p ≤ (p / t + 1) * t) × ((p / t + 1) * t ≤ p + t) × (p / t ≤ p)
 next-stop p t h = omega (arith, add-mul (p / t) 1 t, div-mul-le-self p t, lt-div-mul-add {a = p} {b = t} h, div-le-self p t)
-
-pub tab-bound : (c : LineCursor) → FineCursor c → tabWidth c ≤ 4096
-unfolding tabWidth
-tab-bound c f =
-    pick-cases (λ n. n ≤ 4096) (eqb (c .tab .0) 0) (λ _. omega arith)
-    (λ e. let d = eqb-false (c .tab .0) 0 e in omega (arith, next-stop (c .position .0) (c .tab .0) (omega arith)))
 
 pub fits-room : (c : LineCursor) (w : ℕ) → fitsIn c w ≡ true → w ≤ c .width .0 - c .position .0
 unfolding fitsIn roomOf

@@ -1,6 +1,7 @@
 pub mod Ahead
 pub mod Fine
 pub mod Lent
+pub mod Moves
 pub mod FineLaws
 pub mod Lexed
 pub mod Stepping
