@@ -17,7 +17,7 @@ use Rattle.steps.specs.Stepping.{ranFrom}
 use Rattle.steps.specs.Unrolled.{nothingResumed}
 use Rattle.steps.specs.Running.{PassReady, none-fits}
 use Rattle.line.specs.LineFrom.{lineFrom}
-use Rattle.line.specs.Laying.{LineReady, passedFrom, plainly, isPlain, placedBy, laidAt, line-passes, plain-is}
+use Rattle.line.specs.Laying.{LineReady, passedFrom, plainly, asMeasured, placedBy, laidAt, line-passes, measured-plainly}
 use Rattle.line.specs.LineLaws.{placed-count}
 use Rattle.line.specs.Quick.{DrawnAlike}
 use Rattle.steps.specs.declared.step.Resumed.{Resumed}
@@ -64,8 +64,8 @@ module _ {s : Settings} {t : List ℕ} {at : ℕ} {r : Resumed} (h : LineReady s
       laid-twice drawn e f = rw (f, e, placed, wide, measured, is) (sym (line-passes s t at r (h .rest)))
 
       -- A line that is placed as it was measured is drawn as it was.
-      pub laid-once : isPlain s p ≡ true → l ≡ laidAt at r p width (first .reach .0) first → l ≡ lineFrom s t at r
-      laid-once e f = laid-twice first (measured ∙ ap (passedFrom s t at r) (is ∙ sym (plain-is s p e))) f
+      pub laid-once : asMeasured s p ≡ true → l ≡ laidAt at r p width (first .reach .0) first → l ≡ lineFrom s t at r
+      laid-once e f = laid-twice first (measured ∙ ap (passedFrom s t at r) (is ∙ sym (measured-plainly s p e))) f
 
 -- ---- a line that is drawn as it was measured
 

@@ -47,8 +47,9 @@ passedFrom s t at r p = ranFrom s (startPlace s (p .left .0) (p .spaces)) t at (
 abbrev pub plainly : Settings → Placed
 plainly s = placedLeft 0 (plainSpaces s)
 
-unfoldable pub isPlain : Settings → Placed → Bool
-isPlain s p = eqb (p .left .0) 0 && eqb (p .spaces .extra .0) 0 && eqb (p .spaces .width .0) (s .glyph .0)
+-- Is it placed as it was measured.
+unfoldable pub asMeasured : Settings → Placed → Bool
+asMeasured s p = eqb (p .left .0) 0 && eqb (p .spaces .extra .0) 0 && eqb (p .spaces .width .0) (s .glyph .0)
 
 -- Where the measuring pass places it.
 unfoldable pub placedBy : Settings → Ended → Placed
@@ -123,9 +124,9 @@ line-passes s t at r f =
     (rw (ran-at s (startPlace s (p .left .0) (p .spaces)) t at (r .chars .0) (r .count .0), far))
 
 -- A line that is placed as it was measured.
-pub plain-is : (s : Settings) (p : Placed) → isPlain s p ≡ true → p ≡ plainly s
-unfolding isPlain plainSpaces
-plain-is s p e =
+pub measured-plainly : (s : Settings) (p : Placed) → asMeasured s p ≡ true → p ≡ plainly s
+unfolding asMeasured plainSpaces
+measured-plainly s p e =
     let f = and-true (eqb (p .left .0) 0 && eqb (p .spaces .extra .0) 0) (eqb (p .spaces .width .0) (s .glyph .0)) e in
     let g = and-true (eqb (p .left .0) 0) (eqb (p .spaces .extra .0) 0) (f .0) in
     let left = eqb-true (p .left .0) 0 (g .0) in

@@ -26,7 +26,7 @@ ghost use Rattle.meaning.specs.Line.{measuredWidth, measuredCount};
 ghost use Rattle.steps.specs.Fine.{FineSettings, FineSpaces};
 ghost use Rattle.steps.specs.Knowing.{KnownFits};
 ghost use Rattle.line.specs.LineFrom.{lineFrom};
-ghost use Rattle.line.specs.Laying.{LineReady, passedFrom, plainly, isPlain, placedBy, laidAt};
+ghost use Rattle.line.specs.Laying.{LineReady, passedFrom, plainly, asMeasured, placedBy, laidAt};
 
 // A laid line: its entry, how it ended, where the next line starts and what that line resumes.
 pub struct LineAt {
@@ -47,8 +47,9 @@ fn placed_plainly(s: Settings) -> Placed
     }
 }
 
-fn is_plain(s: Settings, p: Placed) -> bool
-    ensures { λ r. ⌜ r ≡ isPlain s p ⌝ }
+// Whether a line is placed as it was measured.
+fn as_measured(s: Settings, p: Placed) -> bool
+    ensures { λ r. ⌜ r ≡ asMeasured s p ⌝ }
 {
     if p.left.0 != 0 {
         return false;
@@ -116,7 +117,7 @@ fn lay_twice(text: &[u8], s: Settings, at: usize, rest: Resumed, known: Known) -
     let m = first.measure;
     let width = measured_width(s, m);
     let p = placed_by(s, first);
-    if is_plain(s, p) {
+    if as_measured(s, p) {
         return laid_at(at as u32, rest, p, width, first.reach.0, first);
     }
     let drawn = pass_over(text, s, at, rest, p, known);

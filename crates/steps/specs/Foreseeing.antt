@@ -1,4 +1,4 @@
--- A look ahead that is kept while white space is passed: what it saw is what the next look would see.
+-- A look ahead that is kept while white space is taken: what it saw is what the next look would see.
 -- Assumes nothing.
 use Prim.Native.Nat.{ℕ, _≤_}
 use mathlib.Core.Path.{_≡_}
@@ -26,7 +26,7 @@ use Rattle.steps.specs.declared.step.Resumed.{Resumed}
 use Rattle.steps.specs.declared.look.Foreseen.{Foreseen}
 use Rattle.steps.specs.declared.look.Foreseen.the-variants.{Nothing, Known}
 
--- White space, which a look passes where it fits.
+-- White space, which a look goes over where it fits.
 abbrev pub White : TokenKind → Type 0
 White NewLine = ⊥
 White CarriageReturn = ⊥

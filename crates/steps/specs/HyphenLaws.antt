@@ -47,9 +47,9 @@ module _ (s : Settings) (p : Place) (at : ℕ) (m : Measure) (reach : ℕ) where
 
   -- It has no room.
   module _ (e : fitsIn (p .cursor) (s .glyph .0) ≡ false) where
-    pub hyphen-passes : p .empty ≡ true → Go p m (record { 0 = reach }) ≡ asked
+    pub hyphen-unprinted : p .empty ≡ true → Go p m (record { 0 = reach }) ≡ asked
     unfolding hyphenated steppedAt measured pick
-    hyphen-passes f = rw (e, f)
+    hyphen-unprinted f = rw (e, f)
 
     pub hyphen-stays : p .empty ≡ false → Stop (endsBefore LineBreak m at 0 reach) ≡ asked
     unfolding hyphenated steppedAt endsBefore resumedAt measured size pick

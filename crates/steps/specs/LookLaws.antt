@@ -1,4 +1,4 @@
--- White space that fits is passed by a look: the look from after it sees the same, and no less far.
+-- White space that fits is gone over by a look: the look from after it sees the same, and no less far.
 -- Assumes nothing.
 use Prim.Native.Nat.{ℕ, _+_, _≤_, max}
 use native.Mathlib.Omega.{arith}

@@ -25,7 +25,7 @@ pub record Standing (t : List ℕ) (at : ℕ) (x : Lexeme) : Type 0 where
   pub within : x .end .0 ≤ length t
   pub looks : x .reach .0 ≤ length t + 1
 
--- What was measured so far is no more than the bytes passed allow.
+-- What was measured so far is no more than the bytes taken allow.
 abbrev pub Small : (at : ℕ) → Measure → Type 0
 Small at m =
     (m .pen .0 ≤ 8192 * at) × (m .spaces .0 ≤ at) × (m .width .0 ≤ m .pen .0) × (m .count .0 ≤ m .spaces .0)

@@ -84,7 +84,8 @@ pub fn next_word_width(text: &[u8], at: usize, glyph: u32) -> WidthAhead
     found
 }
 
-fn looked(fits: bool, reach: u32) -> Look
+// What a look answers that has examined the text up to an offset.
+fn look_at(fits: bool, reach: u32) -> Look
     ensures { λ r. ⌜ r ≡ lookAt fits reach ⌝ }
 {
     Look {
@@ -104,7 +105,7 @@ pub fn white_width(kind: TokenKind, count: u32, cursor: LineCursor, spaces: Spac
     }
 }
 
-// Whether the next word fits after the white space before it, which is passed as far as it fits.
+// Whether the next word fits after the white space before it, which is taken as far as it fits.
 pub fn next_word_fits(
     text: &[u8],
     at: usize,
@@ -122,23 +123,23 @@ pub fn next_word_fits(
     loop {
         let token = token_at(text, pos);
         let Lexed::Token(x) = token else {
-            return looked(false, farther(reach, pos as u32 + 1));
+            return look_at(false, farther(reach, pos as u32 + 1));
         };
         reach = farther(reach, x.reach.0);
         let kind = x.kind;
         match kind {
-            TokenKind::Word => return looked(fits(cur, x.chars.0 * glyph), reach),
-            TokenKind::Break => return looked(fits(cur, glyph), reach),
+            TokenKind::Word => return look_at(fits(cur, x.chars.0 * glyph), reach),
+            TokenKind::Break => return look_at(fits(cur, glyph), reach),
             TokenKind::Tab | TokenKind::Whitespace => {
                 let w = white_width(kind, x.count.0, cur, left);
                 if !fits(cur, w) {
-                    return looked(false, reach);
+                    return look_at(false, reach);
                 }
                 cur = advanced(cur, w);
                 left = spaces_after(left, x.count.0);
                 pos = x.end.0 as usize;
             }
-            _ => return looked(false, reach),
+            _ => return look_at(false, reach),
         }
     }
 }

@@ -33,8 +33,8 @@ placed-by-requires c κs =
     let f = c .before .before in
     (ready (f .before) .settings, few-spaces (ready (f .before)) _ _ (f .before .placed-plainly .ensures) (f .pass-over .ensures))
 
-is-plain-requires : tie.Need-is-plain-requires
-is-plain-requires c κs = search needs
+as-measured-requires : tie.Need-as-measured-requires
+as-measured-requires c κs = search needs
 
 cast-laid-at : tie.Need-cast-laid-at
 cast-laid-at c = search needs
@@ -48,7 +48,7 @@ returns c =
     let p = i .before in
     let f = p .before .before .before in
     laid-once (ready (f .before)) _ _ (f .before .placed-plainly .ensures) (f .pass-over .ensures) _ _ _ (p .before .measured-width .ensures) (p .placed-by .ensures)
-    (sym (i .is-plain .ensures) ∙ c .before .if1 .taken) (c .laid-at .ensures)
+    (sym (i .as-measured .ensures) ∙ c .before .if1 .taken) (c .laid-at .ensures)
 
 pass-over-requires-2 : tie.Need-pass-over-requires-2
 pass-over-requires-2 c κs =
@@ -79,7 +79,7 @@ lay-twice-spec =
     pass-over-requires
     measured-width-requires
     placed-by-requires
-    is-plain-requires
+    as-measured-requires
     cast-laid-at
     laid-at-requires
     returns

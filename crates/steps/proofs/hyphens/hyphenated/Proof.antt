@@ -2,7 +2,7 @@
 -- Assumes nothing.
 use mathlib.Core.Path.{sym, ap, _∙_}
 use Rattle.steps.specs.declared.step.Stepped.the-variants.{Stop}
-use Rattle.steps.specs.HyphenLaws.{hyphen-goes, hyphen-ends, hyphen-passes, hyphen-stays}
+use Rattle.steps.specs.HyphenLaws.{hyphen-goes, hyphen-ends, hyphen-unprinted, hyphen-stays}
 use borrow.Author.Needs.{needs}
 use Rattle.steps.proofs.hyphens.hyphenated.Statement.{statement}
 use Rattle.steps.proofs.hyphens.hyphenated.Tie as tie
@@ -46,7 +46,7 @@ returns-3 : tie.Need-returns-3
 returns-3 c =
     let i = c .before in
     let a = i .before .before .before .args in
-    hyphen-passes (a .s) (a .p) (a .at) (a .m) (a .reach) (sym (i .before .fits2 .ensures) ∙ i .if1 .left) (c .if3 .taken)
+    hyphen-unprinted (a .s) (a .p) (a .at) (a .m) (a .reach) (sym (i .before .fits2 .ensures) ∙ i .if1 .left) (c .if3 .taken)
 
 cast-ends-before-2 : tie.Need-cast-ends-before-2
 cast-ends-before-2 c = search needs

@@ -55,14 +55,14 @@ add-farther c = search needs
 farther-requires : tie.Need-farther-requires Inv-loop μ-loop
 farther-requires c κs = search needs
 
-looked-requires : tie.Need-looked-requires Inv-loop μ-loop
-looked-requires c κs = search needs
+look-at-requires : tie.Need-look-at-requires Inv-loop μ-loop
+look-at-requires c κs = search needs
 
 returns : tie.Need-returns Inv-loop μ-loop
 returns c =
     let o = c .before .before .before .before .before in
     let s = o .before .before in
-    c .looked .ensures
+    c .look-at .ensures
     ∙ look-end _ (o .loop .pos) (s .args .glyph) (o .loop .cur) (o .loop .left) (o .loop .reach)
     (lexes-end _ _ (sym (c .before .before .before .before .token-at .ensures) ∙ c .before .before .enum-told .given .1)) _ (c .before .farther .ensures)
     ∙ o .loop .inv .0
@@ -83,8 +83,8 @@ mul-fits c =
 fits-requires : tie.Need-fits-requires Inv-loop μ-loop
 fits-requires c κs = search needs
 
-looked-requires-2 : tie.Need-looked-requires-2 Inv-loop μ-loop
-looked-requires-2 c κs = search needs
+look-at-requires-2 : tie.Need-look-at-requires-2 Inv-loop μ-loop
+look-at-requires-2 c κs = search needs
 
 returns-2 : tie.Need-returns-2 Inv-loop μ-loop
 returns-2 c =
@@ -92,7 +92,7 @@ returns-2 c =
     let k = f .before .before in
     let o = k .before .before .before in
     let s = o .before .before in
-    c .looked2 .ensures
+    c .look-at2 .ensures
     ∙ look-word _ _ _ (read k) (s .args .glyph) (o .loop .cur) (o .loop .left) (o .loop .reach) _ (f .farther2 .ensures) (c .before .before .before .enum-told2 .given .1) _ (c .before .fits2 .ensures)
     ∙ o .loop .inv .0
 
@@ -102,8 +102,8 @@ enum-told-3 c = search needs
 fits-requires-2 : tie.Need-fits-requires-2 Inv-loop μ-loop
 fits-requires-2 c κs = search needs
 
-looked-requires-3 : tie.Need-looked-requires-3 Inv-loop μ-loop
-looked-requires-3 c κs = search needs
+look-at-requires-3 : tie.Need-look-at-requires-3 Inv-loop μ-loop
+look-at-requires-3 c κs = search needs
 
 returns-3 : tie.Need-returns-3 Inv-loop μ-loop
 returns-3 c =
@@ -111,7 +111,7 @@ returns-3 c =
     let k = f .before .before in
     let o = k .before .before .before in
     let s = o .before .before in
-    c .looked3 .ensures
+    c .look-at3 .ensures
     ∙ look-break _ _ _ (read k) (s .args .glyph) (o .loop .cur) (o .loop .left) (o .loop .reach) _ (f .farther2 .ensures) (c .before .before .enum-told3 .given .1) _ (c .before .fits3 .ensures)
     ∙ o .loop .inv .0
 
@@ -125,8 +125,8 @@ white-width-requires c κs =
 fits-requires-3 : tie.Need-fits-requires-3 Inv-loop μ-loop
 fits-requires-3 c κs = search needs
 
-looked-requires-4 : tie.Need-looked-requires-4 Inv-loop μ-loop
-looked-requires-4 c κs = search needs
+look-at-requires-4 : tie.Need-look-at-requires-4 Inv-loop μ-loop
+look-at-requires-4 c κs = search needs
 
 returns-4 : tie.Need-returns-4 Inv-loop μ-loop
 returns-4 c =
@@ -136,7 +136,7 @@ returns-4 c =
     let k = f .before .before in
     let o = k .before .before .before in
     let s = o .before .before in
-    c .looked4 .ensures
+    c .look-at4 .ensures
     ∙ look-full _ _ _ (read k) (s .args .glyph) (o .loop .cur) (o .loop .left) (o .loop .reach) _ (f .farther2 .ensures) (white-of (k .token .given .0 .0 .kind) (w .before .match2 .keys3)) _ (w .white-width .ensures)
     (sym (r .ensures) ∙ not-true (r .result) (c .before .if1 .taken))
     ∙ o .loop .inv .0
@@ -174,8 +174,8 @@ loop-again c =
       l .within,
     )
 
-looked-requires-5 : tie.Need-looked-requires-5 Inv-loop μ-loop
-looked-requires-5 c κs = search needs
+look-at-requires-5 : tie.Need-look-at-requires-5 Inv-loop μ-loop
+look-at-requires-5 c κs = search needs
 
 returns-5 : tie.Need-returns-5 Inv-loop μ-loop
 returns-5 c =
@@ -183,7 +183,7 @@ returns-5 c =
     let k = f .before .before in
     let o = k .before .before .before in
     let s = o .before .before in
-    c .looked5 .ensures
+    c .look-at5 .ensures
     ∙ look-halts _ _ _ (read k) (s .args .glyph) (o .loop .cur) (o .loop .left) (o .loop .reach) _ (f .farther2 .ensures) (halts-of (k .token .given .0 .0 .kind) (c .before .match2 .keys4))
     ∙ o .loop .inv .0
 
@@ -200,26 +200,26 @@ next-word-fits-spec =
     cast-farther
     add-farther
     farther-requires
-    looked-requires
+    look-at-requires
     returns
     farther-requires-2
     enum-told-2
     mul-fits
     fits-requires
-    looked-requires-2
+    look-at-requires-2
     returns-2
     enum-told-3
     fits-requires-2
-    looked-requires-3
+    look-at-requires-3
     returns-3
     white-width-requires
     fits-requires-3
-    looked-requires-4
+    look-at-requires-4
     returns-4
     advanced-requires
     spaces-after-requires
     cast-pos
     loop-less
     loop-again
-    looked-requires-5
+    look-at-requires-5
     returns-5)
