@@ -4,6 +4,8 @@ use crate::going::stands_at;
 use crate::pairs::draw_pair;
 use crate::pen::Pen;
 use crate::pen::put_one;
+use meaning::counts::Chars;
+use meaning::counts::Pixels;
 use meaning::cursor::Place;
 use meaning::line::EventKind;
 use meaning::settings::Settings;
@@ -97,7 +99,7 @@ fn draw_first(text: &[u8], s: Settings, p: Place, at: usize, pen: Pen, events: &
         let end = word_within(text, at, room(cursor) / glyph);
         if end != 0 {
             let n = (end - at) as u32;
-            let place = word_place(glyph, p, n, 0);
+            let place = word_place(Pixels(glyph), p, Chars(n), Chars(0));
             let printed = put_one(events, pen, EventKind::Printed, at, end, 0, n * glyph);
             return stands_at(place, end, printed);
         }

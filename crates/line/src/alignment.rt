@@ -1,4 +1,5 @@
 // Where a measured line is placed, and how wide its spaces are drawn (rule 6).
+use meaning::counts::Chars;
 use meaning::counts::Pixels;
 use meaning::cursor::Spaces;
 use meaning::line::LineEnd;
@@ -58,11 +59,11 @@ fn shared_out(s: Settings, room: u32, n: u32) -> Spaces
 }
 
 // Where a measured line starts, and how wide its spaces are drawn.
-pub fn place_line(s: Settings, ended: LineEnd, width: u32, n: u32) -> Placed
-    requires { ⌜ FineSettings s × (n ≤ 65535) ⌝ }
-    ensures { λ r. ⌜ r ≡ place s ended width n ⌝ }
+pub fn place_line(s: Settings, ended: LineEnd, width: Pixels, n: Chars) -> Placed
+    requires { ⌜ FineSettings s × (n .0 ≤ 65535) ⌝ }
+    ensures { λ r. ⌜ r ≡ place s ended (width .0) (n .0) ⌝ }
 {
-    let room = room_after(s, width);
+    let room = room_after(s, width.0);
     let spaces = plain_spaces(s);
     if s.alignment == 0 {
         return Placed {
@@ -82,13 +83,13 @@ pub fn place_line(s: Settings, ended: LineEnd, width: u32, n: u32) -> Placed
             spaces,
         };
     }
-    if stays_plain(ended, n) {
+    if stays_plain(ended, n.0) {
         return Placed {
             left: Pixels(0),
             spaces,
         };
     }
-    let wide = shared_out(s, room, n);
+    let wide = shared_out(s, room, n.0);
     Placed {
         left: Pixels(0),
         spaces: wide,

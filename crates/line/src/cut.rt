@@ -1,5 +1,7 @@
 // A line that begins with a word too wide for it is the longest part of the word that fits (rule 8): it is drawn as it was measured.
 use crate::quick::Quick;
+use meaning::counts::Chars;
+use meaning::counts::Pixels;
 use meaning::line::LineEnd;
 use meaning::settings::Settings;
 use meaning::tokens::TokenKind;
@@ -10,7 +12,7 @@ use parser::part::part_of;
 use steps::ending::ends_before;
 use steps::first::Known;
 use steps::first::known_at;
-use steps::words::printed_at;
+use steps::measure::printed_at;
 ghost use Prim.Native.Nat.{_≤_};
 ghost use mathlib.Core.Path.{_≡_};
 ghost use lib.ListN.{length};
@@ -50,8 +52,11 @@ fn cut_part(text: &[u8], s: Settings, at: usize, x: Lexeme) -> Quick
     }
     let part = part_of(text, at, most);
     let wide = most * glyph;
-    let m = printed_at(wide, part.glues.0);
-    Quick::Line(ends_before(LineEnd::LineBreak, m, part.end.0, 0, x.reach.0))
+    let glues = part.glues;
+    let next = part.end;
+    let reach = x.reach;
+    let m = printed_at(Pixels(wide), glues);
+    Quick::Line(ends_before(LineEnd::LineBreak, m, next, Chars(0), reach))
 }
 
 // The line at an offset, if a known word is cut there.

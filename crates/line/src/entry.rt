@@ -41,8 +41,15 @@ fn rest_in(r: Resumed) -> Rest
 }
 
 // The entry of a line at an offset, from its placing, its width, how far the measuring looked, and how the drawing ended.
-pub fn entry_at(at: u32, rest: Resumed, p: Placed, width: u32, looked: u32, e: Ended) -> Entry
-    ensures { λ r. ⌜ r ≡ laidAt at rest p width looked e .entry ⌝ }
+pub fn entry_at(
+    at: Offset,
+    rest: Resumed,
+    p: Placed,
+    width: Pixels,
+    looked: Offset,
+    e: Ended,
+) -> Entry
+    ensures { λ r. ⌜ r ≡ laidAt (at .0) rest p (width .0) (looked .0) e .entry ⌝ }
 {
     let ended = e.ended;
     let ending = end_number(ended);
@@ -51,15 +58,15 @@ pub fn entry_at(at: u32, rest: Resumed, p: Placed, width: u32, looked: u32, e: E
     let space = p.spaces.width;
     let extra = p.spaces.extra;
     let dropped = e.dropped;
-    let reach = farther(looked, e.reach.0);
+    let reach = farther(looked.0, e.reach.0);
     Entry {
-        start: Offset(at),
+        start: at,
         rest: resumed,
         ending,
         left,
         space,
         extra,
-        width: Pixels(width),
+        width,
         dropped,
         reach: Offset(reach),
     }

@@ -7,6 +7,7 @@ use crate::entry::entry_at;
 use crate::pass::run_pass;
 use crate::quick::Quick;
 use crate::quick::quick_line;
+use meaning::counts::Chars;
 use meaning::counts::Offset;
 use meaning::counts::Pixels;
 use meaning::line::Entry;
@@ -67,7 +68,9 @@ fn placed_by(s: Settings, e: Ended) -> Placed
 {
     let ended = e.ended;
     let m = e.measure;
-    place_line(s, ended, measured_width(s, m), measured_count(s, m))
+    let width = measured_width(s, m);
+    let count = measured_count(s, m);
+    place_line(s, ended, Pixels(width), Chars(count))
 }
 
 // The pass over a line that is so placed.
@@ -82,8 +85,8 @@ fn pass_over(text: &[u8], s: Settings, at: usize, rest: Resumed, p: Placed, know
 }
 
 // The line itself.
-fn laid_at(at: u32, rest: Resumed, p: Placed, width: u32, looked: u32, e: Ended) -> LineAt
-    ensures { λ r. ⌜ r ≡ laidAt at rest p width looked e ⌝ }
+fn laid_at(at: Offset, rest: Resumed, p: Placed, width: Pixels, looked: Offset, e: Ended) -> LineAt
+    ensures { λ r. ⌜ r ≡ laidAt (at .0) rest p (width .0) (looked .0) e ⌝ }
 {
     let entry = entry_at(at, rest, p, width, looked, e);
     let ended = e.ended;
@@ -98,14 +101,15 @@ fn laid_at(at: u32, rest: Resumed, p: Placed, width: u32, looked: u32, e: Ended)
 }
 
 // The line whose drawing pass ends as its measuring pass did.
-fn laid_alike(s: Settings, at: u32, rest: Resumed, e: Ended) -> LineAt
+fn laid_alike(s: Settings, at: Offset, rest: Resumed, e: Ended) -> LineAt
     requires { ⌜ FineSettings s × (measuredCount s (e .measure) ≤ 65535) ⌝ }
-    ensures { λ r. ⌜ r ≡ laidAt at rest (placedBy s e) (measuredWidth s (e .measure)) (e .reach .0) e ⌝ }
+    ensures { λ r. ⌜ r ≡ laidAt (at .0) rest (placedBy s e) (measuredWidth s (e .measure)) (e .reach .0) e ⌝ }
 {
     let m = e.measure;
     let width = measured_width(s, m);
     let p = placed_by(s, e);
-    laid_at(at, rest, p, width, e.reach.0, e)
+    let looked = e.reach;
+    laid_at(at, rest, p, Pixels(width), looked, e)
 }
 
 // The line in two passes. One that is placed as it was measured is drawn as it was.
@@ -117,11 +121,13 @@ fn lay_twice(text: &[u8], s: Settings, at: usize, rest: Resumed, known: Known) -
     let m = first.measure;
     let width = measured_width(s, m);
     let p = placed_by(s, first);
+    let looked = first.reach;
+    let start = at as u32;
     if as_measured(s, p) {
-        return laid_at(at as u32, rest, p, width, first.reach.0, first);
+        return laid_at(Offset(start), rest, p, Pixels(width), looked, first);
     }
     let drawn = pass_over(text, s, at, rest, p, known);
-    laid_at(at as u32, rest, p, width, first.reach.0, drawn)
+    laid_at(Offset(start), rest, p, Pixels(width), looked, drawn)
 }
 
 // The line at an offset of a text, after a rest that it resumes, where a word may be known.
@@ -129,13 +135,14 @@ pub fn lay_line(text: &[u8], s: Settings, at: usize, rest: Resumed, known: Known
     requires { ⌜ LineReady s (now text) at rest × KnownFits (now text) known ⌝ }
     ensures { λ r. ⌜ r ≡ lineFrom s (now (text .entry)) at rest ⌝ }
 {
+    let start = at as u32;
     if rest.chars.0 == 0 {
         if let Quick::Line(e) = quick_line(text, s, at, known) {
-            return laid_alike(s, at as u32, rest, e);
+            return laid_alike(s, Offset(start), rest, e);
         }
         let here = known_here(text, at, known);
         if let Quick::Line(e) = cut_line(text, s, at, here) {
-            return laid_alike(s, at as u32, rest, e);
+            return laid_alike(s, Offset(start), rest, e);
         }
         return lay_twice(text, s, at, rest, here);
     }

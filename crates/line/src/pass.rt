@@ -1,4 +1,6 @@
 // One pass over a line, in strides of words where it can, else token by token (rules 8 and 9).
+use meaning::counts::Chars;
+use meaning::counts::Offset;
 use meaning::cursor::Place;
 use meaning::line::LineEnd;
 use meaning::line::Measure;
@@ -62,8 +64,9 @@ pub fn run_pass(
         let to = g.at.0 as usize;
         let token = first_token(text, to, held, known);
         let Lexed::Token(x) = token else {
-            let end = to as u32;
-            return ends_before(LineEnd::EndOfText, so, end, 0, farther(reach, end + 1));
+            let end = g.at;
+            let far = farther(reach, end.0 + 1);
+            return ends_before(LineEnd::EndOfText, so, end, Chars(0), Offset(far));
         };
         let ahead = look_after(text, s, here, to, x, seen);
         let stepped = step_token(text, s, here, to, x, so, ahead);

@@ -16,9 +16,9 @@ use parser::pair::pair_at;
 use parser::scan::Scanned;
 use steps::ending::ends_before;
 use steps::first::Known;
+use steps::measure::printed_at;
 use steps::place::start_place;
 use steps::step::Ended;
-use steps::words::printed_at;
 use strides::going::Going;
 use strides::going::Waiting;
 use strides::going::nothing_waits;
@@ -166,9 +166,10 @@ fn measured_to(s: Settings, c: Counted) -> Going
     let wide = c.columns.0 * s.glyph.0;
     let start = start_place(s, Pixels(0), plain_spaces(s));
     let waits = c.waits;
+    let spaces = c.spaces;
     stands_at(
         strode(start, wide, 0),
-        printed_at(wide, c.spaces.0),
+        printed_at(Pixels(wide), spaces),
         c.end.0 as usize,
         waits,
     )
@@ -191,10 +192,12 @@ pub fn quick_line(text: &[u8], s: Settings, at: usize, known: Known) -> Quick
     let m = g.measure;
     let end = g.at.0;
     if text.len() <= end as usize {
-        return Quick::Line(ends_before(LineEnd::EndOfText, m, end, 0, end + 1));
+        let far = end + 1;
+        return Quick::Line(ends_before(LineEnd::EndOfText, m, Offset(end), Chars(0), Offset(far)));
     }
     if text[end as usize] == 0x0A {
-        return Quick::Line(ends_before(LineEnd::NewLine, m, end + 1, 0, end + 1));
+        let next = end + 1;
+        return Quick::Line(ends_before(LineEnd::NewLine, m, Offset(next), Chars(0), Offset(next)));
     }
     Quick::Not
 }

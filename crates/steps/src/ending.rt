@@ -21,16 +21,22 @@ pub fn nothing_left() -> Resumed
 }
 
 // A line that ends before an offset, with nothing left of a run.
-pub fn ends_before(ended: LineEnd, measure: Measure, next: u32, dropped: u32, reach: u32) -> Ended
-    ensures { λ r. ⌜ r ≡ endsBefore ended measure next dropped reach ⌝ }
+pub fn ends_before(
+    ended: LineEnd,
+    measure: Measure,
+    next: Offset,
+    dropped: Chars,
+    reach: Offset,
+) -> Ended
+    ensures { λ r. ⌜ r ≡ endsBefore ended measure (next .0) (dropped .0) (reach .0) ⌝ }
 {
     let rest = nothing_left();
     Ended {
         ended,
         measure,
-        next: Offset(next),
+        next,
         rest,
-        dropped: Chars(dropped),
-        reach: Offset(reach),
+        dropped,
+        reach,
     }
 }

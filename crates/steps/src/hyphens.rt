@@ -5,6 +5,7 @@ use crate::line_iter::next_word_width;
 use crate::measure::noted_print;
 use crate::place::moved_on;
 use crate::step::Stepped;
+use meaning::counts::Chars;
 use meaning::counts::Offset;
 use meaning::cursor::NextWord;
 use meaning::cursor::Place;
@@ -24,23 +25,24 @@ ghost use Rattle.steps.specs.Stepping.{steppedAt};
 ghost use Rattle.steps.specs.Ready.{Small, Ready, stepFrom};
 
 // A "-" is printed if it fits. The line ends there unless it is still empty, and keeps a soft hyphen whose "-" did not fit.
-fn hyphenated(s: Settings, p: Place, at: usize, m: Measure, reach: u32) -> Stepped
+fn hyphenated(s: Settings, p: Place, at: usize, m: Measure, reach: Offset) -> Stepped
     requires { ⌜ FineSettings s × FinePlace p × Small at m × (at + 2 ≤ 65535) ⌝ }
-    ensures { λ r. ⌜ r ≡ steppedAt m at softHyphen (meant.hyphenated s p at reach) ⌝ }
+    ensures { λ r. ⌜ r ≡ steppedAt m at softHyphen (meant.hyphenated s p at (reach .0)) ⌝ }
 {
-    let glyph = s.glyph.0;
+    let glyph = s.glyph;
     let cursor = p.cursor;
-    if fits(cursor, glyph) {
+    if fits(cursor, glyph.0) {
         let after = noted_print(m, glyph);
         if p.empty {
-            return Stepped::Go(moved_on(p, glyph), after, Offset(reach));
+            return Stepped::Go(moved_on(p, glyph.0), after, reach);
         }
-        return Stepped::Stop(ends_before(LineEnd::LineBreak, after, at as u32 + 2, 0, reach));
+        let next = Offset(at as u32 + 2);
+        return Stepped::Stop(ends_before(LineEnd::LineBreak, after, next, Chars(0), reach));
     }
     if p.empty {
-        return Stepped::Go(p, m, Offset(reach));
+        return Stepped::Go(p, m, reach);
     }
-    Stepped::Stop(ends_before(LineEnd::LineBreak, m, at as u32, 0, reach))
+    Stepped::Stop(ends_before(LineEnd::LineBreak, m, Offset(at as u32), Chars(0), reach))
 }
 
 // Whether a soft hyphen before a word of a width shows: the word does not fit, or the line is still empty.
@@ -67,7 +69,7 @@ pub fn on_break(text: &[u8], s: Settings, p: Place, at: usize, x: Lexeme, m: Mea
         return Stepped::Go(p, m, reach);
     };
     if shows(p, w.0) {
-        return hyphenated(s, p, at, m, reach.0);
+        return hyphenated(s, p, at, m, reach);
     }
     Stepped::Go(p, m, reach)
 }

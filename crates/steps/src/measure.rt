@@ -7,6 +7,7 @@ ghost use Prim.Native.Nat.{_+_, _<_};
 ghost use mathlib.Core.Path.{_≡_};
 ghost use Rattle.meaning.specs.Line.{noted, unmeasured, measuredWidth, measuredCount};
 ghost use Rattle.meaning.specs.declared.line.EventKind.the-variants.{Space, Printed};
+ghost use Rattle.laws.specs.Measuring.{printedAt};
 
 // Nothing is drawn yet.
 pub fn nothing_measured() -> Measure
@@ -20,27 +21,39 @@ pub fn nothing_measured() -> Measure
     }
 }
 
+// Just after a print.
+pub fn printed_at(pen: Pixels, spaces: Chars) -> Measure
+    ensures { λ r. ⌜ r ≡ printedAt (pen .0) (spaces .0) ⌝ }
+{
+    Measure {
+        pen,
+        spaces,
+        width: pen,
+        count: spaces,
+    }
+}
+
 // Spaces or a move: the pen and the spaces counted grow.
-pub fn noted_space(m: Measure, count: u32, width: u32) -> Measure
-    requires { ⌜ (m .pen .0 + width < 4294967296) × (m .spaces .0 + count < 4294967296) ⌝ }
-    ensures { λ r. ⌜ r ≡ noted Space (m .pen .0 + width) (m .spaces .0 + count) m ⌝ }
+pub fn noted_space(m: Measure, count: Chars, width: Pixels) -> Measure
+    requires { ⌜ (m .pen .0 + width .0 < 4294967296) × (m .spaces .0 + count .0 < 4294967296) ⌝ }
+    ensures { λ r. ⌜ r ≡ noted Space (m .pen .0 + width .0) (m .spaces .0 + count .0) m ⌝ }
 {
     let last = m.width;
     let before = m.count;
     Measure {
-        pen: Pixels(m.pen.0 + width),
-        spaces: Chars(m.spaces.0 + count),
+        pen: Pixels(m.pen.0 + width.0),
+        spaces: Chars(m.spaces.0 + count.0),
         width: last,
         count: before,
     }
 }
 
 // A print, which counts no space: width and count become the pen and the spaces.
-pub fn noted_print(m: Measure, width: u32) -> Measure
-    requires { ⌜ m .pen .0 + width < 4294967296 ⌝ }
-    ensures { λ r. ⌜ r ≡ noted Printed (m .pen .0 + width) (m .spaces .0 + 0) m ⌝ }
+pub fn noted_print(m: Measure, width: Pixels) -> Measure
+    requires { ⌜ m .pen .0 + width .0 < 4294967296 ⌝ }
+    ensures { λ r. ⌜ r ≡ noted Printed (m .pen .0 + width .0) (m .spaces .0 + 0) m ⌝ }
 {
-    let pen = Pixels(m.pen.0 + width);
+    let pen = Pixels(m.pen.0 + width.0);
     let spaces = m.spaces;
     Measure {
         pen,
@@ -60,6 +73,7 @@ pub fn measured_width(s: Settings, m: Measure) -> u32
     m.width.0
 }
 
+// The spaces counted up to there.
 pub fn measured_count(s: Settings, m: Measure) -> u32
     ensures { λ r. ⌜ r ≡ measuredCount s m ⌝ }
 {

@@ -1,6 +1,7 @@
 // What a space run does to a line (rules 5, 8 and 9).
 use crate::cursor::fits;
 use crate::cursor::room;
+use crate::ending::nothing_left;
 use crate::line_iter::next_word_fits;
 use crate::look::Foreseen;
 use crate::look::Look;
@@ -15,6 +16,7 @@ use crate::step::Resumed;
 use crate::step::Stepped;
 use meaning::counts::Chars;
 use meaning::counts::Offset;
+use meaning::counts::Pixels;
 use meaning::cursor::Place;
 use meaning::line::LineEnd;
 use meaning::line::Measure;
@@ -35,36 +37,32 @@ ghost use Rattle.steps.specs.Foreseeing.{Foresees, ForeseesAfter};
 ghost use Rattle.steps.specs.Runs.{cutShown, CutRun, cutAnswer, WholeRun, wholeAnswer};
 
 // What is held of a run of so many characters and counted spaces that ends at an offset, of which some are taken.
-fn held_rest(end: Offset, chars: u32, count: u32, taken: u32) -> Resumed
-    requires { ⌜ (taken ≤ count) × (count ≤ chars) ⌝ }
-    ensures { λ r. ⌜ r ≡ resumedAt (end .0) (heldAfter chars count taken) ⌝ }
+fn held_rest(end: Offset, chars: Chars, count: Chars, taken: u32) -> Resumed
+    requires { ⌜ (taken ≤ count .0) × (count .0 ≤ chars .0) ⌝ }
+    ensures { λ r. ⌜ r ≡ resumedAt (end .0) (heldAfter (chars .0) (count .0) taken) ⌝ }
 {
-    if chars <= taken {
-        return Resumed {
-            end: Offset(0),
-            chars: Chars(0),
-            count: Chars(0),
-        };
+    if chars.0 <= taken {
+        return nothing_left();
     }
     Resumed {
         end,
-        chars: Chars(chars - taken),
-        count: Chars(count - taken),
+        chars: Chars(chars.0 - taken),
+        count: Chars(count.0 - taken),
     }
 }
 
 // The spaces that fit are measured, wide only with trailing spaces on.
-fn cut_measure(s: Settings, m: Measure, fitting: u32, width: u32) -> Measure
-    requires { ⌜ (m .pen .0 + width < 4294967296) × (m .spaces .0 + fitting < 4294967296) ⌝ }
-    ensures { λ r. ⌜ r ≡ cutShown s m fitting width ⌝ }
+fn cut_measure(s: Settings, m: Measure, fitting: Chars, width: Pixels) -> Measure
+    requires { ⌜ (m .pen .0 + width .0 < 4294967296) × (m .spaces .0 + fitting .0 < 4294967296) ⌝ }
+    ensures { λ r. ⌜ r ≡ cutShown s m (fitting .0) (width .0) ⌝ }
 {
-    if fitting == 0 {
+    if fitting.0 == 0 {
         return m;
     }
     if s.trailing == 1 {
         return noted_space(m, fitting, width);
     }
-    noted_space(m, fitting, 0)
+    noted_space(m, fitting, Pixels(0))
 }
 
 // A run that is too wide: the spaces that fit are drawn, one more is taken, and the rest is held for the next line.
@@ -87,8 +85,10 @@ fn cut_run(
     let part = part_of(text, at, taken);
     let next = part.end;
     let end = x.end;
-    let measure = cut_measure(s, m, fitting, fitting * single);
-    let rest = held_rest(end, x.chars.0, x.count.0, taken);
+    let chars = x.chars;
+    let count = x.count;
+    let measure = cut_measure(s, m, Chars(fitting), Pixels(fitting * single));
+    let rest = held_rest(end, chars, count, taken);
     Stepped::Stop(Ended {
         ended: LineEnd::LineBreak,
         measure,
@@ -140,10 +140,11 @@ fn whole_run(
 {
     let look = draws_space(text, s, q, x.end.0 as usize, seen);
     let reach = look.reach;
+    let count = x.count;
     if look.fits {
-        return Stepped::Go(q, noted_space(m, x.count.0, width), reach);
+        return Stepped::Go(q, noted_space(m, count, Pixels(width)), reach);
     }
-    Stepped::Go(q, noted_space(m, x.count.0, 0), reach)
+    Stepped::Go(q, noted_space(m, count, Pixels(0)), reach)
 }
 
 // A space run: skipped at the front of a line, drawn where it fits, else cut. Its spaces are used up whatever becomes of it.
@@ -161,11 +162,12 @@ pub fn on_space(
 {
     let cursor = p.cursor;
     let spaces = p.spaces;
-    let used = used_up(p, x.count.0);
+    let count = x.count;
+    let used = used_up(p, count.0);
     if skips_space(s, p) {
-        return Stepped::Go(used, noted_space(m, x.count.0, 0), Offset(0));
+        return Stepped::Go(used, noted_space(m, count, Pixels(0)), Offset(0));
     }
-    let width = spaces_width(spaces, x.count.0);
+    let width = spaces_width(spaces, count.0);
     if fits(cursor, width) {
         return whole_run(text, s, moved_on(used, width), x, width, m, seen);
     }

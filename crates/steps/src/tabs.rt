@@ -8,7 +8,9 @@ use crate::place::moved_on;
 use crate::place::skips_space;
 use crate::spaces::draws_space;
 use crate::step::Stepped;
+use meaning::counts::Chars;
 use meaning::counts::Offset;
+use meaning::counts::Pixels;
 use meaning::cursor::Place;
 use meaning::line::Measure;
 use meaning::settings::Settings;
@@ -40,7 +42,7 @@ pub fn on_tab(
         let q = moved_on(p, width);
         let look = draws_space(text, s, q, x.end.0 as usize, seen);
         let reach = look.reach;
-        return Stepped::Go(q, noted_space(m, 0, width), reach);
+        return Stepped::Go(q, noted_space(m, Chars(0), Pixels(width)), reach);
     }
-    Stepped::Go(p, noted_space(m, 0, room(cursor)), Offset(0))
+    Stepped::Go(p, noted_space(m, Chars(0), Pixels(room(cursor))), Offset(0))
 }

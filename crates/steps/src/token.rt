@@ -6,6 +6,8 @@ use crate::spaces::on_space;
 use crate::step::Stepped;
 use crate::tabs::on_tab;
 use crate::words::on_word;
+use meaning::counts::Chars;
+use meaning::counts::Offset;
 use meaning::cursor::Place;
 use meaning::line::LineEnd;
 use meaning::line::Measure;
@@ -30,18 +32,25 @@ pub fn step_token(
     ensures { λ r. ⌜ r ≡ stepFrom s p (now (text .entry)) at x m ⌝ }
 {
     let kind = x.kind;
+    let next = x.end;
     match kind {
         TokenKind::Word => on_word(text, s, p, at, x, m),
         TokenKind::Whitespace => on_space(text, s, p, at, x, m, seen),
         TokenKind::Tab => on_tab(text, s, p, at, x, m, seen),
         TokenKind::Break => on_break(text, s, p, at, x, m),
-        TokenKind::NewLine => Stepped::Stop(ends_before(LineEnd::NewLine, m, x.end.0, 0, 0)),
+        TokenKind::NewLine => Stepped::Stop(ends_before(
+            LineEnd::NewLine,
+            m,
+            next,
+            Chars(0),
+            Offset(0),
+        )),
         TokenKind::CarriageReturn => Stepped::Stop(ends_before(
             LineEnd::CarriageReturn,
             m,
-            x.end.0,
-            0,
-            0,
+            next,
+            Chars(0),
+            Offset(0),
         )),
     }
 }

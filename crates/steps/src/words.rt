@@ -3,6 +3,7 @@ use crate::cursor::advanced;
 use crate::cursor::fits;
 use crate::cursor::room;
 use crate::ending::ends_before;
+use crate::measure::printed_at;
 use crate::space_config::spaces_after;
 use crate::space_config::spaces_width;
 use crate::step::Stepped;
@@ -21,41 +22,29 @@ ghost use mathlib.Core.Path.{_≡_};
 ghost use mathlib.Core.Bool.{true, false};
 ghost use Rattle.meaning.specs.Cursor.{fitsIn};
 ghost use Rattle.meaning.specs.declared.tokens.TokenKind.the-variants.{Word};
-ghost use Rattle.laws.specs.Measuring.{printedAt};
 ghost use Rattle.steps.specs.Fine.{FineSpaces, FinePlace};
 ghost use Rattle.steps.specs.Ready.{Ready, stepFrom};
 ghost use Rattle.steps.specs.Stopping.{wordMeasure, wordPlace};
 
-// Just after a print.
-pub fn printed_at(pen: u32, spaces: u32) -> Measure
-    ensures { λ r. ⌜ r ≡ printedAt pen spaces ⌝ }
-{
-    Measure {
-        pen: Pixels(pen),
-        spaces: Chars(spaces),
-        width: Pixels(pen),
-        count: Chars(spaces),
-    }
-}
-
 // What is measured after a word of n characters, g of which glue: a space each, and a glyph for every other.
-pub fn word_measure(glyph: u32, sp: Spaces, m: Measure, n: u32, g: u32) -> Measure
-    requires { ⌜ FineSpaces sp × (glyph ≤ 64) × (n ≤ 65535) × (g ≤ n) × (m .pen .0 ≤ 8192 * 65535) × (m .spaces .0 ≤ 65535) ⌝ }
-    ensures { λ r. ⌜ r ≡ wordMeasure glyph sp m n g ⌝ }
+pub fn word_measure(glyph: Pixels, sp: Spaces, m: Measure, n: Chars, g: Chars) -> Measure
+    requires { ⌜ FineSpaces sp × (glyph .0 ≤ 64) × (n .0 ≤ 65535) × (g .0 ≤ n .0) × (m .pen .0 ≤ 8192 * 65535) × (m .spaces .0 ≤ 65535) ⌝ }
+    ensures { λ r. ⌜ r ≡ wordMeasure (glyph .0) sp m (n .0) (g .0) ⌝ }
 {
-    let letters = (n - g) * glyph;
-    printed_at(m.pen.0 + letters + spaces_width(sp, g), m.spaces.0 + g)
+    let letters = (n.0 - g.0) * glyph.0;
+    let pen = m.pen.0 + letters + spaces_width(sp, g.0);
+    printed_at(Pixels(pen), Chars(m.spaces.0 + g.0))
 }
 
 // The place after such a word, which fits.
-pub fn word_place(glyph: u32, p: Place, n: u32, g: u32) -> Place
-    requires { ⌜ FinePlace p × (fitsIn (p .cursor) (n * glyph) ≡ true) ⌝ }
-    ensures { λ r. ⌜ r ≡ wordPlace glyph p n g ⌝ }
+pub fn word_place(glyph: Pixels, p: Place, n: Chars, g: Chars) -> Place
+    requires { ⌜ FinePlace p × (fitsIn (p .cursor) (n .0 * glyph .0) ≡ true) ⌝ }
+    ensures { λ r. ⌜ r ≡ wordPlace (glyph .0) p (n .0) (g .0) ⌝ }
 {
     let before = p.cursor;
     let spaces = p.spaces;
-    let cursor = advanced(before, n * glyph);
-    let left = spaces_after(spaces, g);
+    let cursor = advanced(before, n.0 * glyph.0);
+    let left = spaces_after(spaces, g.0);
     Place {
         cursor,
         spaces: left,
@@ -71,12 +60,17 @@ fn cut_word(text: &[u8], s: Settings, p: Place, at: usize, x: Lexeme, m: Measure
     let cursor = p.cursor;
     let fitting = room(cursor) / s.glyph.0;
     if fitting == 0 {
-        return Stepped::Stop(ends_before(LineEnd::LineBreak, m, x.end.0, x.chars.0, 0));
+        let end = x.end;
+        let dropped = x.chars;
+        return Stepped::Stop(ends_before(LineEnd::LineBreak, m, end, dropped, Offset(0)));
     }
     let spaces = p.spaces;
+    let glyph = s.glyph;
     let part = part_of(text, at, fitting);
-    let after = word_measure(s.glyph.0, spaces, m, fitting, part.glues.0);
-    Stepped::Stop(ends_before(LineEnd::LineBreak, after, part.end.0, 0, 0))
+    let glues = part.glues;
+    let next = part.end;
+    let after = word_measure(glyph, spaces, m, Chars(fitting), glues);
+    Stepped::Stop(ends_before(LineEnd::LineBreak, after, next, Chars(0), Offset(0)))
 }
 
 // A word that does not fit waits for the next line, if this one is not empty.
@@ -84,11 +78,11 @@ pub fn on_word(text: &[u8], s: Settings, p: Place, at: usize, x: Lexeme, m: Meas
     requires { ⌜ Ready s p (now text) at x m × (x .kind ≡ Word) ⌝ }
     ensures { λ r. ⌜ r ≡ stepFrom s p (now (text .entry)) at x m ⌝ }
 {
-    let glyph = s.glyph.0;
-    let n = x.chars.0;
+    let glyph = s.glyph;
+    let n = x.chars;
     let cursor = p.cursor;
-    if fits(cursor, n * glyph) {
-        let g = x.glues.0;
+    if fits(cursor, n.0 * glyph.0) {
+        let g = x.glues;
         let spaces = p.spaces;
         let after = word_measure(glyph, spaces, m, n, g);
         return Stepped::Go(word_place(glyph, p, n, g), after, Offset(0));
@@ -96,5 +90,11 @@ pub fn on_word(text: &[u8], s: Settings, p: Place, at: usize, x: Lexeme, m: Meas
     if p.empty {
         return cut_word(text, s, p, at, x, m);
     }
-    Stepped::Stop(ends_before(LineEnd::LineBreak, m, at as u32, 0, 0))
+    Stepped::Stop(ends_before(
+        LineEnd::LineBreak,
+        m,
+        Offset(at as u32),
+        Chars(0),
+        Offset(0),
+    ))
 }

@@ -4,14 +4,16 @@ use crate::going::Waiting;
 use crate::going::nothing_waits;
 use crate::going::stands_at;
 use crate::going::strode;
+use meaning::counts::Chars;
+use meaning::counts::Pixels;
 use meaning::cursor::Place;
 use meaning::line::Measure;
 use meaning::settings::Settings;
 use parser::pair::pair_at;
 use steps::cursor::room;
+use steps::measure::printed_at;
 use steps::space_config::spaces_after;
 use steps::space_config::spaces_width;
-use steps::words::printed_at;
 use steps::words::word_measure;
 ghost use mathlib.Core.Path.{_≡_};
 ghost use mathlib.Core.Bool.{false};
@@ -53,7 +55,9 @@ pub fn pair_on(text: &[u8], s: Settings, p: Place, at: usize, m: Measure) -> Goi
     let left = spaces_after(spaces, 1);
     let more = spaces_after(left, g);
     let q = strode(p, cursor.position.0 + wide, more.extra.0);
-    let spaced = printed_at(m.pen.0 + space, m.spaces.0 + 1);
-    let after = word_measure(glyph, left, spaced, n, g);
+    let pen = m.pen.0 + space;
+    let counted = m.spaces.0 + 1;
+    let spaced = printed_at(Pixels(pen), Chars(counted));
+    let after = word_measure(Pixels(glyph), left, spaced, Chars(n), Chars(g));
     stands_at(q, after, pair.word.end.0 as usize, nothing_waits())
 }

@@ -7,6 +7,9 @@ use crate::going::strode;
 use crate::pairs::pair_on;
 use crate::plain_words::stride_end;
 use crate::plain_words::word_within;
+use meaning::counts::Chars;
+use meaning::counts::Offset;
+use meaning::counts::Pixels;
 use meaning::cursor::Place;
 use meaning::line::LineEnd;
 use meaning::line::Measure;
@@ -17,11 +20,11 @@ use steps::cursor::room;
 use steps::ending::ends_before;
 use steps::look::Foreseen;
 use steps::measure::noted_space;
+use steps::measure::printed_at;
 use steps::space_config::lesser;
 use steps::space_config::spaces_width;
 use steps::step::Ended;
 use steps::step::Resumed;
-use steps::words::printed_at;
 use steps::words::word_measure;
 use steps::words::word_place;
 ghost use mathlib.Core.Path.{_≡_};
@@ -50,7 +53,7 @@ fn strides(text: &[u8], s: Settings, p: Place, from: usize, m: Measure) -> Going
         if end == 0 {
             return stands_at(
                 strode(p, position, extra),
-                printed_at(pen, spaces),
+                printed_at(Pixels(pen), Chars(spaces)),
                 at,
                 nothing_waits(),
             );
@@ -60,7 +63,7 @@ fn strides(text: &[u8], s: Settings, p: Place, from: usize, m: Measure) -> Going
         if edge - position < wide {
             return stands_at(
                 strode(p, position, extra),
-                printed_at(pen, spaces),
+                printed_at(Pixels(pen), Chars(spaces)),
                 at,
                 plain_waits(at + 1, end),
             );
@@ -85,8 +88,9 @@ fn first_word(text: &[u8], s: Settings, p: Place, at: usize, m: Measure) -> Goin
         if end != 0 {
             let spaces = p.spaces;
             let n = (end - at) as u32;
-            let after = word_measure(glyph, spaces, m, n, 0);
-            return stands_at(word_place(glyph, p, n, 0), after, end, nothing_waits());
+            let after = word_measure(Pixels(glyph), spaces, m, Chars(n), Chars(0));
+            let q = word_place(Pixels(glyph), p, Chars(n), Chars(0));
+            return stands_at(q, after, end, nothing_waits());
         }
     }
     stands_at(p, m, at, nothing_waits())
@@ -168,14 +172,17 @@ pub fn ends_waiting(text: &[u8], s: Settings, g: Going) -> Ended
     let m = g.measure;
     let cursor = p.cursor;
     let spaces = p.spaces;
-    let next = g.waits.next.0;
+    let next = g.waits.next;
     let wide = spaces_width(spaces, 1);
     if !fits(cursor, wide) {
-        return ends_before(LineEnd::LineBreak, m, next, 0, g.waits.looked.0);
+        let looked = g.waits.looked;
+        return ends_before(LineEnd::LineBreak, m, next, Chars(0), looked);
     }
-    let far = g.waits.reach.0;
+    let far = g.waits.reach;
     if s.trailing == 1 {
-        return ends_before(LineEnd::LineBreak, noted_space(m, 1, wide), next, 0, far);
+        let drawn = noted_space(m, Chars(1), Pixels(wide));
+        return ends_before(LineEnd::LineBreak, drawn, next, Chars(0), far);
     }
-    ends_before(LineEnd::LineBreak, noted_space(m, 1, 0), next, 0, far)
+    let hidden = noted_space(m, Chars(1), Pixels(0));
+    ends_before(LineEnd::LineBreak, hidden, next, Chars(0), far)
 }

@@ -49,7 +49,7 @@ shared-out-requires c κs =
     let s = c .before .before .before .before .before .before .before .before .before .before in (
       s .pre .0,
       omega (arith, c .before .before .before .before .before .before .before .before .before .room-after .ensures),
-      counts (endsParagraph (s .args .ended)) (s .args .n) (sym (c .before .stays-plain .ensures) ∙ c .if4 .left),
+      counts (endsParagraph (s .args .ended)) (s .args .n .0) (sym (c .before .stays-plain .ensures) ∙ c .if4 .left),
       s .pre .1,
     )
 

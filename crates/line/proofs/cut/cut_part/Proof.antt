@@ -38,7 +38,7 @@ ends-before-requires c κs = search needs
 returns-3 : tie.Need-returns-3
 returns-3 c =
     let m = c .before in
-    let part = m .before in
+    let part = m .before .before .before .before in
     let long = part .before in
     let some = long .before .before in
     let r = begin some .pre in

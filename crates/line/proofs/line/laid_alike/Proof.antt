@@ -15,7 +15,7 @@ laid-at-requires c κs = search needs
 
 returns : tie.Need-returns
 returns c =
-    let p = c .before in
+    let p = c .before .before in
     rw (p .placed-by .ensures, p .before .measured-width .ensures) at (c .laid-at .ensures)
 
 pub laid-alike-spec : {M : Type 1} → statement M

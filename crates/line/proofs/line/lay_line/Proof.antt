@@ -1,7 +1,6 @@
 -- `line::line::lay_line` meets its contract.
 -- Assumes nothing.
 use mathlib.Core.Path.{subst}
-use native.Mathlib.Omega.{arith}
 use borrow.Author.Needs.{needs}
 use Rattle.line.specs.Quick.{DrawnAlike, QuickLine}
 use Rattle.line.proofs.LayLaws.{rested, alike-few, laid-alike}
@@ -21,14 +20,14 @@ alike c =
     let a = begin (c .before .before .before) .args in
     subst (QuickLine (a .s) (a .text .now) (a .at)) (c .e .given .1) (c .before .before .quick-line .ensures)
 
+cast-start : tie.Need-cast-start
+cast-start c = search needs
+
 quick-line-requires : tie.Need-quick-line-requires
 quick-line-requires c κs = (rested (begin c .pre .0) (c .if1 .taken), begin c .pre .1)
 
 enum-known-e : tie.Need-enum-known-e
 enum-known-e c = search needs
-
-cast-laid-alike : tie.Need-cast-laid-alike
-cast-laid-alike c = search needs
 
 laid-alike-requires : tie.Need-laid-alike-requires
 laid-alike-requires c κs =
@@ -68,11 +67,6 @@ cut-alike c =
     let a = begin (unquick (c .before .before .before)) .args in
     subst (QuickLine (a .s) (a .text .now) (a .at)) (c .e2 .given .1) (c .before .before .cut-line .ensures)
 
-cast-laid-alike-2 : tie.Need-cast-laid-alike-2
-cast-laid-alike-2 c =
-    let r = begin (unquick (c .before .before .before .before)) .pre .0 in
-    record { fits = omega (arith, r .inside, r .short) }
-
 laid-alike-requires-2 : tie.Need-laid-alike-requires-2
 laid-alike-requires-2 c κs =
     let e = c .before in
@@ -108,16 +102,15 @@ pub lay-line-spec : {M : Type 1} → statement M
 lay-line-spec =
     tie.close
     (tie.spec
+    cast-start
     quick-line-requires
     enum-known-e
-    cast-laid-alike
     laid-alike-requires
     returns
     enum-told
     known-here-requires
     cut-line-requires
     enum-known-e-2
-    cast-laid-alike-2
     laid-alike-requires-2
     returns-2
     enum-told-2

@@ -33,11 +33,11 @@ placed-by-requires c κs =
     let f = c .before .before in
     (ready (f .before) .settings, few-spaces (ready (f .before)) _ _ (f .before .placed-plainly .ensures) (f .pass-over .ensures))
 
+cast-start : tie.Need-cast-start
+cast-start c = search needs
+
 as-measured-requires : tie.Need-as-measured-requires
 as-measured-requires c κs = search needs
-
-cast-laid-at : tie.Need-cast-laid-at
-cast-laid-at c = search needs
 
 laid-at-requires : tie.Need-laid-at-requires
 laid-at-requires c κs = search needs
@@ -45,20 +45,17 @@ laid-at-requires c κs = search needs
 returns : tie.Need-returns
 returns c =
     let i = c .before .before in
-    let p = i .before in
+    let p = i .before .before in
     let f = p .before .before .before in
     laid-once (ready (f .before)) _ _ (f .before .placed-plainly .ensures) (f .pass-over .ensures) _ _ _ (p .before .measured-width .ensures) (p .placed-by .ensures)
     (sym (i .as-measured .ensures) ∙ c .before .if1 .taken) (c .laid-at .ensures)
 
 pass-over-requires-2 : tie.Need-pass-over-requires-2
 pass-over-requires-2 c κs =
-    let p = c .before .before in
+    let p = c .before .before .before in
     let f = p .before .before .before in
     let g = placed-ready (ready (f .before)) _ _ (f .before .placed-plainly .ensures) (f .pass-over .ensures) _ (p .placed-by .ensures) in
     (ready (f .before), g .0, g .1, known (f .before))
-
-cast-laid-at-2 : tie.Need-cast-laid-at-2
-cast-laid-at-2 c = let r = ready (c .before .before .before .before .before .before .before) in omega (arith, r .inside, r .short)
 
 laid-at-requires-2 : tie.Need-laid-at-requires-2
 laid-at-requires-2 c κs = search needs
@@ -66,7 +63,7 @@ laid-at-requires-2 c κs = search needs
 returns-2 : tie.Need-returns-2
 returns-2 c =
     let d = c .before in
-    let p = d .before .before .before in
+    let p = d .before .before .before .before in
     let f = p .before .before .before in
     laid-twice (ready (f .before)) _ _ (f .before .placed-plainly .ensures) (f .pass-over .ensures) _ _ _ (p .before .measured-width .ensures) (p .placed-by .ensures) _
     (d .pass-over2 .ensures) (c .laid-at2 .ensures)
@@ -79,11 +76,10 @@ lay-twice-spec =
     pass-over-requires
     measured-width-requires
     placed-by-requires
+    cast-start
     as-measured-requires
-    cast-laid-at
     laid-at-requires
     returns
     pass-over-requires-2
-    cast-laid-at-2
     laid-at-requires-2
     returns-2)

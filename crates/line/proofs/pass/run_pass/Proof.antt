@@ -81,12 +81,9 @@ enum-known-token c = search needs
 enum-told : tie.Need-enum-told Inv-loop μ-loop
 enum-told c = search needs
 
-cast-end : tie.Need-cast-end Inv-loop μ-loop
-cast-end c = search needs
-
 add-farther : tie.Need-add-farther Inv-loop μ-loop
 add-farther c =
-    let i = there (c .before .before) .strides-unless .ensures .0 .onward .ready in
+    let i = there (c .before .before .before .before) .strides-unless .ensures .0 .onward .ready in
     record { fits = omega (arith, i .inside, i .short) }
 
 farther-requires : tie.Need-farther-requires Inv-loop μ-loop
@@ -98,13 +95,14 @@ ends-before-requires c κs = search needs
 returns-2 : tie.Need-returns-2 Inv-loop μ-loop
 returns-2 c =
     let f = c .before in
-    let n = f .before .before .before in
+    let told = f .before .before .before in
+    let n = told .before .before in
     let r = there n in
     let l = r .before in
     let g = r .strides-unless .result in
     c .ends-before .ensures
     ∙ pass-ends (l .before .before .args .s) (g .place) _ (g .at .0) (l .loop .held .chars .0) (l .loop .held .count .0) (g .measure) (l .loop .reach)
-    (none-pending (g .at .0) _ (sym (n .first-token .ensures) ∙ f .before .enum-told .given .1)) _ (f .farther .ensures)
+    (none-pending (g .at .0) _ (sym (n .first-token .ensures) ∙ told .enum-told .given .1)) _ (f .farther .ensures)
     ∙ strode r
 
 -- Its step has what it needs.
@@ -214,7 +212,6 @@ run-pass-spec =
     first-token-requires
     enum-known-token
     enum-told
-    cast-end
     add-farther
     farther-requires
     ends-before-requires

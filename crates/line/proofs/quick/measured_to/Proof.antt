@@ -1,5 +1,6 @@
 -- `line::quick::measured_to` meets its contract.
 -- Assumes nothing.
+use native.Mathlib.Omega.{arith}
 use borrow.Author.Needs.{needs}
 use Rattle.line.proofs.QuickLaws.{measured-here}
 use Rattle.line.proofs.quick.measured_to.Statement.{statement}
@@ -24,13 +25,13 @@ cast-stands-at : tie.Need-cast-stands-at
 cast-stands-at c = search needs
 
 stands-at-requires : tie.Need-stands-at-requires
-stands-at-requires c κs = search needs
+stands-at-requires c κs = let b = c .before .before .before .before .before in omega (arith, b .before .before .before .before .pre .1)
 
 returns : tie.Need-returns
 returns c =
     let m = c .before .before in
     let p = m .before in
-    let b = p .before .before in
+    let b = p .before .before .before in
     measured-here _ _ _ _ _ _ _ _ _ _ (b .before .plain-spaces .ensures) (b .start-place .ensures) (p .strode .ensures) (m .printed-at .ensures) (c .stands-at .ensures)
 
 pub measured-to-spec : {M : Type 1} → statement M

@@ -41,8 +41,8 @@ returns-2 c =
 cast-if3 : tie.Need-cast-if3
 cast-if3 c = search needs
 
-add-ends-before : tie.Need-add-ends-before
-add-ends-before c =
+add-far : tie.Need-add-far
+add-far c =
     let m = c .before .before .before .before in
     let r = begin (m .before) .pre .0 in
     record { fits = omega (arith, quick-inside r (counted (m .before)) _ (m .measured-to .ensures), r .short) }
@@ -62,11 +62,8 @@ cast-if4 c = search needs
 shared-slice-read-if4 : tie.Need-shared-slice-read-if4
 shared-slice-read-if4 c = search needs
 
-add-ends-before-2 : tie.Need-add-ends-before-2
-add-ends-before-2 c = search needs
-
-add-ends-before-3 : tie.Need-add-ends-before-3
-add-ends-before-3 c = search needs
+add-next : tie.Need-add-next
+add-next c = search needs
 
 ends-before-requires-2 : tie.Need-ends-before-requires-2
 ends-before-requires-2 c κs = search needs
@@ -91,13 +88,12 @@ quick-line-spec =
     ends-waiting-requires
     returns-2
     cast-if3
-    add-ends-before
+    add-far
     ends-before-requires
     returns-3
     cast-if4
     shared-slice-read-if4
-    add-ends-before-2
-    add-ends-before-3
+    add-next
     ends-before-requires-2
     returns-4
     returns-5)

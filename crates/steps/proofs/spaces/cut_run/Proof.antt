@@ -34,22 +34,25 @@ lesser-requires c κs = search needs
 part-of-requires : tie.Need-part-of-requires
 part-of-requires c κs = search needs
 
-mul-cut-measure : tie.Need-mul-cut-measure
-mul-cut-measure c = record { fits = omega (arith, numbers (c .before .before .before .before)) }
+-- The part of the run that is taken stands between.
+abbrev roomed : tie.After-count → tie.After-room
+roomed c = c .before .before .before .before .before .before
+
+mul-t19 : tie.Need-mul-t19
+mul-t19 c = record { fits = omega (arith, numbers (roomed c)) }
 
 cut-measure-requires : tie.Need-cut-measure-requires
 cut-measure-requires c κs =
-    let l = c .before .before .before .before in
-    omega (arith, numbers l, begin l .pre .ready)
+    omega (arith, numbers (roomed c), begin (roomed c) .pre .ready)
 
 held-rest-requires : tie.Need-held-rest-requires
 held-rest-requires c κs =
-    let l = c .before .before .before .before in
+    let l = c .before .before .before .before .before .before in
     omega (arith, l .lesser .ensures, cut-fewer (begin (l .before) .pre))
 
 returns : tie.Need-returns
 returns c =
-    let p = c .before .before .before .before in
+    let p = c .before .before .before .before .before .before in
     let l = p .before in
     cut-answer (begin (l .before) .pre) _ _ _ _ _ (l .before .room .ensures) (l .lesser .ensures) (c .before .cut-measure .ensures) (p .part-of .ensures)
     (c .held-rest .ensures)
@@ -64,7 +67,7 @@ cut-run-spec =
     add-lesser
     lesser-requires
     part-of-requires
-    mul-cut-measure
+    mul-t19
     cut-measure-requires
     held-rest-requires
     returns)

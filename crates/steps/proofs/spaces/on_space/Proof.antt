@@ -14,7 +14,7 @@ use Rattle.steps.proofs.spaces.on_space.Statement.{statement}
 use Rattle.steps.proofs.spaces.on_space.Tie as tie
 
 abbrev begin : tie.After-skips-space → tie.Start
-begin c = c .before .before .before .before .before
+begin c = c .before .before .before .before .before .before
 
 few : (c : tie.After-skips-space) → begin c .args .x .count .0 ≤ 65535
 few c = space-few (begin c .pre .0) (begin c .pre .1)

@@ -15,13 +15,13 @@ noted-space-requires : tie.Need-noted-space-requires
 noted-space-requires c κs = search needs
 
 returns : tie.Need-returns
-returns c = whole-drawn _ _ _ _ _ _ _ (c .before .before .before .draws-space .ensures) _ (c .noted-space .ensures) (c .before .if1 .taken)
+returns c = whole-drawn _ _ _ _ _ _ _ (c .before .before .before .before .draws-space .ensures) _ (c .noted-space .ensures) (c .before .if1 .taken)
 
 noted-space-requires-2 : tie.Need-noted-space-requires-2
 noted-space-requires-2 c κs = search needs
 
 returns-2 : tie.Need-returns-2
-returns-2 c = whole-hidden _ _ _ _ _ _ _ (c .before .before .before .draws-space .ensures) _ (c .noted-space2 .ensures) (c .before .if1 .left)
+returns-2 c = whole-hidden _ _ _ _ _ _ _ (c .before .before .before .before .draws-space .ensures) _ (c .noted-space2 .ensures) (c .before .if1 .left)
 
 pub whole-run-spec : {M : Type 1} → statement M
 whole-run-spec =

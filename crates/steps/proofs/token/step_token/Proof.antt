@@ -58,13 +58,13 @@ returns-4 c = search needs
 returns-5 : tie.Need-returns-5
 returns-5 c =
     let k = c .before in
-    let s = k .before .before .before in
+    let s = k .before .before .before .before in
     ap Stop (c .ends-before .ensures) ∙ line-ends (s .args .s) (s .args .p) _ (s .args .at) (s .args .x) (s .args .m) (s .pre .0 .stands) (k .enum-told5 .given .1)
 
 returns-6 : tie.Need-returns-6
 returns-6 c =
     let k = c .before in
-    let s = k .before .before .before in
+    let s = k .before .before .before .before in
     ap Stop (c .ends-before2 .ensures) ∙ line-returns (s .args .s) (s .args .p) _ (s .args .at) (s .args .x) (s .args .m) (s .pre .0 .stands) (k .enum-told6 .given .1)
 
 pub step-token-spec : {M : Type 1} → statement M

@@ -10,13 +10,16 @@ use borrow.Author.Needs.{needs}
 use Rattle.steps.proofs.words.cut_word.Statement.{statement}
 use Rattle.steps.proofs.words.cut_word.Tie as tie
 
+abbrev begin : tie.After-room → tie.Start
+begin c = c .before .before .before
+
 word : (c : tie.Start) → WordAt (c .args .text .now) (c .args .at) (c .args .x)
 word c = word-at _ _ _ (c .pre .0 .stands) (c .pre .1)
 
 fitting-is : (c : tie.After-room) →
-    let a = c .before .before .before .args in
+    let a = begin c .args in
     c .room .result / a .s .glyph .0 ≡ roomOf (a .p .cursor) / a .s .glyph .0
-fitting-is c = ap (λ (n : ℕ). n / c .before .before .before .args .s .glyph .0) (c .room .ensures)
+fitting-is c = ap (λ (n : ℕ). n / begin c .args .s .glyph .0) (c .room .ensures)
 
 room-requires : tie.Need-room-requires
 room-requires c κs = search needs
@@ -29,21 +32,23 @@ ends-before-requires c κs = search needs
 
 returns : tie.Need-returns
 returns c =
-    let r = c .before .before .before in
-    let s = r .before .before .before in
+    let i = c .before .before .before in
+    let r = i .before .before in
+    let s = begin r in
     ap Stop (c .ends-before .ensures)
-    ∙ word-drops (s .args .s) (s .args .p) _ (s .args .at) (s .args .x) (s .args .m) (word s) (s .pre .2) (s .pre .3) _ (fitting-is r) (c .before .if1 .taken)
+    ∙ word-drops (s .args .s) (s .args .p) _ (s .args .at) (s .args .x) (s .args .m) (word s) (s .pre .2) (s .pre .3) _ (fitting-is r) (i .if1 .taken)
 
 part-of-requires : tie.Need-part-of-requires
 part-of-requires c κs = search needs
 
 word-measure-requires : tie.Need-word-measure-requires
 word-measure-requires c κs =
-    let r = c .before .before .before .before in
-    let s = r .before .before .before in
+    let q = c .before .before in
+    let r = q .before .before .before .before .before in
+    let s = begin r in
     let y = s .pre .0 in
-    let q = part-small (s .args .s) (s .args .p) _ (s .args .at) (s .args .x) (s .args .m) (word s) (s .pre .2) (s .pre .3) _ (c .part-of .result) (omega (arith, y .stands .within, y .short)) (fitting-is r) (c .part-of .ensures) in
-    (y .place .1, y .settings .1, q .0, q .1, omega (arith, y .small, y .stands .longer, y .stands .within, y .short), omega (arith, y .small, y .stands .longer, y .stands .within, y .short))
+    let few = part-small (s .args .s) (s .args .p) _ (s .args .at) (s .args .x) (s .args .m) (word s) (s .pre .2) (s .pre .3) _ (q .part-of .result) (omega (arith, y .stands .within, y .short)) (fitting-is r) (q .part-of .ensures) in
+    (y .place .1, y .settings .1, few .0, few .1, omega (arith, y .small, y .stands .longer, y .stands .within, y .short), omega (arith, y .small, y .stands .longer, y .stands .within, y .short))
 
 ends-before-requires-2 : tie.Need-ends-before-requires-2
 ends-before-requires-2 c κs = search needs
@@ -51,10 +56,10 @@ ends-before-requires-2 c κs = search needs
 returns-2 : tie.Need-returns-2
 returns-2 c =
     let w = c .before in
-    let q = w .before in
-    let e = q .before .before in
+    let q = w .before .before .before in
+    let e = q .before .before .before in
     let r = e .before .before in
-    let s = r .before .before .before in
+    let s = begin r in
     ap Stop (c .ends-before2 .ensures)
     ∙ word-parts (s .args .s) (s .args .p) _ (s .args .at) (s .args .x) (s .args .m) (word s) (s .pre .2) (s .pre .3) _ (q .part-of .result) _ (fitting-is r) (e .if1 .left) (q .part-of .ensures) (w .word-measure .ensures)
 

@@ -1,5 +1,6 @@
 -- `steps::words::word_measure` meets its contract.
 -- Assumes nothing.
+use Prim.Native.Nat.{_-_, _*_, _≤_}
 use Rattle.steps.specs.WordLaws.{letters-small}
 use Rattle.steps.specs.FineLaws.{width-bound}
 use Rattle.steps.specs.Stopping.{wordMeasure}
@@ -8,30 +9,38 @@ use borrow.Author.Needs.{needs}
 use Rattle.steps.proofs.words.word_measure.Statement.{statement}
 use Rattle.steps.proofs.words.word_measure.Tie as tie
 
+abbrev begin : tie.After-struct-known4 → tie.Start
+begin c = c .before .before .before .before
+
+small : (c : tie.Start) → (c .args .n .0 - c .args .g .0) * c .args .glyph .0 ≤ 65535 * 64
+small c = letters-small (c .args .n .0) (c .args .g .0) (c .args .glyph .0) (c .pre .2) (c .pre .1)
+
 sub-letters : tie.Need-sub-letters
 sub-letters c = search needs
 
 mul-letters : tie.Need-mul-letters
-mul-letters c = record { fits = omega (arith, letters-small (c .args .n) (c .args .g) (c .args .glyph) (c .pre .2) (c .pre .1)) }
+mul-letters c = record { fits = omega (arith, small (c .before .before .before)) }
 
-add-printed-at : tie.Need-add-printed-at
-add-printed-at c = let s = c .before in record { fits = omega (arith, letters-small (s .args .n) (s .args .g) (s .args .glyph) (s .pre .2) (s .pre .1)) }
+add-pen : tie.Need-add-pen
+add-pen c = record { fits = omega (arith, small (begin c)) }
 
 spaces-width-requires : tie.Need-spaces-width-requires
 spaces-width-requires c κs = search needs
 
-add-printed-at-2 : tie.Need-add-printed-at-2
-add-printed-at-2 c = let s = c .before .before in record { fits = omega (arith, letters-small (s .args .n) (s .args .g) (s .args .glyph) (s .pre .2) (s .pre .1), c .spaces-width .ensures, width-bound (s .args .sp) (s .args .g) (s .pre .0) (omega arith)) }
+add-pen-2 : tie.Need-add-pen-2
+add-pen-2 c =
+    let s = begin (c .before) in
+    record { fits = omega (arith, small s, c .spaces-width .ensures, width-bound (s .args .sp) (s .args .g .0) (s .pre .0) (omega arith)) }
 
-add-printed-at-3 : tie.Need-add-printed-at-3
-add-printed-at-3 c = search needs
+add-t8 : tie.Need-add-t8
+add-t8 c = search needs
 
 printed-at-requires : tie.Need-printed-at-requires
 printed-at-requires c κs = search needs
 
 returns : tie.Need-returns
 unfolding wordMeasure
-returns c = rw (c .printed-at .ensures, c .before .before .spaces-width .ensures)
+returns c = rw (c .printed-at .ensures, c .before .before .before .spaces-width .ensures)
 
 pub word-measure-spec : {M : Type 1} → statement M
 word-measure-spec =
@@ -39,9 +48,9 @@ word-measure-spec =
     (tie.spec
     sub-letters
     mul-letters
-    add-printed-at
+    add-pen
     spaces-width-requires
-    add-printed-at-2
-    add-printed-at-3
+    add-pen-2
+    add-t8
     printed-at-requires
     returns)

@@ -9,14 +9,17 @@ use borrow.Author.Needs.{needs}
 use Rattle.steps.proofs.words.word_place.Statement.{statement}
 use Rattle.steps.proofs.words.word_place.Tie as tie
 
-small : (c : tie.Start) → c .args .p .cursor .position .0 + c .args .n * c .args .glyph ≤ 4096
-small c = fits-small (c .args .p) (c .args .n * c .args .glyph) (c .pre .0) (c .pre .1)
+abbrev begin : tie.After-struct-known2 → tie.Start
+begin c = c .before .before .before .before
+
+small : (c : tie.Start) → c .args .p .cursor .position .0 + c .args .n .0 * c .args .glyph .0 ≤ 4096
+small c = fits-small (c .args .p) (c .args .n .0 * c .args .glyph .0) (c .pre .0) (c .pre .1)
 
 mul-advanced : tie.Need-mul-advanced
-mul-advanced c = record { fits = omega (arith, small (c .before .before)) }
+mul-advanced c = record { fits = omega (arith, small (begin c)) }
 
 advanced-requires : tie.Need-advanced-requires
-advanced-requires c κs = omega (arith, small (c .before .before))
+advanced-requires c κs = omega (arith, small (begin c))
 
 spaces-after-requires : tie.Need-spaces-after-requires
 spaces-after-requires c κs = search needs

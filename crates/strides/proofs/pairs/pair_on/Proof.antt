@@ -87,14 +87,14 @@ add-strode c =
 strode-requires : tie.Need-strode-requires
 strode-requires c κs = search needs
 
-add-printed-at : tie.Need-add-printed-at
-add-printed-at c =
+add-pen : tie.Need-add-pen
+add-pen c =
     let a = c .before .before .before .before .before .before .before in
     let s = begin (E a) .pre in
     record { fits = omega (arith, pair-small (s .0) _ (found (E a)) (s .1) _ (a .spaces-width .ensures) _ refl _ refl) }
 
-add-printed-at-2 : tie.Need-add-printed-at-2
-add-printed-at-2 c =
+add-counted : tie.Need-add-counted
+add-counted c =
     let r = begin (E (c .before .before .before .before .before .before .before .before)) .pre .0 in
     record { fits = omega (arith, r .small, r .inside, r .short) }
 
@@ -153,8 +153,8 @@ pair-on-spec =
     spaces-after-requires-2
     add-strode
     strode-requires
-    add-printed-at
-    add-printed-at-2
+    add-pen
+    add-counted
     printed-at-requires
     word-measure-requires
     cast-stands-at

@@ -8,7 +8,7 @@ use Rattle.strides.proofs.strides.ends_waiting.Statement.{statement}
 use Rattle.strides.proofs.strides.ends_waiting.Tie as tie
 
 abbrev begin : tie.After-spaces-width → tie.Start
-begin c = c .before .before .before .before .before .before
+begin c = c .before .before .before .before .before .before .before
 
 spaces-width-requires : tie.Need-spaces-width-requires
 spaces-width-requires c κs = search needs
@@ -21,7 +21,7 @@ ends-before-requires c κs = search needs
 
 returns : tie.Need-returns
 returns c =
-    let i = c .before in
+    let i = c .before .before in
     let f = i .before in
     let w = f .before in
     let s = begin w in
@@ -29,7 +29,7 @@ returns c =
 
 noted-space-requires : tie.Need-noted-space-requires
 noted-space-requires c κs =
-    let i = c .before .before in
+    let i = c .before .before .before in
     let f = i .before in
     let s = begin (f .before) in
     let r = s .pre .0 in
@@ -41,7 +41,7 @@ ends-before-requires-2 c κs = search needs
 returns-2 : tie.Need-returns-2
 returns-2 c =
     let n = c .before in
-    let i = n .before .before .before in
+    let i = n .before .before .before .before in
     let f = i .before in
     let w = f .before in
     let s = begin w in
@@ -50,7 +50,7 @@ returns-2 c =
 
 noted-space-requires-2 : tie.Need-noted-space-requires-2
 noted-space-requires-2 c κs =
-    let r = begin (c .before .before .before .before) .pre .0 in
+    let r = begin (c .before .before .before .before .before) .pre .0 in
     omega (arith, r .small, r .inside, r .short)
 
 ends-before-requires-3 : tie.Need-ends-before-requires-3
@@ -59,7 +59,7 @@ ends-before-requires-3 c κs = search needs
 returns-3 : tie.Need-returns-3
 returns-3 c =
     let n = c .before in
-    let i = n .before .before .before in
+    let i = n .before .before .before .before in
     let f = i .before in
     let w = f .before in
     let s = begin w in
