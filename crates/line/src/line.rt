@@ -7,7 +7,6 @@ use crate::entry::entry_at;
 use crate::pass::run_pass;
 use crate::quick::Quick;
 use crate::quick::quick_line;
-use meaning::counts::Chars;
 use meaning::counts::Offset;
 use meaning::counts::Pixels;
 use meaning::line::Entry;
@@ -70,7 +69,7 @@ fn placed_by(s: Settings, e: Ended) -> Placed
     let m = e.measure;
     let width = measured_width(s, m);
     let count = measured_count(s, m);
-    place_line(s, ended, Pixels(width), Chars(count))
+    place_line(s, ended, width, count)
 }
 
 // The pass over a line that is so placed.
@@ -109,7 +108,7 @@ fn laid_alike(s: Settings, at: Offset, rest: Resumed, e: Ended) -> LineAt
     let width = measured_width(s, m);
     let p = placed_by(s, e);
     let looked = e.reach;
-    laid_at(at, rest, p, Pixels(width), looked, e)
+    laid_at(at, rest, p, width, looked, e)
 }
 
 // The line in two passes. One that is placed as it was measured is drawn as it was.
@@ -124,10 +123,10 @@ fn lay_twice(text: &[u8], s: Settings, at: usize, rest: Resumed, known: Known) -
     let looked = first.reach;
     let start = at as u32;
     if as_measured(s, p) {
-        return laid_at(Offset(start), rest, p, Pixels(width), looked, first);
+        return laid_at(Offset(start), rest, p, width, looked, first);
     }
     let drawn = pass_over(text, s, at, rest, p, known);
-    laid_at(Offset(start), rest, p, Pixels(width), looked, drawn)
+    laid_at(Offset(start), rest, p, width, looked, drawn)
 }
 
 // The line at an offset of a text, after a rest that it resumes, where a word may be known.

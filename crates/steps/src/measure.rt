@@ -64,21 +64,21 @@ pub fn noted_print(m: Measure, width: Pixels) -> Measure
 }
 
 // The measured width: with trailing spaces on, those at the line's end count.
-pub fn measured_width(s: Settings, m: Measure) -> u32
-    ensures { λ r. ⌜ r ≡ measuredWidth s m ⌝ }
+pub fn measured_width(s: Settings, m: Measure) -> Pixels
+    ensures { λ r. ⌜ r .0 ≡ measuredWidth s m ⌝ }
 {
     if s.trailing == 1 {
-        return m.pen.0;
+        return m.pen;
     }
-    m.width.0
+    m.width
 }
 
 // The spaces counted up to there.
-pub fn measured_count(s: Settings, m: Measure) -> u32
-    ensures { λ r. ⌜ r ≡ measuredCount s m ⌝ }
+pub fn measured_count(s: Settings, m: Measure) -> Chars
+    ensures { λ r. ⌜ r .0 ≡ measuredCount s m ⌝ }
 {
     if s.trailing == 1 {
-        return m.spaces.0;
+        return m.spaces;
     }
-    m.count.0
+    m.count
 }
