@@ -1,4 +1,5 @@
 // Words that fit, drawn in strides of a space and a word.
+use basis::numbers::lesser;
 use crate::going::Going;
 use crate::going::stands_at;
 use crate::pairs::draw_pair;
@@ -13,7 +14,6 @@ use parser::ascii::plain_at;
 use steps::cursor::fits;
 use steps::cursor::room;
 use steps::look::Foreseen;
-use steps::space_config::lesser;
 use steps::space_config::spaces_width;
 use steps::step::Resumed;
 use steps::words::word_place;

@@ -1,4 +1,5 @@
 // The events of one token (rules 7 to 9).
+use basis::numbers::lesser;
 use crate::grown::Grown;
 use crate::grown::growth;
 use crate::grown::taken_end;
@@ -18,7 +19,6 @@ use steps::cursor::tab_width;
 use steps::look::Foreseen;
 use steps::place::moved_on;
 use steps::place::skips_space;
-use steps::space_config::lesser;
 use steps::spaces::draws_space;
 use steps::step::Stepped;
 ghost use Prim.Native.Nat.{_+_, _*_, _≤_};

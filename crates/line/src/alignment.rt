@@ -1,11 +1,12 @@
 // Where a measured line is placed, and how wide its spaces are drawn (rule 6).
+use basis::numbers::less;
 use meaning::counts::Chars;
 use meaning::counts::Pixels;
 use meaning::cursor::Spaces;
 use meaning::line::LineEnd;
 use meaning::line::Placed;
 use meaning::settings::Settings;
-ghost use Prim.Native.Nat.{_≤_, _-_};
+ghost use Prim.Native.Nat.{_≤_};
 ghost use mathlib.Core.Path.{_≡_};
 ghost use mathlib.Core.Bool.{_||_};
 ghost use lib.Dec.{eqb};
@@ -20,17 +21,6 @@ pub fn plain_spaces(s: Settings) -> Spaces
     Spaces {
         width,
         extra: Pixels(0),
-    }
-}
-
-// What a line of a measured width leaves of the box.
-fn room_after(s: Settings, width: u32) -> u32
-    ensures { λ r. ⌜ r ≡ s .width .0 - width ⌝ }
-{
-    if width <= s.width.0 {
-        s.width.0 - width
-    } else {
-        0
     }
 }
 
@@ -63,7 +53,8 @@ pub fn place_line(s: Settings, ended: LineEnd, width: Pixels, n: Chars) -> Place
     requires { ⌜ FineSettings s × (n .0 ≤ 65535) ⌝ }
     ensures { λ r. ⌜ r ≡ place s ended (width .0) (n .0) ⌝ }
 {
-    let room = room_after(s, width.0);
+    // What the line leaves of the box.
+    let room = less(s.width.0, width.0);
     let spaces = plain_spaces(s);
     if s.alignment == 0 {
         return Placed {

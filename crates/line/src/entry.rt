@@ -1,4 +1,5 @@
 // The entry of a laid line (rule 12).
+use basis::numbers::greater;
 use meaning::counts::Chars;
 use meaning::counts::Offset;
 use meaning::counts::Pixels;
@@ -6,7 +7,6 @@ use meaning::line::Entry;
 use meaning::line::LineEnd;
 use meaning::line::Placed;
 use meaning::line::Rest;
-use steps::line_iter::farther;
 use steps::step::Ended;
 use steps::step::Resumed;
 ghost use mathlib.Core.Path.{_≡_};
@@ -58,7 +58,7 @@ pub fn entry_at(
     let space = p.spaces.width;
     let extra = p.spaces.extra;
     let dropped = e.dropped;
-    let reach = farther(looked.0, e.reach.0);
+    let reach = greater(looked.0, e.reach.0);
     Entry {
         start: at,
         rest: resumed,

@@ -1,4 +1,5 @@
 // One pass over a line, in strides of words where it can, else token by token (rules 8 and 9).
+use basis::numbers::greater;
 use meaning::counts::Chars;
 use meaning::counts::Offset;
 use meaning::cursor::Place;
@@ -11,7 +12,6 @@ use steps::ending::ends_before;
 use steps::ending::nothing_left;
 use steps::first::Known;
 use steps::first::first_token;
-use steps::line_iter::farther;
 use steps::look::Foreseen;
 use steps::step::Ended;
 use steps::step::Resumed;
@@ -29,7 +29,7 @@ ghost use Rattle.steps.specs.Running.{PassReady};
 fn looked_to(reach: u32, e: Ended) -> Ended
     ensures { λ r. ⌜ r ≡ unrolled.farther reach e ⌝ }
 {
-    let far = farther(reach, e.reach.0);
+    let far = greater(reach, e.reach.0);
     let mut all = e;
     all.reach.0 = far;
     all
@@ -65,14 +65,14 @@ pub fn run_pass(
         let token = first_token(text, to, held, known);
         let Lexed::Token(x) = token else {
             let end = g.at;
-            let far = farther(reach, end.0 + 1);
+            let far = greater(reach, end.0 + 1);
             return ends_before(LineEnd::EndOfText, so, end, Chars(0), Offset(far));
         };
         let ahead = look_after(text, s, here, to, x, seen);
         let stepped = step_token(text, s, here, to, x, so, ahead);
         match stepped {
             Stepped::Go(q, n, far) => {
-                reach = farther(reach, farther(x.reach.0, far.0));
+                reach = greater(reach, greater(x.reach.0, far.0));
                 p = q;
                 sum = n;
                 at = x.end.0 as usize;
@@ -80,7 +80,7 @@ pub fn run_pass(
                 seen = ahead;
             }
             Stepped::Stop(e) => {
-                return looked_to(farther(reach, x.reach.0), e);
+                return looked_to(greater(reach, x.reach.0), e);
             }
         }
     }

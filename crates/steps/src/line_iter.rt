@@ -1,4 +1,5 @@
 // The two looks ahead: the next word's width, and whether the next word fits (rules 8 and 12).
+use basis::numbers::greater;
 use crate::cursor::advanced;
 use crate::cursor::fits;
 use crate::cursor::tab_width;
@@ -14,7 +15,7 @@ use meaning::cursor::Spaces;
 use meaning::tokens::TokenKind;
 use parser::lexeme::Lexed;
 use parser::lexer::token_at;
-ghost use Prim.Native.Nat.{_+_, _≤_, _<_, max};
+ghost use Prim.Native.Nat.{_+_, _≤_, _<_};
 ghost use mathlib.Core.Path.{_≡_};
 ghost use lib.ListN.{length};
 ghost use Rattle.meaning.specs.Tokens.{tokens};
@@ -24,13 +25,6 @@ ghost use Rattle.parser.specs.Lexing.{charsFrom};
 ghost use Rattle.steps.specs.Fine.{FineCursor, FineSpaces};
 ghost use Rattle.steps.specs.Stepping.{lookOf, aheadOf};
 ghost use Rattle.steps.specs.Ahead.{knownOf, lookAt, whiteWidth};
-
-// The further of two offsets.
-pub fn farther(a: u32, b: u32) -> u32
-    ensures { λ r. ⌜ r ≡ max a b ⌝ }
-{
-    if a <= b { b } else { a }
-}
 
 // One width more.
 fn with_width(w: NextWord, by: u32) -> NextWord
@@ -56,10 +50,10 @@ pub fn next_word_width(text: &[u8], at: usize, glyph: u32) -> WidthAhead
         let Lexed::Token(x) = token else {
             break WidthAhead {
                 width,
-                reach: Offset(farther(reach, pos as u32 + 1)),
+                reach: Offset(greater(reach, pos as u32 + 1)),
             };
         };
-        reach = farther(reach, x.reach.0);
+        reach = greater(reach, x.reach.0);
         let kind = x.kind;
         match kind {
             TokenKind::Word => {
@@ -123,9 +117,9 @@ pub fn next_word_fits(
     loop {
         let token = token_at(text, pos);
         let Lexed::Token(x) = token else {
-            return look_at(false, farther(reach, pos as u32 + 1));
+            return look_at(false, greater(reach, pos as u32 + 1));
         };
-        reach = farther(reach, x.reach.0);
+        reach = greater(reach, x.reach.0);
         let kind = x.kind;
         match kind {
             TokenKind::Word => return look_at(fits(cur, x.chars.0 * glyph), reach),

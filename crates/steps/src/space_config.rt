@@ -1,16 +1,11 @@
 // How wide spaces are, and what they leave of the extra pixels (rule 5).
+use basis::numbers::lesser;
 use meaning::counts::Pixels;
 use meaning::cursor::Spaces;
-ghost use Prim.Native.Nat.{_≤_, min};
+ghost use Prim.Native.Nat.{_≤_};
 ghost use mathlib.Core.Path.{_≡_};
 ghost use Rattle.meaning.specs.SpaceConfig.{spacesWidth, spacesAfter};
 ghost use Rattle.steps.specs.Fine.{FineSpaces};
-
-pub fn lesser(a: u32, b: u32) -> u32
-    ensures { λ r. ⌜ r ≡ min a b ⌝ }
-{
-    if a <= b { a } else { b }
-}
 
 // The width of the next n spaces: a pixel more each as long as extra pixels are left.
 pub fn spaces_width(sp: Spaces, n: u32) -> u32

@@ -1,4 +1,5 @@
 // What a space run does to a line (rules 5, 8 and 9).
+use basis::numbers::lesser;
 use crate::cursor::fits;
 use crate::cursor::room;
 use crate::ending::nothing_left;
@@ -9,7 +10,6 @@ use crate::measure::noted_space;
 use crate::place::moved_on;
 use crate::place::skips_space;
 use crate::place::used_up;
-use crate::space_config::lesser;
 use crate::space_config::spaces_width;
 use crate::step::Ended;
 use crate::step::Resumed;

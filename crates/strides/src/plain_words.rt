@@ -1,9 +1,9 @@
 // Words of ASCII, and one space before such a word: told by their bytes, with no character decoded.
+use basis::numbers::lesser;
 use parser::ascii::is_plain;
 use parser::ascii::pass_plain;
 use parser::ascii::plain_at;
 use parser::ascii::space_at;
-use steps::space_config::lesser;
 ghost use mathlib.Core.Path.{_≡_};
 ghost use mathlib.Core.Bool.{true};
 ghost use Prim.Native.Nat.{_-_, _≤_};

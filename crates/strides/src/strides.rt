@@ -1,4 +1,5 @@
 // Words that fit, taken by a pass in strides of a space and a word.
+use basis::numbers::lesser;
 use crate::going::Going;
 use crate::going::nothing_waits;
 use crate::going::plain_waits;
@@ -21,7 +22,6 @@ use steps::ending::ends_before;
 use steps::look::Foreseen;
 use steps::measure::noted_space;
 use steps::measure::printed_at;
-use steps::space_config::lesser;
 use steps::space_config::spaces_width;
 use steps::step::Ended;
 use steps::step::Resumed;

@@ -8,8 +8,8 @@ use Rattle.line.specs.PlaceLaws.{counts, at-left, in-centre, at-right, l
 use Rattle.line.proofs.alignment.place_line.Statement.{statement}
 use Rattle.line.proofs.alignment.place_line.Tie as tie
 
-room-after-requires : tie.Need-room-after-requires
-room-after-requires c κs = search needs
+less-requires : tie.Need-less-requires
+less-requires c κs = search needs
 
 plain-spaces-requires : tie.Need-plain-spaces-requires
 plain-spaces-requires c κs = search needs
@@ -17,7 +17,7 @@ plain-spaces-requires c κs = search needs
 returns : tie.Need-returns
 returns c =
     let p = c .before .before in
-    at-left _ _ _ _ _ _ (p .before .room-after .ensures) (p .plain-spaces .ensures) (c .if1 .taken)
+    at-left _ _ _ _ _ _ (p .before .less .ensures) (p .plain-spaces .ensures) (c .if1 .taken)
 
 add-t10 : tie.Need-add-t10
 add-t10 c = search needs
@@ -25,12 +25,12 @@ add-t10 c = search needs
 returns-2 : tie.Need-returns-2
 returns-2 c =
     let p = c .before .before .before .before in
-    in-centre _ _ _ _ _ _ (p .before .room-after .ensures) (p .plain-spaces .ensures) (c .if2 .taken)
+    in-centre _ _ _ _ _ _ (p .before .less .ensures) (p .plain-spaces .ensures) (c .if2 .taken)
 
 returns-3 : tie.Need-returns-3
 returns-3 c =
     let p = c .before .before .before .before .before .before in
-    at-right _ _ _ _ _ _ (p .before .room-after .ensures) (p .plain-spaces .ensures) (c .if3 .taken)
+    at-right _ _ _ _ _ _ (p .before .less .ensures) (p .plain-spaces .ensures) (c .if3 .taken)
 
 stays-plain-requires : tie.Need-stays-plain-requires
 stays-plain-requires c κs = search needs
@@ -40,7 +40,7 @@ returns-4 c =
     let q = c .before in
     let e = q .before in
     let p = e .before .before .before .before .before .before in
-    last-plain _ _ _ _ _ _ (p .before .room-after .ensures) (p .plain-spaces .ensures)
+    last-plain _ _ _ _ _ _ (p .before .less .ensures) (p .plain-spaces .ensures)
     (e .before .before .before .before .if1 .left) (e .before .before .if2 .left) (e .if3 .left)
     (sym (q .stays-plain .ensures) ∙ c .if4 .taken)
 
@@ -48,7 +48,7 @@ shared-out-requires : tie.Need-shared-out-requires
 shared-out-requires c κs =
     let s = c .before .before .before .before .before .before .before .before .before .before in (
       s .pre .0,
-      omega (arith, c .before .before .before .before .before .before .before .before .before .room-after .ensures),
+      omega (arith, c .before .before .before .before .before .before .before .before .before .less .ensures),
       counts (endsParagraph (s .args .ended)) (s .args .n .0) (sym (c .before .stays-plain .ensures) ∙ c .if4 .left),
       s .pre .1,
     )
@@ -59,7 +59,7 @@ returns-5 c =
     let q = f .before in
     let e = q .before in
     let p = e .before .before .before .before .before .before in
-    in-block _ _ _ _ _ _ (p .before .room-after .ensures) (p .plain-spaces .ensures)
+    in-block _ _ _ _ _ _ (p .before .less .ensures) (p .plain-spaces .ensures)
     (e .before .before .before .before .if1 .left) (e .before .before .if2 .left) (e .if3 .left) _
     (sym (q .stays-plain .ensures) ∙ f .if4 .left) (c .shared-out .ensures)
 
@@ -67,7 +67,7 @@ pub place-line-spec : {M : Type 1} → statement M
 place-line-spec =
     tie.close
     (tie.spec
-    room-after-requires
+    less-requires
     plain-spaces-requires
     returns
     add-t10

@@ -11,12 +11,12 @@ end-number-requires c κs = search needs
 rest-in-requires : tie.Need-rest-in-requires
 rest-in-requires c κs = search needs
 
-farther-requires : tie.Need-farther-requires
-farther-requires c κs = search needs
+greater-requires : tie.Need-greater-requires
+greater-requires c κs = search needs
 
 returns : tie.Need-returns
 unfolding laidAt
-returns c = let r = c .before .before .before .before .before in rw (c .farther .ensures, r .rest-in .ensures, r .before .end-number .ensures)
+returns c = let r = c .before .before .before .before .before in rw (c .greater .ensures, r .rest-in .ensures, r .before .end-number .ensures)
 
 pub entry-at-spec : {M : Type 1} → statement M
-entry-at-spec = tie.close (tie.spec end-number-requires rest-in-requires farther-requires returns)
+entry-at-spec = tie.close (tie.spec end-number-requires rest-in-requires greater-requires returns)

@@ -5,12 +5,12 @@ use borrow.Author.Needs.{needs}
 use Rattle.line.proofs.pass.looked_to.Statement.{statement}
 use Rattle.line.proofs.pass.looked_to.Tie as tie
 
-farther-requires : tie.Need-farther-requires
-farther-requires c κs = search needs
+greater-requires : tie.Need-greater-requires
+greater-requires c κs = search needs
 
 returns : tie.Need-returns
 unfolding unrolled.farther
-returns c = rw (c .before .farther .ensures)
+returns c = rw (c .before .greater .ensures)
 
 pub looked-to-spec : {M : Type 1} → statement M
-looked-to-spec = tie.close (tie.spec farther-requires returns)
+looked-to-spec = tie.close (tie.spec greater-requires returns)

@@ -81,13 +81,13 @@ enum-known-token c = search needs
 enum-told : tie.Need-enum-told Inv-loop μ-loop
 enum-told c = search needs
 
-add-farther : tie.Need-add-farther Inv-loop μ-loop
-add-farther c =
+add-greater : tie.Need-add-greater Inv-loop μ-loop
+add-greater c =
     let i = there (c .before .before .before .before) .strides-unless .ensures .0 .onward .ready in
     record { fits = omega (arith, i .inside, i .short) }
 
-farther-requires : tie.Need-farther-requires Inv-loop μ-loop
-farther-requires c κs = search needs
+greater-requires : tie.Need-greater-requires Inv-loop μ-loop
+greater-requires c κs = search needs
 
 ends-before-requires : tie.Need-ends-before-requires Inv-loop μ-loop
 ends-before-requires c κs = search needs
@@ -102,7 +102,7 @@ returns-2 c =
     let g = r .strides-unless .result in
     c .ends-before .ensures
     ∙ pass-ends (l .before .before .args .s) (g .place) _ (g .at .0) (l .loop .held .chars .0) (l .loop .held .count .0) (g .measure) (l .loop .reach)
-    (none-pending (g .at .0) _ (sym (n .first-token .ensures) ∙ told .enum-told .given .1)) _ (f .farther .ensures)
+    (none-pending (g .at .0) _ (sym (n .first-token .ensures) ∙ told .enum-told .given .1)) _ (f .greater .ensures)
     ∙ strode r
 
 -- Its step has what it needs.
@@ -131,11 +131,11 @@ step-token-requires c κs = (ready (c .before), c .look-after .ensures)
 enum-known-stepped : tie.Need-enum-known-stepped Inv-loop μ-loop
 enum-known-stepped c = search needs
 
-farther-requires-2 : tie.Need-farther-requires-2 Inv-loop μ-loop
-farther-requires-2 c κs = search needs
+greater-requires-2 : tie.Need-greater-requires-2 Inv-loop μ-loop
+greater-requires-2 c κs = search needs
 
-farther-requires-3 : tie.Need-farther-requires-3 Inv-loop μ-loop
-farther-requires-3 c κs = search needs
+greater-requires-3 : tie.Need-greater-requires-3 Inv-loop μ-loop
+greater-requires-3 c κs = search needs
 
 cast-at : tie.Need-cast-at Inv-loop μ-loop
 cast-at c = search needs
@@ -166,7 +166,7 @@ loop-again c =
     let y = pended k in
     let e = sym (d .step-token .ensures) ∙ w .stepped .given .1 in
     let fine = step-keeps s (v .place) _ (v .at .0) (l .loop .held .chars .0) (l .loop .held .count .0) x (v .measure) (i .settings) (i .place) (i .small) y _ _ _ e in
-    let far = f .farther3 .ensures ∙ ap (max (l .loop .reach)) (g .farther2 .ensures) in (
+    let far = f .greater3 .ensures ∙ ap (max (l .loop .reach)) (g .greater2 .ensures) in (
       pass-goes s (v .place) _ (v .at .0) (l .loop .held .chars .0) (l .loop .held .count .0) (v .measure) (l .loop .reach) x y _ _ _ e _ far _ (c .nothing-left .ensures)
           ∙ strode r,
       record { settings = i .settings; place = fine .0; short = i .short; inside = y .stands .within; rest = none-fits _ _ _ (c .nothing-left .ensures); small = fine .1 },
@@ -176,8 +176,8 @@ loop-again c =
 enum-known-stepped-2 : tie.Need-enum-known-stepped-2 Inv-loop μ-loop
 enum-known-stepped-2 c = search needs
 
-farther-requires-4 : tie.Need-farther-requires-4 Inv-loop μ-loop
-farther-requires-4 c κs = search needs
+greater-requires-4 : tie.Need-greater-requires-4 Inv-loop μ-loop
+greater-requires-4 c κs = search needs
 
 looked-to-requires-2 : tie.Need-looked-to-requires-2 Inv-loop μ-loop
 looked-to-requires-2 c κs = search needs
@@ -194,7 +194,7 @@ returns-3 c =
     let g = r .strides-unless .result in
     c .looked-to2 .ensures
     ∙ pass-stops (l .before .before .args .s) (g .place) _ (g .at .0) (l .loop .held .chars .0) (l .loop .held .count .0) (g .measure) (l .loop .reach) (k .token .given .0 .0) (pended k) _
-    (sym (d .step-token .ensures) ∙ w .stepped2 .given .1) _ (f .farther4 .ensures)
+    (sym (d .step-token .ensures) ∙ w .stepped2 .given .1) _ (f .greater4 .ensures)
     ∙ strode r
 
 pub run-pass-spec : {M : Type 1} → statement M
@@ -212,20 +212,20 @@ run-pass-spec =
     first-token-requires
     enum-known-token
     enum-told
-    add-farther
-    farther-requires
+    add-greater
+    greater-requires
     ends-before-requires
     returns-2
     look-after-requires
     step-token-requires
     enum-known-stepped
-    farther-requires-2
-    farther-requires-3
+    greater-requires-2
+    greater-requires-3
     cast-at
     nothing-left-requires
     loop-less
     loop-again
     enum-known-stepped-2
-    farther-requires-4
+    greater-requires-4
     looked-to-requires-2
     returns-3)

@@ -46,14 +46,14 @@ enum-known-token c = search needs
 enum-told : tie.Need-enum-told Inv-loop μ-loop
 enum-told c = search needs
 
-cast-farther : tie.Need-cast-farther Inv-loop μ-loop
-cast-farther c = search needs
+cast-greater : tie.Need-cast-greater Inv-loop μ-loop
+cast-greater c = search needs
 
-add-farther : tie.Need-add-farther Inv-loop μ-loop
-add-farther c = search needs
+add-greater : tie.Need-add-greater Inv-loop μ-loop
+add-greater c = search needs
 
-farther-requires : tie.Need-farther-requires Inv-loop μ-loop
-farther-requires c κs = search needs
+greater-requires : tie.Need-greater-requires Inv-loop μ-loop
+greater-requires c κs = search needs
 
 look-at-requires : tie.Need-look-at-requires Inv-loop μ-loop
 look-at-requires c κs = search needs
@@ -64,11 +64,11 @@ returns c =
     let s = o .before .before in
     c .look-at .ensures
     ∙ look-end _ (o .loop .pos) (s .args .glyph) (o .loop .cur) (o .loop .left) (o .loop .reach)
-    (lexes-end _ _ (sym (c .before .before .before .before .token-at .ensures) ∙ c .before .before .enum-told .given .1)) _ (c .before .farther .ensures)
+    (lexes-end _ _ (sym (c .before .before .before .before .token-at .ensures) ∙ c .before .before .enum-told .given .1)) _ (c .before .greater .ensures)
     ∙ o .loop .inv .0
 
-farther-requires-2 : tie.Need-farther-requires-2 Inv-loop μ-loop
-farther-requires-2 c κs = search needs
+greater-requires-2 : tie.Need-greater-requires-2 Inv-loop μ-loop
+greater-requires-2 c κs = search needs
 
 enum-told-2 : tie.Need-enum-told-2 Inv-loop μ-loop
 enum-told-2 c = search needs
@@ -93,7 +93,7 @@ returns-2 c =
     let o = k .before .before .before in
     let s = o .before .before in
     c .look-at2 .ensures
-    ∙ look-word _ _ _ (read k) (s .args .glyph) (o .loop .cur) (o .loop .left) (o .loop .reach) _ (f .farther2 .ensures) (c .before .before .before .enum-told2 .given .1) _ (c .before .fits2 .ensures)
+    ∙ look-word _ _ _ (read k) (s .args .glyph) (o .loop .cur) (o .loop .left) (o .loop .reach) _ (f .greater2 .ensures) (c .before .before .before .enum-told2 .given .1) _ (c .before .fits2 .ensures)
     ∙ o .loop .inv .0
 
 enum-told-3 : tie.Need-enum-told-3 Inv-loop μ-loop
@@ -112,7 +112,7 @@ returns-3 c =
     let o = k .before .before .before in
     let s = o .before .before in
     c .look-at3 .ensures
-    ∙ look-break _ _ _ (read k) (s .args .glyph) (o .loop .cur) (o .loop .left) (o .loop .reach) _ (f .farther2 .ensures) (c .before .before .enum-told3 .given .1) _ (c .before .fits3 .ensures)
+    ∙ look-break _ _ _ (read k) (s .args .glyph) (o .loop .cur) (o .loop .left) (o .loop .reach) _ (f .greater2 .ensures) (c .before .before .enum-told3 .given .1) _ (c .before .fits3 .ensures)
     ∙ o .loop .inv .0
 
 white-width-requires : tie.Need-white-width-requires Inv-loop μ-loop
@@ -137,7 +137,7 @@ returns-4 c =
     let o = k .before .before .before in
     let s = o .before .before in
     c .look-at4 .ensures
-    ∙ look-full _ _ _ (read k) (s .args .glyph) (o .loop .cur) (o .loop .left) (o .loop .reach) _ (f .farther2 .ensures) (white-of (k .token .given .0 .0 .kind) (w .before .match2 .keys3)) _ (w .white-width .ensures)
+    ∙ look-full _ _ _ (read k) (s .args .glyph) (o .loop .cur) (o .loop .left) (o .loop .reach) _ (f .greater2 .ensures) (white-of (k .token .given .0 .0 .kind) (w .before .match2 .keys3)) _ (w .white-width .ensures)
     (sym (r .ensures) ∙ not-true (r .result) (c .before .if1 .taken))
     ∙ o .loop .inv .0
 
@@ -167,7 +167,7 @@ loop-again c =
     let o = k .before .before .before in
     let s = o .before .before in
     let l = read k in (
-      look-white _ _ _ l (s .args .glyph) (o .loop .cur) (o .loop .left) (o .loop .reach) _ (f .farther2 .ensures) (white-of (k .token .given .0 .0 .kind) (w .before .match2 .keys3)) _ (w .white-width .ensures)
+      look-white _ _ _ l (s .args .glyph) (o .loop .cur) (o .loop .left) (o .loop .reach) _ (f .greater2 .ensures) (white-of (k .token .given .0 .0 .kind) (w .before .match2 .keys3)) _ (w .white-width .ensures)
           (passed (a .before)) _ _ (a .advanced .ensures) (n .spaces-after .ensures) ∙ o .loop .inv .0,
       rw (a .advanced .ensures) (advance-fine (o .loop .cur) (w .white-width .result) (o .loop .inv .1) (passed (a .before))),
       rw (n .spaces-after .ensures) (spaces-fine (o .loop .left) (k .token .given .0 .0 .count .0) (o .loop .inv .2)),
@@ -184,7 +184,7 @@ returns-5 c =
     let o = k .before .before .before in
     let s = o .before .before in
     c .look-at5 .ensures
-    ∙ look-halts _ _ _ (read k) (s .args .glyph) (o .loop .cur) (o .loop .left) (o .loop .reach) _ (f .farther2 .ensures) (halts-of (k .token .given .0 .0 .kind) (c .before .match2 .keys4))
+    ∙ look-halts _ _ _ (read k) (s .args .glyph) (o .loop .cur) (o .loop .left) (o .loop .reach) _ (f .greater2 .ensures) (halts-of (k .token .given .0 .0 .kind) (c .before .match2 .keys4))
     ∙ o .loop .inv .0
 
 pub next-word-fits-spec : {M : Type 1} → statement M
@@ -197,12 +197,12 @@ next-word-fits-spec =
     token-at-requires
     enum-known-token
     enum-told
-    cast-farther
-    add-farther
-    farther-requires
+    cast-greater
+    add-greater
+    greater-requires
     look-at-requires
     returns
-    farther-requires-2
+    greater-requires-2
     enum-told-2
     mul-fits
     fits-requires

@@ -40,17 +40,17 @@ enum-known-token c = search needs
 enum-told : tie.Need-enum-told Inv-loop μ-loop
 enum-told c = search needs
 
-cast-farther : tie.Need-cast-farther Inv-loop μ-loop
-cast-farther c = search needs
+cast-greater : tie.Need-cast-greater Inv-loop μ-loop
+cast-greater c = search needs
 
-add-farther : tie.Need-add-farther Inv-loop μ-loop
-add-farther c = search needs
+add-greater : tie.Need-add-greater Inv-loop μ-loop
+add-greater c = search needs
 
-farther-requires : tie.Need-farther-requires Inv-loop μ-loop
-farther-requires c κs = search needs
+greater-requires : tie.Need-greater-requires Inv-loop μ-loop
+greater-requires c κs = search needs
 
-farther-requires-2 : tie.Need-farther-requires-2 Inv-loop μ-loop
-farther-requires-2 c κs = search needs
+greater-requires-2 : tie.Need-greater-requires-2 Inv-loop μ-loop
+greater-requires-2 c κs = search needs
 
 enum-told-2 : tie.Need-enum-told-2 Inv-loop μ-loop
 enum-told-2 c = search needs
@@ -86,7 +86,7 @@ loop-again c =
     let o = k .before .before .before in
     let s = o .before .before in
     let x = k .token .given .0 .0 in (
-      ahead-word _ _ x l (s .args .glyph) (o .loop .width) (o .loop .reach) (w .before .before .enum-told2 .given .1) _ _ (w .with-width .ensures) (f .farther2 .ensures) ∙ o .loop .inv .0,
+      ahead-word _ _ x l (s .args .glyph) (o .loop .width) (o .loop .reach) (w .before .before .enum-told2 .given .1) _ _ (w .with-width .ensures) (f .greater2 .ensures) ∙ o .loop .inv .0,
       l .within,
       rw (w .with-width .ensures) (word-known _ _ x l (s .args .glyph) (o .loop .width) (o .loop .reach) (s .pre .1) (o .loop .inv .2)),
     )
@@ -104,7 +104,7 @@ returns c =
     let o = c .before .before .before .before in
     let s = o .before .before in
     ahead-end _ (o .loop .pos) (s .args .glyph) (o .loop .width) (o .loop .reach)
-    (lexes-end _ _ (sym (c .before .before .before .token-at .ensures) ∙ c .before .enum-told .given .1)) _ (c .farther .ensures)
+    (lexes-end _ _ (sym (c .before .before .before .token-at .ensures) ∙ c .before .enum-told .given .1)) _ (c .greater .ensures)
     ∙ o .loop .inv .0
 
 returns-2 : tie.Need-returns-2 Inv-loop μ-loop
@@ -113,7 +113,7 @@ returns-2 c =
     let k = f .before .before in
     let o = k .before .before .before in
     let s = o .before .before in
-    ahead-break _ _ _ (read k) (s .args .glyph) (o .loop .width) (o .loop .reach) (c .before .enum-told3 .given .1) _ _ (c .with-width2 .ensures) (f .farther2 .ensures)
+    ahead-break _ _ _ (read k) (s .args .glyph) (o .loop .width) (o .loop .reach) (c .before .enum-told3 .given .1) _ _ (c .with-width2 .ensures) (f .greater2 .ensures)
     ∙ o .loop .inv .0
 
 returns-3 : tie.Need-returns-3 Inv-loop μ-loop
@@ -122,7 +122,7 @@ returns-3 c =
     let k = f .before .before in
     let o = k .before .before .before in
     let s = o .before .before in
-    ahead-ends _ _ _ (read k) (s .args .glyph) (o .loop .width) (o .loop .reach) (ends-of (k .token .given .0 .0 .kind) (c .match2 .keys3)) _ (f .farther2 .ensures)
+    ahead-ends _ _ _ (read k) (s .args .glyph) (o .loop .width) (o .loop .reach) (ends-of (k .token .given .0 .0 .kind) (c .match2 .keys3)) _ (f .greater2 .ensures)
     ∙ o .loop .inv .0
 
 pub next-word-width-spec : {M : Type 1} → statement M
@@ -135,10 +135,10 @@ next-word-width-spec =
     token-at-requires
     enum-known-token
     enum-told
-    cast-farther
-    add-farther
-    farther-requires
-    farther-requires-2
+    cast-greater
+    add-greater
+    greater-requires
+    greater-requires-2
     enum-told-2
     mul-with-width
     with-width-requires
