@@ -24,14 +24,14 @@ use Rattle.parser.specs.declared.lexeme.Lexed.the-variants.{Token}
 use Rattle.steps.specs.Unrolled.{nothingResumed}
 use Rattle.steps.specs.Running.{PassReady}
 use Rattle.steps.specs.Stopping.{wordPlace}
-use Rattle.strides.specs.PlainWords.{PlainWord, Stride}
+use Rattle.parser.specs.PlainWords.{PlainWord, Stride}
 use Rattle.strides.specs.Strides.{waitingAt, strodePlace, Waits}
 use Rattle.steps.specs.Foreseeing.{ForeseesFrom}
 use Rattle.steps.specs.declared.look.Foreseen.{Foreseen}
 use Rattle.steps.specs.declared.step.Resumed.{Resumed}
 use Rattle.strides.specs.declared.going.Waiting.{Waiting}
 use Rattle.steps.specs.WordLaws.{wordAt}
-use Rattle.strides.specs.PlainLaws.{plainWord, plain-read}
+use Rattle.parser.specs.PlainLaws.{plainWord, plain-read}
 use Rattle.strides.specs.OnwardLaws.{read-pending}
 use Rattle.strides.specs.StrideLaws.{fits-in, word-onward, stride-goes}
 use Rattle.strides.specs.GoesLaws.{rest-none}

@@ -19,7 +19,7 @@ use Rattle.meaning.specs.declared.line.EventKind.the-variants.{Space, Printed}
 use Rattle.meaning.specs.declared.line.Measure.{Measure}
 use Rattle.parser.specs.Lexing.{charsFrom, partOf}
 use Rattle.parser.specs.declared.lexeme.Lexeme.{Lexeme}
-use Rattle.parser.specs.declared.lexeme.Part.{Part}
+use Rattle.parser.specs.declared.part.Part.{Part}
 use Rattle.steps.specs.Lexed.{chars-within}
 use Rattle.steps.specs.declared.step.Ended.{Ended}
 use Rattle.steps.specs.declared.step.Stepped.{Stepped}

@@ -34,7 +34,7 @@ use Rattle.steps.specs.Ready.{Ready, stepFrom}
 use Rattle.steps.specs.Runs.{wholeAnswer, cutAnswer}
 use Rattle.steps.specs.Running.{PassReady}
 use Rattle.steps.specs.Stopping.{wordPlace}
-use Rattle.strides.specs.PlainWords.{Stride}
+use Rattle.parser.specs.PlainWords.{Stride}
 use Rattle.strides.specs.Strides.{strodePlace, Waits}
 use Rattle.steps.specs.declared.look.Look.{Look}
 use Rattle.strides.specs.declared.going.Waiting.{Waiting}
@@ -43,7 +43,7 @@ use Rattle.steps.specs.DrawLaws.{whole-drawn, whole-hidden}
 use Rattle.steps.specs.RunLaws.{run-tok, space-whole, space-cut}
 use Rattle.steps.specs.WordLaws as rendered
 use Rattle.steps.specs.WordLaws.{wordAt, WordAt, word-at, word-goes}
-use Rattle.strides.specs.PlainLaws.{plainWord, plain-pair}
+use Rattle.parser.specs.PlainLaws.{plainWord, plain-pair}
 use Rattle.strides.specs.OnwardLaws.{read-pending, read-ready}
 use Rattle.strides.specs.StrideLaws.{stays, behind, looks-all, looks-word, space-goes, fits-in}
 use Rattle.strides.specs.WaitLaws.{over-full}

@@ -14,7 +14,7 @@ use Rattle.meaning.specs.Words.{drawn, drawnWord}
 use Rattle.meaning.specs.declared.cursor.Spaces.{Spaces}
 use Rattle.meaning.specs.declared.line.EventKind.the-variants.{Printed}
 use Rattle.parser.specs.Lexing.{charsFrom}
-use Rattle.parser.proofs.ScanLaws.{chars-more, chars-none, char-room}
+use Rattle.parser.specs.ScanLaws.{chars-more, chars-none, char-room}
 use Rattle.steps.specs.Fine.{FineSpaces}
 use Rattle.drawing.specs.Sheet.{Sheet, sheet, drawnOn}
 use Rattle.drawing.specs.WordDrawn.{word-is, rest-ends}

@@ -7,7 +7,7 @@ use Rattle.meaning.specs.Line.{unmeasured}
 use Rattle.meaning.specs.declared.settings.Settings.{Settings}
 use Rattle.meaning.specs.declared.cursor.Place.{Place}
 use Rattle.steps.specs.Running.{PassReady}
-use Rattle.strides.specs.PlainWords.{Found}
+use Rattle.parser.specs.PlainWords.{Found}
 use Rattle.strides.specs.Strides.{waitingAt, Waits}
 use Rattle.steps.specs.declared.step.Resumed.{Resumed}
 use Rattle.drawing.specs.Drawn.{drawnFrom}

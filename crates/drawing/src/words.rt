@@ -3,7 +3,7 @@ use crate::pen::Pen;
 use crate::pen::put_one;
 use meaning::cursor::Spaces;
 use meaning::line::EventKind;
-use parser::characters::is_glue;
+use parser::glue::is_glue;
 use steps::space_config::spaces_after;
 use steps::space_config::spaces_width;
 use unicode::sequence::Decoded;

@@ -20,7 +20,7 @@ use Rattle.meaning.specs.declared.refusals.Checked.the-variants.{Good, Refused}
 use Rattle.laws.specs.LayoutBounds.{few-lines}
 use Rattle.laws.specs.TokenLaws.{length-size}
 use Rattle.parser.specs.Lexing.{charsFrom}
-use Rattle.parser.proofs.TokenizeLaws.{good-length}
+use Rattle.parser.specs.GoodText.{good-length}
 use Rattle.steps.specs.Fine.{FineSettings}
 use Rattle.steps.specs.Lexed.{chars-within}
 use Rattle.laws.specs.GoodLines.{good-both}

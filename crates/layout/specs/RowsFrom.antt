@@ -19,7 +19,7 @@ use Rattle.laws.specs.Fuel.{rows-fuel}
 use Rattle.laws.specs.Stands.{unless-both}
 use Rattle.laws.specs.RowInduction.{unless-cases}
 use Rattle.parser.specs.Lexing.{charsFrom}
-use Rattle.parser.proofs.NextLaws.{chars-after}
+use Rattle.parser.specs.NextLaws.{chars-after}
 use Rattle.steps.specs.Fine.{FineSettings}
 use Rattle.steps.specs.Stepping.{resumedAt}
 use Rattle.steps.specs.Unrolled.{nothingResumed}

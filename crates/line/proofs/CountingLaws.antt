@@ -12,11 +12,12 @@ use Rattle.meaning.specs.declared.settings.Settings.{Settings}
 use Rattle.meaning.specs.declared.counts.Offset.{Offset}
 use Rattle.parser.specs.Scanning.{wordOf}
 use Rattle.parser.specs.Pairs.{oneSpace, PairAt}
+use Rattle.parser.specs.Within.{FirstWord}
 use Rattle.parser.specs.declared.scan.Scanned.{Scanned}
 use Rattle.steps.specs.Unrolled.{nothingResumed}
 use Rattle.line.specs.Laying.{LineReady}
 use Rattle.strides.specs.Strides.{waitingAt}
-use Rattle.line.specs.Quick.{FirstWord, Counts, countedAt, CountedWords}
+use Rattle.line.specs.Quick.{Counts, countedAt, CountedWords}
 use Rattle.strides.specs.declared.going.Waiting.{Waiting}
 use Rattle.line.specs.declared.quick.Counted.{Counted}
 use Rattle.steps.specs.WordLaws.{word-at}

@@ -22,7 +22,7 @@ use Rattle.laws.specs.Measuring.{printedAt}
 use Rattle.parser.specs.Lexing.{charsFrom, lexedAt, partOf}
 use Rattle.parser.specs.declared.lexeme.Lexeme.{Lexeme}
 use Rattle.parser.specs.declared.lexeme.Lexed.the-variants.{Token}
-use Rattle.parser.specs.declared.lexeme.Part.{Part}
+use Rattle.parser.specs.declared.part.Part.{Part}
 use Rattle.steps.specs.Fine.{FineSpaces}
 use Rattle.steps.specs.Unrolled.{nothingResumed}
 use Rattle.line.specs.Laying.{LineReady, passedFrom, plainly, placedBy}

@@ -4,4 +4,3 @@ pub mod CutLaws
 pub mod FairLaws
 pub mod LayLaws
 pub mod QuickLaws
-pub mod ShortLaws

@@ -1,17 +1,15 @@
 -- How a line of counted words ends: its drawing pass ends as its measuring pass does.
 -- Assumes nothing.
 use mathlib.Core.Path.{_≡_, refl, sym, ap, subst, _∙_}
-use mathlib.Core.Bool.{false}
+use mathlib.Core.Bool.{true, false}
 use mathlib.Core.List.{List, []}
 use Prim.Native.Nat.{ℕ, _+_, _-_, _*_, _≤_, _<_}
 use native.Mathlib.Omega.{arith}
 use borrow.Author.Tests.{leb-false, eq-eqb, ne-eqb}
 use lib.Dec.{eqb}
-use lib.ListN.{length, getD}
+use lib.ListN.{length}
 use Rattle.basis.specs.Choice.{pick, pick-same, by-test}
 use Rattle.basis.specs.Order.{by-eq, by-le}
-use Rattle.unicode.specs.Ascii.{decode-ascii}
-use Rattle.unicode.specs.Walk.{decode-at-bytes}
 use Rattle.meaning.specs.Tokens.{tokens}
 use Rattle.meaning.specs.Cursor.{roomOf, fitsIn}
 use Rattle.meaning.specs.SpaceConfig.{spacesWidth}
@@ -32,8 +30,9 @@ use Rattle.laws.specs.Measuring.{printedAt}
 use Rattle.parser.specs.Lexing.{charsFrom, lexedAt}
 use Rattle.parser.specs.Scanning.{aloneAt}
 use Rattle.parser.specs.declared.lexeme.Lexed.the-variants.{Token}
-use Rattle.parser.proofs.ScanLaws.{chars-none}
-use Rattle.parser.proofs.LexerLaws.{new-line, lexed-char}
+use Rattle.parser.specs.Ascii.{feedAt}
+use Rattle.parser.specs.ScanLaws.{chars-past}
+use Rattle.parser.specs.LexerLaws.{feed-lexed}
 use Rattle.steps.specs.FineLaws.{fits-room}
 use Rattle.steps.specs.Stepping.{ranFrom}
 use Rattle.steps.specs.Unrolled.{nothingResumed, ran-end}
@@ -48,7 +47,6 @@ use Rattle.steps.specs.declared.step.Ended.{Ended}
 use Rattle.line.specs.declared.quick.Counted.{Counted}
 use Rattle.line.proofs.LayLaws.{few-spaces}
 use Rattle.steps.specs.PassLaws.{line-ends}
-use Rattle.strides.specs.PlainLaws.{past-end}
 use Rattle.strides.specs.OnwardLaws.{read-pending, stops-onward}
 use Rattle.strides.specs.WaitLaws.{far-ends, waits-wide, waits-thin, waits-cut}
 use Rattle.line.proofs.FairLaws.{place-fair}
@@ -56,22 +54,18 @@ use Rattle.line.proofs.FairLaws.{place-fair}
 -- ---- a line feed, and the text's end
 
 module _ {s : Settings} {p : Place} {t : List ℕ} {at : ℕ} {m : Measure} where
-  feed-ends : PassReady s p t at nothingResumed m → at < length t → getD t at 0 ≡ 0x0A
-      → endsBefore NewLine m (at + 1) 0 (at + 1) ≡ ranFrom s p t at 0 0 m
+  feed-ends : PassReady s p t at nothingResumed m → feedAt t at ≡ true → endsBefore NewLine m (at + 1) 0 (at + 1) ≡ ranFrom s p t at 0 0 m
   unfolding aloneAt
-  feed-ends r h e =
-      let b = getD t at 0 in
-      let d = decode-ascii t at h (omega arith) in
+  feed-ends r e =
       let x = aloneAt kind.NewLine (at + 1) in
-      let is : lexedAt at (tokens (charsFrom t at)) ≡ Token x
-      = sym (lexed-char t at b 1 d x (new-line at 1 b (charsFrom t (at + 1)) (decode-at-bytes t at b 1 d) e)) in
+      let is : lexedAt at (tokens (charsFrom t at)) ≡ Token x = sym (feed-lexed t at e) in
       sym (far-ends NewLine m (at + 1) 0 (at + 1))
       ∙ stops-onward r x is _ (line-ends s p t at x m (read-pending t at x is .stands) refl)
 
 text-ends : (s : Settings) (p : Place) (t : List ℕ) (at : ℕ) (m : Measure) → length t ≤ at → endsBefore EndOfText m at 0 (at + 1) ≡ ranFrom s p t at 0 0 m
 unfolding endsBefore heldTokens
 text-ends s p t at m h =
-    let none : heldTokens 0 0 (charsFrom t at) ≡ [] = ap tokens (chars-none t at (past-end t at h)) ∙ tokens-none in
+    let none : heldTokens 0 0 (charsFrom t at) ≡ [] = ap tokens (chars-past t at h) ∙ tokens-none in
     sym (ran-end s p t at 0 0 m none)
 
 -- ---- a word that waits
@@ -164,11 +158,11 @@ module _ {s : Settings} {t : List ℕ} {at : ℕ} (h : LineReady s t at nothingR
 
     -- ---- before a line feed, and at the text's end
 
-    feeds-alike : to < length t → getD t to 0 ≡ 0x0A → DrawnAlike s t at (endsBefore NewLine printed (to + 1) 0 (to + 1))
+    feeds-alike : feedAt t to ≡ true → DrawnAlike s t at (endsBefore NewLine printed (to + 1) 0 (to + 1))
     unfolding endsBefore
-    feeds-alike l b =
-        alike (endsBefore NewLine printed (to + 1) 0 (to + 1)) (feed-ends (c .plain .ready) l b) (words-measured s columns spaces within) λ p f v.
-        subst (SameEnd _) (feed-ends (v .onward .ready) l b) (same-before NewLine printed (v .measure) (to + 1) (to + 1))
+    feeds-alike b =
+        alike (endsBefore NewLine printed (to + 1) 0 (to + 1)) (feed-ends (c .plain .ready) b) (words-measured s columns spaces within) λ p f v.
+        subst (SameEnd _) (feed-ends (v .onward .ready) b) (same-before NewLine printed (v .measure) (to + 1) (to + 1))
 
     ends-alike : length t ≤ to → DrawnAlike s t at (endsBefore EndOfText printed to 0 (to + 1))
     unfolding endsBefore
@@ -259,7 +253,7 @@ module _ {s : Settings} {t : List ℕ} {at : ℕ} (h : LineReady s t at nothingR
     unfolding goingAt
     quick-ends = rw is λ l e f. subst (DrawnAlike s t at) (sym f) (ends-alike h (d .counts) (d .within) l)
 
-    pub quick-feeds : g .at .0 < length t → getD t (g .at .0) 0 ≡ 0x0A → (e : Ended)
+    pub quick-feeds : feedAt t (g .at .0) ≡ true → (e : Ended)
         → e ≡ endsBefore NewLine (g .measure) (g .at .0 + 1) 0 (g .at .0 + 1) → DrawnAlike s t at e
     unfolding goingAt
-    quick-feeds = rw is λ l b e f. subst (DrawnAlike s t at) (sym f) (feeds-alike h (d .counts) (d .within) l b)
+    quick-feeds = rw is λ b e f. subst (DrawnAlike s t at) (sym f) (feeds-alike h (d .counts) (d .within) b)

@@ -29,7 +29,7 @@ use Rattle.laws.specs.PassBounds.{size-take}
 use Rattle.laws.specs.LineBounds.{line-chars, line-held, line-rest, line-takes, line-reach-high}
 use Rattle.laws.specs.Measuring.{measured-behind}
 use Rattle.parser.specs.Lexing.{charsFrom}
-use Rattle.parser.proofs.NextLaws.{chars-after}
+use Rattle.parser.specs.NextLaws.{chars-after}
 use Rattle.steps.specs.Fine.{FineSettings, FineSpaces}
 use Rattle.steps.specs.FineSteps.{plain-fine, start-fine}
 use Rattle.line.specs.FinePass.{pass-grows, pass-drops}

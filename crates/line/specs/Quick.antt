@@ -4,11 +4,6 @@ use mathlib.Core.Path.{_≡_}
 use mathlib.Core.Bool.{false}
 use mathlib.Core.List.{List}
 use Prim.Native.Nat.{ℕ, _+_, _*_, _≤_}
-use lib.Dec.{ltb}
-use lib.ListN.{length}
-use Rattle.basis.specs.Choice.{pick}
-use Rattle.meaning.specs.Characters.{inWord}
-use Rattle.meaning.specs.Tokens.{tokens}
 use Rattle.meaning.specs.Alignment.{plainSpaces}
 use Rattle.meaning.specs.Line.{unmeasured, startPlace}
 use Rattle.meaning.specs.declared.settings.Settings.{Settings}
@@ -16,45 +11,16 @@ use Rattle.meaning.specs.declared.cursor.Place.{Place}
 use Rattle.meaning.specs.declared.line.Measure.{Measure}
 use Rattle.meaning.specs.declared.line.Placed.{Placed}
 use Rattle.laws.specs.Measuring.{printedAt}
-use Rattle.parser.specs.Lexing.{charsFrom, lexedAt}
-use Rattle.parser.specs.Scanning.{glueOf, scannedAt, scanFrom, wordOf}
-use Rattle.parser.specs.declared.lexeme.Lexeme.{Lexeme}
-use Rattle.parser.specs.declared.lexeme.Lexed.the-variants.{Token}
-use Rattle.parser.specs.declared.scan.Scanned.{Scanned}
 use Rattle.steps.specs.Fine.{FineSpaces}
 use Rattle.steps.specs.Unrolled.{nothingResumed}
 use Rattle.line.specs.Laying.{passedFrom, plainly, placedBy}
-use Rattle.strides.specs.PlainWords.{Found}
+use Rattle.parser.specs.PlainWords.{Found}
 use Rattle.strides.specs.Strides.{Onward, Waits}
 use Rattle.steps.specs.declared.step.Ended.{Ended}
 use Rattle.strides.specs.declared.going.Waiting.{Waiting}
 use Rattle.line.specs.declared.quick.Counted.{Counted}
 use Rattle.line.specs.declared.quick.Quick.{Quick}
 use Rattle.line.specs.declared.quick.Quick.the-variants.{Not, Line}
-
--- From one position to another a word goes on, by so many characters of which so many glue.
-pub record GoesOn (t : List ℕ) (from to chars glues : ℕ) : Type 0 where
-  pub forward : from + chars ≤ to
-  pub inside : to ≤ length t
-  pub fewer : glues ≤ chars
-  pub scans : (n w : ℕ) → scanFrom inWord glueOf from n w (charsFrom t from) ≡ scanFrom inWord glueOf to (n + chars) (w + glues) (charsFrom t to)
-
--- A word ends at a position, by a character of so many bytes or as if by one.
-pub record EndsBy (t : List ℕ) (at n : ℕ) : Type 0 where
-  pub few : n ≤ length t + 1
-  pub scans : (chars glues : ℕ) → scanFrom inWord glueOf at chars glues (charsFrom t at) ≡ scannedAt at chars glues n
-
--- The word at a position, of no more characters than that.
-pub record FirstWord (t : List ℕ) (at most : ℕ) (w : Scanned) : Type 0 where
-  pub read : lexedAt at (tokens (charsFrom t at)) ≡ Token (wordOf w)
-  pub fits : w .chars .0 ≤ most
-
--- A word that is known, as a scan gives it, if it has no more characters than that. No characters: it has more.
-abbrev pub keptOf : Lexeme → Scanned
-keptOf x = record { end = x .end; chars = x .chars; weight = x .glues; reach = x .reach }
-
-unfoldable pub keptWithin : Lexeme → (most : ℕ) → Scanned
-keptWithin x most = pick (ltb most (x .chars .0)) (scannedAt 0 0 0 0) (keptOf x)
 
 -- There is room for so many letters, and for so many spaces between their words, in a line that is so placed.
 pub record Fair (s : Settings) (p : Placed) (letters gaps : ℕ) : Type 0 where

@@ -7,15 +7,11 @@ use meaning::settings::Settings;
 use meaning::tokens::TokenKind;
 use parser::lexeme::Lexed;
 use parser::lexeme::Lexeme;
-use parser::lexer::token_at;
 use parser::part::part_of;
 use steps::ending::ends_before;
 use steps::first::Known;
-use steps::first::known_at;
 use steps::measure::printed_at;
-ghost use Prim.Native.Nat.{_≤_};
 ghost use mathlib.Core.Path.{_≡_};
-ghost use lib.ListN.{length};
 ghost use Rattle.meaning.specs.Tokens.{tokens};
 ghost use Rattle.meaning.specs.declared.tokens.TokenKind.the-variants.{Word};
 ghost use Rattle.parser.specs.Lexing.{charsFrom, lexedAt};
@@ -24,18 +20,6 @@ ghost use Rattle.steps.specs.Unrolled.{nothingResumed};
 ghost use Rattle.line.specs.Laying.{LineReady};
 ghost use Rattle.steps.specs.Knowing.{KnownFits};
 ghost use Rattle.line.specs.Quick.{QuickLine};
-
-// What is known for a line at an offset: what was known before, or else the token there.
-pub fn known_here(text: &[u8], at: usize, known: Known) -> Known
-    requires { ⌜ (length (now text) ≤ 65535) × (at ≤ length (now text)) × KnownFits (now text) known ⌝ }
-    ensures { λ r. ⌜ KnownFits (now (text .entry)) r ⌝ }
-{
-    let first = known.first;
-    if let Lexed::Token(_) = first {
-        return known;
-    }
-    known_at(at, token_at(text, at))
-}
 
 // The line of a word's first characters, if some fit and not all do.
 fn cut_part(text: &[u8], s: Settings, at: usize, x: Lexeme) -> Quick

@@ -5,4 +5,3 @@ pub mod entry;
 pub mod line;
 pub mod pass;
 pub mod quick;
-pub mod short_words;

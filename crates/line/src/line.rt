@@ -2,7 +2,6 @@
 use crate::alignment::place_line;
 use crate::alignment::plain_spaces;
 use crate::cut::cut_line;
-use crate::cut::known_here;
 use crate::entry::entry_at;
 use crate::pass::run_pass;
 use crate::quick::Quick;
@@ -14,6 +13,7 @@ use meaning::line::LineEnd;
 use meaning::line::Placed;
 use meaning::settings::Settings;
 use steps::first::Known;
+use steps::first::known_here;
 use steps::measure::measured_count;
 use steps::measure::measured_width;
 use steps::measure::nothing_measured;

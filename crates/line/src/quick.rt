@@ -1,19 +1,17 @@
 // A line of words with one space between any two, counted in characters: it is drawn as it was measured.
 use crate::alignment::plain_spaces;
-use crate::short_words::kept_within;
-use crate::short_words::scanned_to;
-use crate::short_words::short_word;
 use meaning::counts::Chars;
 use meaning::counts::Offset;
 use meaning::counts::Pixels;
 use meaning::line::LineEnd;
 use meaning::settings::Settings;
 use meaning::tokens::TokenKind;
-use parser::ascii::plain_at;
+use parser::ascii::feed_at;
 use parser::lexeme::Lexed;
-use parser::pair::Pair;
-use parser::pair::pair_at;
+use parser::pair::next_pair;
 use parser::scan::Scanned;
+use parser::within::first_within;
+use parser::within::kept_within;
 use steps::ending::ends_before;
 use steps::first::Known;
 use steps::measure::printed_at;
@@ -24,20 +22,17 @@ use strides::going::Waiting;
 use strides::going::nothing_waits;
 use strides::going::stands_at;
 use strides::going::strode;
-use strides::plain_words::stride_end;
-use strides::plain_words::word_within;
 use strides::strides::ends_waiting;
 ghost use Prim.Native.Nat.{_*_, _≤_, _<_};
 ghost use mathlib.Core.Path.{_≡_};
 ghost use lib.ListN.{length};
 ghost use Rattle.laws.specs.Measuring.{printedAt};
-ghost use Rattle.parser.specs.Scanning.{wordOf};
-ghost use Rattle.parser.specs.Pairs.{PairAt};
+ghost use Rattle.parser.specs.Within.{FirstWord};
 ghost use Rattle.steps.specs.Unrolled.{nothingResumed};
 ghost use Rattle.line.specs.Laying.{LineReady};
 ghost use Rattle.steps.specs.Knowing.{KnownFits};
 ghost use Rattle.strides.specs.Strides.{goingAt};
-ghost use Rattle.line.specs.Quick.{plainPlace, countedAt, FirstWord, CountedWords, QuickLine};
+ghost use Rattle.line.specs.Quick.{plainPlace, countedAt, CountedWords, QuickLine};
 
 // The words of such a line: where they end, their characters with those of the spaces between them, how many of these are
 // spaces or glue, and the word that waits behind one more space, if one does. No characters: it is no such line.
@@ -64,43 +59,7 @@ fn counted_at(end: u32, columns: u32, spaces: u32, waits: Waiting) -> Counted
     }
 }
 
-// One space and the word behind it, if that is told by its bytes.
-fn next_pair(text: &[u8], at: usize) -> Pair
-    requires { ⌜ length (now text) ≤ 65535 ⌝ }
-    ensures { λ r. ⌜ (0 < r .from .0 → PairAt (now (text .entry)) at (r .from .0) (r .looked .0) (wordOf (r .word))) ⌝ }
-{
-    let end = stride_end(text, at);
-    if end == 0 {
-        return pair_at(text, at);
-    }
-    let from = at + 1;
-    let n = (end - from) as u32;
-    let word = scanned_to(end, n, 0);
-    let start = from as u32;
-    let looked = start + 1;
-    Pair {
-        from: Offset(start),
-        looked: Offset(looked),
-        word,
-    }
-}
-
-// The word at a position, if it has no more characters than that.
-fn first_within(text: &[u8], at: usize, most: u32) -> Scanned
-    requires { ⌜ (length (now text) ≤ 65535) × (most ≤ 4096) ⌝ }
-    ensures { λ r. ⌜ (0 < r .chars .0 → FirstWord (now (text .entry)) at most r) ⌝ }
-{
-    if plain_at(text, at) {
-        let end = word_within(text, at, most);
-        if end != 0 {
-            let n = (end - at) as u32;
-            return scanned_to(end, n, 0);
-        }
-    }
-    short_word(text, at, most)
-}
-
-// The same where a word may be known. A known word that has more characters is not looked at.
+// The word at a position, if it has no more characters than that. A known word that has more is not looked at.
 fn first_known(text: &[u8], at: usize, most: u32, known: Known) -> Scanned
     requires { ⌜ (length (now text) ≤ 65535) × (most ≤ 4096) × KnownFits (now text) known ⌝ }
     ensures { λ r. ⌜ (0 < r .chars .0 → FirstWord (now (text .entry)) at most r) ⌝ }
@@ -195,7 +154,7 @@ pub fn quick_line(text: &[u8], s: Settings, at: usize, known: Known) -> Quick
         let far = end + 1;
         return Quick::Line(ends_before(LineEnd::EndOfText, m, Offset(end), Chars(0), Offset(far)));
     }
-    if text[end as usize] == 0x0A {
+    if feed_at(text, end as usize) {
         let next = end + 1;
         return Quick::Line(ends_before(LineEnd::NewLine, m, Offset(next), Chars(0), Offset(next)));
     }

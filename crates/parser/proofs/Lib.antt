@@ -1,11 +1,4 @@
-pub mod CharacterLaws
-pub mod ScanLaws
-pub mod AsciiLaws
-pub mod RunLaws
-pub mod LexerLaws
-pub mod PairLaws
 pub mod PartLaws
 pub mod ShorterLaws
-pub mod NextLaws
 pub mod WriteLaws
 pub mod TokenizeLaws

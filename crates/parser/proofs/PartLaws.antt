@@ -15,7 +15,7 @@ use Rattle.meaning.specs.Characters.{glue}
 use Rattle.meaning.specs.Words.{glues}
 use Rattle.parser.specs.Lexing.{charsFrom, partOf}
 use Rattle.parser.specs.Scanning.{glueOf, partAt}
-use Rattle.parser.proofs.ScanLaws.{chars-more, chars-none}
+use Rattle.parser.specs.ScanLaws.{chars-more, chars-none}
 
 -- How many bytes the first k characters from a position on have, and how many of them glue.
 unfoldable pub sizeTo : List ℕ → ℕ → ℕ → ℕ

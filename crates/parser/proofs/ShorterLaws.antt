@@ -1,7 +1,7 @@
 -- The word that stands at a position, from a later character on: it ends where it ended.
 -- Assumes nothing.
 use mathlib.Core.Path.{_≡_, refl, sym, ap, _∙_}
-use mathlib.Core.Bool.{true, false}
+use mathlib.Core.Bool.{true}
 use mathlib.Core.List.{List, [], _∷_}
 use Prim.Native.Nat.{ℕ, suc, _+_, _-_, _≤_, _<_}
 use native.Mathlib.Omega.{arith}
@@ -22,8 +22,8 @@ use Rattle.parser.specs.Scanning.{glueOf}
 use Rattle.parser.specs.Shorter.{shorter, less}
 use Rattle.parser.specs.declared.lexeme.Lexeme.{Lexeme}
 use Rattle.parser.specs.declared.lexeme.Lexed.the-variants.{Token}
-use Rattle.parser.proofs.ScanLaws.{chars-more}
-use Rattle.parser.proofs.LexerLaws.{letter-of}
+use Rattle.parser.specs.ScanLaws.{chars-more}
+use Rattle.parser.specs.CharacterLaws.{letter-of}
 use Rattle.parser.proofs.PartLaws.{glues-more}
 
 -- Only a letter starts a word.

@@ -1,6 +1,6 @@
 -- What the call that finds all tokens answers, by the check of the text and the room of the buffer.
 -- Assumes nothing.
-use mathlib.Core.Path.{_≡_, refl, sym, ap, _∙_}
+use mathlib.Core.Path.{_≡_, refl, ap, _∙_}
 use mathlib.Core.List.{List, [], _∷_}
 use Prim.Native.Nat.{ℕ, zero, suc, _+_, _*_, _/_, _≤_, _<_}
 use native.Mathlib.Nat.{zero-add}
@@ -9,21 +9,18 @@ use lib.ListN.{length}
 use lib.Seq.{sets, sets-eq}
 use borrow.Author.Tests.{lt-ltb, le-ltb}
 use Rattle.basis.specs.Choice.{pick}
-use Rattle.basis.specs.Order.{by-lt}
 use Rattle.unicode.specs.Decoding.{decodeAll, validPrefix}
 use Rattle.unicode.specs.Prefix.{prefix-within}
 use Rattle.meaning.specs.Characters.{classOf}
 use Rattle.meaning.specs.Tokens.{Tok, sizeOf, others, tokensBy, tokens, ranged}
 use Rattle.meaning.specs.Table.{ofToken, ofAll, capacityOf, written}
-use Rattle.meaning.specs.Checks.{refuseIf, firstOf, checkLength, checkUtf8, checkText, checkRoom}
+use Rattle.meaning.specs.Checks.{refuseIf, checkLength, checkUtf8, checkText, checkRoom}
 use Rattle.meaning.specs.Calls.{textTokens, checkTokens, tokensAnswer, tokensBuffer}
 use Rattle.meaning.specs.declared.refusals.Refusal.{Refusal}
 use Rattle.meaning.specs.declared.refusals.Refusal.the-variants.{TooSmall}
-use Rattle.meaning.specs.declared.refusals.Checked.{Checked}
 use Rattle.meaning.specs.declared.refusals.Checked.the-variants.{Good, Refused}
 use Rattle.meaning.specs.declared.answers.Tokenized.the-variants as tokenized
 use Rattle.laws.specs.TokenLaws.{length-size}
-use Rattle.checks.specs.TextLaws.{too-long}
 use Rattle.laws.specs.TestOrder.{first-alone, first-refused, first-good}
 use Rattle.parser.specs.Lexing.{charsFrom}
 use Rattle.parser.specs.Writing.{numbersFrom, checkNeeded, roomAnswer, roomBuffer}
@@ -78,18 +75,11 @@ module _ (t : List ℕ) where
 
 -- ---- the check of the text, and then that of the room
 
-refused-good : {r : Refusal} → Refused r ≡ Good → ⊥
-refused-good e = let z : _≡_ {A = ℕ} 0 1 = cc in omega arith
+module _ (t b : List ℕ) where
+  pub text-good : checkText t ≡ Good → (roomAnswer t b ≡ tokensAnswer t b) × (roomBuffer t b ≡ tokensBuffer t b)
+  unfolding checkText checkTokens roomAnswer roomBuffer tokensAnswer tokensBuffer checkNeeded
+  text-good e = rw (first-good (checkLength (length t)) (checkUtf8 t) (checkNeeded t b ∷ []) e ∙ first-alone (checkNeeded t b)) (refl, refl)
 
-module _ (t : List ℕ) where
-  pub good-length : checkText t ≡ Good → length t ≤ 65535
-  good-length e = by-lt 65535 (length t) (λ h. absurd (refused-good (too-long t h ∙ e))) (λ h. h)
-
-  module _ (b : List ℕ) where
-    pub text-good : checkText t ≡ Good → (roomAnswer t b ≡ tokensAnswer t b) × (roomBuffer t b ≡ tokensBuffer t b)
-    unfolding checkText checkTokens roomAnswer roomBuffer tokensAnswer tokensBuffer checkNeeded
-    text-good e = rw (first-good (checkLength (length t)) (checkUtf8 t) (checkNeeded t b ∷ []) e ∙ first-alone (checkNeeded t b)) (refl, refl)
-
-    pub text-refused : (r : Refusal) → checkText t ≡ Refused r → (tokenized.Refused r ≡ tokensAnswer t b) × (b ≡ tokensBuffer t b)
-    unfolding checkText checkTokens tokensAnswer tokensBuffer checkNeeded
-    text-refused r e = rw (first-refused (checkLength (length t)) (checkUtf8 t) (checkNeeded t b ∷ []) r e) (refl, refl)
+  pub text-refused : (r : Refusal) → checkText t ≡ Refused r → (tokenized.Refused r ≡ tokensAnswer t b) × (b ≡ tokensBuffer t b)
+  unfolding checkText checkTokens tokensAnswer tokensBuffer checkNeeded
+  text-refused r e = rw (first-refused (checkLength (length t)) (checkUtf8 t) (checkNeeded t b ∷ []) r e) (refl, refl)

@@ -11,7 +11,7 @@ use Rattle.meaning.specs.Table.{tokenNumber, ofToken, ofAll, written}
 use Rattle.parser.specs.Lexing.{charsFrom, lexemeAt}
 use Rattle.parser.specs.Writing.{numbersOf, numbersFrom}
 use Rattle.parser.specs.declared.lexeme.Lexeme.{Lexeme}
-use Rattle.parser.proofs.NextLaws.{Next}
+use Rattle.parser.specs.NextLaws.{Next}
 
 -- Four stores, one place after the other.
 pub four-sets : (b : List ℕ) (p k s : ℕ) (l : Lexeme) → k ≡ tokenNumber (l .kind)

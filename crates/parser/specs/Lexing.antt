@@ -5,12 +5,12 @@ use mathlib.Core.List.{List, [], _∷_}
 use lib.ListN.{take, drop}
 use Rattle.unicode.specs.Encoding.{size}
 use Rattle.unicode.specs.Decoding.{decodeAll}
-use Rattle.meaning.specs.Tokens.{Tok, newLine, carriageReturn, tab, softHyphen, space, word, tokens, charsOf, sizeOf, needOf, kindOf, countOf}
+use Rattle.meaning.specs.Tokens.{Tok, newLine, carriageReturn, tab, softHyphen, space, word, charsOf, sizeOf, needOf, kindOf, countOf}
 use Rattle.meaning.specs.Words.{glues}
 use Rattle.parser.specs.declared.lexeme.Lexeme.{Lexeme}
 use Rattle.parser.specs.declared.lexeme.Lexed.{Lexed}
 use Rattle.parser.specs.declared.lexeme.Lexed.the-variants.{End, Token}
-use Rattle.parser.specs.declared.lexeme.Part.{Part}
+use Rattle.parser.specs.declared.part.Part.{Part}
 
 -- The characters of a text from an offset on.
 unfoldable pub charsFrom : List ℕ → ℕ → List ℕ

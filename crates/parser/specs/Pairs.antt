@@ -6,11 +6,12 @@ use mathlib.Core.Bool.{Bool, _&&_, _||_}
 use mathlib.Core.List.{List}
 use lib.Dec.{eqb}
 use lib.ListN.{length}
-use Rattle.meaning.specs.Characters.{inWord, inRun}
+use Rattle.meaning.specs.Characters.{inRun}
 use Rattle.meaning.specs.Tokens.{tokens}
 use Rattle.meaning.specs.declared.tokens.TokenKind.the-variants.{Whitespace, Word}
 use Rattle.parser.specs.Lexing.{charsFrom, lexedAt}
-use Rattle.parser.specs.Scanning.{glueOf, spaceOf, scannedAt, scanFrom, blankOf}
+use Rattle.parser.specs.Scanning.{spaceOf, scanFrom, blankOf}
+use Rattle.parser.specs.Letters.{Ends}
 use Rattle.parser.specs.declared.lexeme.Lexeme.{Lexeme}
 use Rattle.parser.specs.declared.lexeme.Lexed.the-variants.{Token}
 
@@ -33,7 +34,7 @@ longSpace a b c = eqb b 0x80 && (eqb a 0xE2 && eqb c 0xAF || eqb a 0xE3 && eqb c
 -- White space of so many bytes that counts as a space stands at a position: a word ends before it, and a space run starts with it.
 pub record Blank (t : List ℕ) (at n : ℕ) : Type 0 where
   pub inside : at + n ≤ length t
-  pub ends : (chars glues : ℕ) → scanFrom inWord glueOf at chars glues (charsFrom t at) ≡ scannedAt at chars glues n
+  pub ends : Ends t at n
   pub lexed : lexedAt at (tokens (charsFrom t at)) ≡ Token (blankOf (scanFrom inRun spaceOf (at + n) 1 1 (charsFrom t (at + n))))
 
 -- One space stands at a position, which was looked at so far, and the word x behind it.

@@ -10,7 +10,7 @@ use Rattle.meaning.specs.Characters.{glue}
 use Rattle.meaning.specs.declared.tokens.TokenKind.{TokenKind}
 use Rattle.meaning.specs.declared.tokens.TokenKind.the-variants.{Whitespace, Word}
 use Rattle.parser.specs.declared.lexeme.Lexeme.{Lexeme}
-use Rattle.parser.specs.declared.lexeme.Part.{Part}
+use Rattle.parser.specs.declared.part.Part.{Part}
 use Rattle.parser.specs.declared.scan.Scanned.{Scanned}
 
 -- How many of one character glue, and how many spaces one character of a space run counts.

@@ -1,23 +1,10 @@
 // What a character does in a text (rules 1 and 2), by its number.
 ghost use mathlib.Core.Path.{_≡_};
 ghost use Prim.Native.Nat.{_<_};
-ghost use Rattle.meaning.specs.Characters.{glue, inWord, inRun};
-ghost use Rattle.parser.specs.Scanning.{glueOf, spaceOf};
+ghost use Rattle.meaning.specs.Characters.{inWord, inRun};
+ghost use Rattle.parser.specs.Scanning.{spaceOf};
+use crate::glue::is_glue;
 use unicode::white_space::is_white_space;
-
-// Does a character hold a word together.
-pub fn is_glue(c: u32) -> bool
-    ensures { λ r. ⌜ r ≡ glue c ⌝ }
-{
-    c == 0x00A0
-}
-
-// How many of one character glue.
-pub fn glue_of(c: u32) -> u32
-    ensures { λ r. ⌜ r ≡ glueOf c ⌝ }
-{
-    if c == 0x00A0 { 1 } else { 0 }
-}
 
 // How many spaces a character of a space run counts.
 pub fn space_of(c: u32) -> u32

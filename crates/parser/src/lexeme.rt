@@ -1,8 +1,9 @@
+// Tokens as the passes read them.
 use meaning::counts::Chars;
 use meaning::counts::Offset;
 use meaning::tokens::TokenKind;
 
-// A token as the passes read it: where it ends, its characters, the spaces that it counts, how many of its characters glue, and
+// Where a token ends, its characters, the spaces that it counts, how many of its characters glue, and
 // the offset after the character that ends it.
 pub struct Lexeme {
     pub kind: TokenKind,
@@ -17,10 +18,4 @@ pub struct Lexeme {
 pub enum Lexed {
     End,
     Token(Lexeme),
-}
-
-// The first characters of a stretch: where they end, and how many of them glue.
-pub struct Part {
-    pub end: Offset,
-    pub glues: Chars,
 }

@@ -2,7 +2,9 @@
 pub mod ascii;
 pub mod characters;
 pub mod count;
+pub mod glue;
 pub mod later;
+pub mod letters;
 pub mod lexeme;
 pub mod lexer;
 pub mod pair;
@@ -10,4 +12,5 @@ pub mod part;
 pub mod reader;
 pub mod scan;
 pub mod tokenize;
+pub mod within;
 pub mod write;

@@ -1,20 +1,24 @@
 // One space and the word behind it, read together.
+use crate::ascii::ends_at;
 use crate::ascii::plain_at;
 use crate::ascii::space_at;
+use crate::letters::letter_len;
+use crate::letters::skip_plain;
 use crate::scan::Scanned;
+use crate::scan::none_scanned;
 use crate::scan::scan_word;
-use meaning::counts::Chars;
+use crate::scan::scanned_at;
 use meaning::counts::Offset;
-use unicode::long::long_len;
 ghost use mathlib.Core.Path.{_≡_};
 ghost use mathlib.Core.Bool.{true};
 ghost use Prim.Native.Nat.{_≤_, _<_};
 ghost use lib.ListN.{length};
-ghost use Rattle.parser.specs.Ascii.{Letter};
 ghost use Rattle.parser.specs.Scanning.{wordOf};
 ghost use Rattle.parser.specs.Pairs.{longSpace, Blank, PairAt};
+ghost use Rattle.parser.specs.PlainWords.{Stride, Found};
 
-// Where the word starts, how far the space was looked at, and the word. A start of 0: there is no such pair.
+// Where the word starts, how far the space was looked at, and the word. A start of 0, which no word behind a space has: there is
+// no such pair. It is no enum, which would go through memory where these numbers stay in registers.
 pub struct Pair {
     pub from: Offset,
     pub looked: Offset,
@@ -24,19 +28,15 @@ pub struct Pair {
 fn no_pair() -> Pair
     ensures { λ r. ⌜ r .from .0 ≤ 0 ⌝ }
 {
+    let word = none_scanned();
     Pair {
         from: Offset(0),
         looked: Offset(0),
-        word: Scanned {
-            end: Offset(0),
-            chars: Chars(0),
-            weight: Chars(0),
-            reach: Offset(0),
-        },
+        word,
     }
 }
 
-// U+202F and U+3000.
+// U+202F and U+3000, neither of which glues (glue.rt).
 fn is_long_space(a: u8, b: u8, c: u8) -> bool
     ensures { λ r. ⌜ r ≡ longSpace a b c ⌝ }
 {
@@ -69,14 +69,21 @@ pub fn space_len(text: &[u8], at: usize) -> usize
     0
 }
 
-// How many bytes the letter has that stands at a position and that a word starts with, where it is told so. 0: it is not told.
-pub fn first_len(text: &[u8], at: usize) -> usize
-    ensures { λ r. ⌜ (0 < r → Letter (now (text .entry)) at r) ⌝ }
+// The end of the plain word behind one space at a position. 0, where no such word ends: there is none.
+pub fn stride_end(text: &[u8], at: usize) -> usize
+    requires { ⌜ length (now text) ≤ 65535 ⌝ }
+    ensures { λ r. ⌜ Found r (Stride (now (text .entry)) at r) ⌝ }
 {
-    if plain_at(text, at) {
-        return 1;
+    if space_at(text, at) {
+        let from = at + 1;
+        if plain_at(text, from) {
+            let end = skip_plain(text, from + 1, text.len());
+            if ends_at(text, end) {
+                return end;
+            }
+        }
     }
-    long_len(text, at)
+    0
 }
 
 // One space at a position, and the word behind it, if its first letter is told by its bytes.
@@ -89,7 +96,7 @@ pub fn pair_at(text: &[u8], at: usize) -> Pair
         return no_pair();
     }
     let from = at + space;
-    let letter = first_len(text, from);
+    let letter = letter_len(text, from);
     if letter == 0 {
         return no_pair();
     }
@@ -98,6 +105,27 @@ pub fn pair_at(text: &[u8], at: usize) -> Pair
     Pair {
         from: Offset(from as u32),
         looked: Offset(next as u32),
+        word,
+    }
+}
+
+// The same, where a plain word is looked for first.
+pub fn next_pair(text: &[u8], at: usize) -> Pair
+    requires { ⌜ length (now text) ≤ 65535 ⌝ }
+    ensures { λ r. ⌜ (0 < r .from .0 → PairAt (now (text .entry)) at (r .from .0) (r .looked .0) (wordOf (r .word))) ⌝ }
+{
+    let end = stride_end(text, at);
+    if end == 0 {
+        return pair_at(text, at);
+    }
+    let from = at + 1;
+    let n = (end - from) as u32;
+    let word = scanned_at(end, n, 0, 1);
+    let start = from as u32;
+    let looked = start + 1;
+    Pair {
+        from: Offset(start),
+        looked: Offset(looked),
         word,
     }
 }

@@ -4,13 +4,18 @@ ghost use Prim.Native.Nat.{_≤_};
 ghost use lib.ListN.{length};
 ghost use Rattle.parser.specs.Lexing.{charsFrom, partOf};
 ghost use Rattle.parser.specs.Scanning.{partAt};
-use crate::ascii::letter_len;
-use crate::characters::glue_of;
-use crate::lexeme::Part;
+use crate::glue::glue_of;
+use crate::letters::letter_len;
 use meaning::counts::Chars;
 use meaning::counts::Offset;
 use unicode::sequence::Decoded;
 use unicode::sequence::decode;
+
+// Where they end, and how many of them glue.
+pub struct Part {
+    pub end: Offset,
+    pub glues: Chars,
+}
 
 fn part_at(end: usize, glues: u32) -> Part
     requires { ⌜ end ≤ 65535 ⌝ }

@@ -4,20 +4,16 @@ use Prim.Native.Nat.{ℕ, zero, suc, _+_, _≤_}
 use native.Mathlib.Nat.{add-assoc}
 use native.Mathlib.Omega.{arith}
 use mathlib.Core.Path.{_≡_, refl, sym}
-use mathlib.Core.Bool.{false}
 use mathlib.Core.List.{List, [], _∷_}
 use lib.ListN.{length, take, drop, take-append-drop}
 use lib.Seq.{length-take-le}
 use Rattle.unicode.specs.Encoding.{size}
 use Rattle.unicode.specs.Sizes.{bytes-range}
-use Rattle.unicode.specs.Decoding.{decodeAt}
-use Rattle.unicode.specs.Walk.{isChar, decode-at-char, decode-at-bytes, decode-at-none}
-use Rattle.unicode.specs.declared.sequence.Decoded.the-variants.{Char}
 use Rattle.meaning.specs.Tokens.{ender, tokens, charsOf, sizeOf, enderOf, needOf}
 use Rattle.meaning.specs.Line.{heldTokens}
 use Rattle.laws.specs.TokenLaws.{length-size}
 use Rattle.laws.specs.PassBounds.{size-take}
-use Rattle.parser.proofs.NextLaws.{chars-after}
+use Rattle.parser.specs.NextLaws.{chars-after}
 use Rattle.parser.specs.Lexing.{charsFrom, lexemeAt, lexedAt}
 use Rattle.parser.specs.declared.lexeme.Lexed.the-variants as lexed
 use Rattle.steps.specs.Lexed.{chars-within}
@@ -61,13 +57,3 @@ pub none-read : (t : List ℕ) (at : ℕ) (r : Resumed) → r .chars .0 ≡ 0
     → lexedAt at (tokens (charsFrom t at)) ≡ lexedAt at (heldTokens (r .chars .0) (r .count .0) (charsFrom t at))
 unfolding heldTokens
 none-read t at r e = rw e
-
--- ---- the character at an offset
-
-pub ender-char : (t : List ℕ) (at c n : ℕ) → decodeAt t at ≡ Char c n → n ≡ ender (charsFrom t at)
-unfolding charsFrom ender
-ender-char t at c n e = rw (decode-at-char t at c n e) (decode-at-bytes t at c n e)
-
-pub ender-none : (t : List ℕ) (at : ℕ) → isChar (decodeAt t at) ≡ false → 1 ≡ ender (charsFrom t at)
-unfolding charsFrom ender
-ender-none t at e = rw (decode-at-none t at e)

@@ -21,6 +21,10 @@ nothingKnown = knownAt 0 End
 abbrev pub KnownFits : List ℕ → Known → Type 0
 KnownFits t k = (x : Lexeme) → k .first ≡ Token x → x .kind ≡ Word → lexedAt (k .at .0) (tokens (charsFrom t (k .at .0))) ≡ Token x
 
+pub known-stands : (t : List ℕ) (at : ℕ) (k : Known) (x : Lexeme) → KnownFits t k → k .at .0 ≡ at → k .first ≡ Token x → x .kind ≡ Word
+    → lexedAt at (tokens (charsFrom t at)) ≡ Token x
+known-stands t at k x f a q w = rw a at (f x q w)
+
 pub nothing-fits : (t : List ℕ) (k : Known) → k ≡ nothingKnown → KnownFits t k
 nothing-fits t k e x q w = let z : End ≡ Token x = sym (ap (λ (j : Known). j .first) e) ∙ q in cc
 

@@ -15,7 +15,7 @@ use Rattle.meaning.specs.Tokens.{Tok, newLine, carriageReturn, tab, softHyphen,
 use Rattle.laws.specs.Spell.{textOf, SoundTok}
 use Rattle.laws.specs.TokenLaws.{tokens-none, tokens-step, tokens-cover, tokens-sound, first-text, size-text, chars-size, sound-size}
 use Rattle.laws.specs.Reaches.{need-bound}
-use Rattle.parser.proofs.NextLaws.{chars-after, next-none}
+use Rattle.parser.specs.NextLaws.{chars-after, next-none}
 use Rattle.parser.specs.Lexing.{charsFrom, gluesOf, lexemeAt, lexedAt}
 use Rattle.parser.specs.declared.lexeme.Lexeme.{Lexeme}
 use Rattle.parser.specs.declared.lexeme.Lexed.the-variants as lexed

@@ -29,7 +29,7 @@ use Rattle.laws.specs.Steps.{too-wide, some-spaces}
 use Rattle.laws.specs.TokenLaws.{length-size}
 use Rattle.parser.specs.Lexing.{charsFrom, lexemeAt, partOf}
 use Rattle.parser.specs.declared.lexeme.Lexeme.{Lexeme}
-use Rattle.parser.specs.declared.lexeme.Part.{Part}
+use Rattle.parser.specs.declared.part.Part.{Part}
 use Rattle.steps.specs.FineLaws.{fits-room, advance-fine, spaces-fine}
 use Rattle.steps.specs.Stepping.{resumedAt, steppedAt, tokOf}
 use Rattle.steps.specs.Ready.{Standing, Ready, stepFrom}

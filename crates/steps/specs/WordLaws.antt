@@ -26,7 +26,7 @@ use Rattle.laws.specs.Measuring.{glues-length, word-measured}
 use Rattle.laws.specs.Steps.{too-wide}
 use Rattle.parser.specs.Lexing.{charsFrom, lexemeAt, partOf}
 use Rattle.parser.specs.declared.lexeme.Lexeme.{Lexeme}
-use Rattle.parser.specs.declared.lexeme.Part.{Part}
+use Rattle.parser.specs.declared.part.Part.{Part}
 use Rattle.steps.specs.Stepping.{resumedAt, steppedAt, tokOf}
 use Rattle.steps.specs.Fine.{FinePlace}
 use Rattle.steps.specs.FineLaws.{times-bound}

@@ -1,18 +1,23 @@
-// What a line begins with, where the word that is cut there may be known: a word cut over many lines is looked through once.
-use crate::pending::pending;
+// What a line begins with (rule 9): the rest that it resumes, or a token, which may be known. A word that is cut over many lines is
+// looked through once.
 use crate::step::Resumed;
+use meaning::counts::Chars;
 use meaning::counts::Offset;
 use meaning::tokens::TokenKind;
+use parser::ascii::far_at;
+use parser::ascii::may_go_on;
 use parser::later::token_after;
 use parser::lexeme::Lexed;
+use parser::lexeme::Lexeme;
 use parser::lexer::token_at;
+use parser::scan::ender_at;
 ghost use Prim.Native.Nat.{_≤_};
 ghost use mathlib.Core.Path.{_≡_};
 ghost use lib.ListN.{length};
 ghost use Rattle.meaning.specs.Tokens.{tokens};
 ghost use Rattle.meaning.specs.Line.{heldTokens};
 ghost use Rattle.parser.specs.Lexing.{charsFrom, lexedAt};
-ghost use Rattle.steps.specs.Pending.{RestFits};
+ghost use Rattle.steps.specs.Pending.{RestFits, restLexeme};
 ghost use Rattle.steps.specs.Knowing.{KnownFits, nothingKnown, knownAt};
 
 // The token at an offset, which may be a word that goes on in the next line.
@@ -60,6 +65,24 @@ fn known_token(text: &[u8], at: usize, known: Known) -> Lexed
     }
 }
 
+// The rest of a space run as one token, ended by a character of so many bytes.
+fn rest_lexeme(rest: Resumed, ender: u32) -> Lexeme
+    requires { ⌜ (rest .end .0 ≤ 65535) × (ender ≤ 4) ⌝ }
+    ensures { λ r. ⌜ r ≡ restLexeme rest ender ⌝ }
+{
+    let end = rest.end;
+    let chars = rest.chars;
+    let count = rest.count;
+    Lexeme {
+        kind: TokenKind::Whitespace,
+        end,
+        chars,
+        count,
+        glues: Chars(0),
+        reach: Offset(rest.end.0 + ender),
+    }
+}
+
 // The rest that a line resumes, or else the token at its offset.
 pub fn first_token(text: &[u8], at: usize, rest: Resumed, known: Known) -> Lexed
     requires { ⌜ (length (now text) ≤ 65535) × RestFits (now text) at rest × KnownFits (now text) known ⌝ }
@@ -68,30 +91,12 @@ pub fn first_token(text: &[u8], at: usize, rest: Resumed, known: Known) -> Lexed
     if rest.chars.0 == 0 {
         return known_token(text, at, known);
     }
-    pending(text, at, rest)
-}
-
-// Whether a word may go on at an offset: the byte before it belongs to one, or to no ASCII.
-fn may_go_on(text: &[u8], at: usize) -> bool {
-    if at == 0 {
-        return false;
-    }
-    let last = at - 1;
-    if last < text.len() {
-        return 0x20 < text[last];
-    }
-    false
-}
-
-// Does a character stand at an offset that is not of ASCII: a word of such letters is looked through once for all that read it.
-fn far_at(text: &[u8], at: usize) -> bool {
-    if at < text.len() {
-        return 0x80 <= text[at];
-    }
-    false
+    Lexed::Token(rest_lexeme(rest, ender_at(text, rest.end.0 as usize)))
 }
 
 // What is known for a line at an offset, from what was known for the line before it. A line that resumes a rest begins with no word.
+// A word that may be one that the line before cut is looked for, and one that starts with a letter not of ASCII: it is looked through
+// once for all that read it.
 pub fn known_from(text: &[u8], at: usize, rest: Resumed, known: Known) -> Known
     requires { ⌜ (length (now text) ≤ 65535) × (at ≤ length (now text)) × KnownFits (now text) known ⌝ }
     ensures { λ r. ⌜ KnownFits (now (text .entry)) r ⌝ }
@@ -103,4 +108,16 @@ pub fn known_from(text: &[u8], at: usize, rest: Resumed, known: Known) -> Known
         return known_at(at, known_token(text, at, known));
     }
     nothing_known()
+}
+
+// What is known for a line at an offset: what was known before, or else the token there.
+pub fn known_here(text: &[u8], at: usize, known: Known) -> Known
+    requires { ⌜ (length (now text) ≤ 65535) × (at ≤ length (now text)) × KnownFits (now text) known ⌝ }
+    ensures { λ r. ⌜ KnownFits (now (text .entry)) r ⌝ }
+{
+    let first = known.first;
+    if let Lexed::Token(_) = first {
+        return known;
+    }
+    known_at(at, token_at(text, at))
 }

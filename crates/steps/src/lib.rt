@@ -8,7 +8,6 @@ pub mod lent_cursor;
 pub mod line_iter;
 pub mod look;
 pub mod measure;
-pub mod pending;
 pub mod place;
 pub mod space_config;
 pub mod spaces;

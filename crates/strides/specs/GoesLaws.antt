@@ -16,7 +16,7 @@ use Rattle.laws.specs.Measuring.{printedAt}
 use Rattle.steps.specs.Stepping.{ranFrom}
 use Rattle.steps.specs.Unrolled.{farther, nothingResumed}
 use Rattle.steps.specs.Running.{PassReady, none-fits}
-use Rattle.strides.specs.PlainWords.{Stride, Found}
+use Rattle.parser.specs.PlainWords.{Stride, Found}
 use Rattle.strides.specs.Strides.{waitingAt, goingAt, strodePlace, printedLast, justPrinted, Onward, Waits, Goes, StrideReady, WaitReady}
 use Rattle.steps.specs.Foreseeing.{ForeseesFrom}
 use Rattle.steps.specs.declared.look.Foreseen.{Foreseen}
@@ -25,7 +25,7 @@ use Rattle.steps.specs.declared.step.Resumed.{Resumed}
 use Rattle.steps.specs.declared.step.Ended.{Ended}
 use Rattle.strides.specs.declared.going.Waiting.{Waiting}
 use Rattle.strides.specs.declared.going.Going.{Going}
-use Rattle.strides.specs.PlainLaws.{plainWord, plain-pair}
+use Rattle.parser.specs.PlainLaws.{plainWord, plain-pair}
 use Rattle.strides.specs.OnwardLaws.{onward-none, onward-on}
 
 -- ---- just after a print

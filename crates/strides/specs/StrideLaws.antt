@@ -32,7 +32,7 @@ use Rattle.steps.specs.Unrolled.{nothingResumed}
 use Rattle.steps.specs.Runs.{wholeAnswer}
 use Rattle.steps.specs.Running.{PassReady}
 use Rattle.steps.specs.Stopping.{wordMeasure, wordPlace}
-use Rattle.strides.specs.PlainWords.{PlainWord, Stride}
+use Rattle.parser.specs.PlainWords.{PlainWord, Stride}
 use Rattle.strides.specs.Strides.{strodePlace, Onward}
 use Rattle.steps.specs.declared.look.Look.{Look}
 use Rattle.steps.specs.declared.step.Stepped.the-variants.{Go}
@@ -40,7 +40,7 @@ use Rattle.steps.specs.DrawLaws.{draws-all, draws-some, whole-drawn}
 use Rattle.steps.specs.FitsLaws.{look-zero, look-word}
 use Rattle.steps.specs.RunLaws.{space-whole}
 use Rattle.steps.specs.WordLaws.{word-at, word-goes}
-use Rattle.strides.specs.PlainLaws.{plainWord, plain-read, plain-pair}
+use Rattle.parser.specs.PlainLaws.{plainWord, plain-read, plain-pair}
 use Rattle.strides.specs.OnwardLaws.{looks-on, looks-over, read-pending, read-ready, goes-onward, onward-on}
 
 -- ---- a word

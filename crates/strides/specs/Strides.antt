@@ -16,7 +16,7 @@ use Rattle.parser.specs.declared.lexeme.Lexeme.{Lexeme}
 use Rattle.steps.specs.Stepping.{ranFrom}
 use Rattle.steps.specs.Unrolled.{nothingResumed}
 use Rattle.steps.specs.Running.{PassReady}
-use Rattle.strides.specs.PlainWords.{Found}
+use Rattle.parser.specs.PlainWords.{Found}
 use Rattle.steps.specs.declared.step.Resumed.{Resumed}
 use Rattle.strides.specs.declared.going.Waiting.{Waiting}
 use Rattle.strides.specs.declared.going.Going.{Going}

@@ -1,5 +1,4 @@
 // A space and a word at once: what measuring and drawing share, so that most words take no step of their own (rules 7 and 8).
 pub mod going;
 pub mod pairs;
-pub mod plain_words;
 pub mod strides;

@@ -6,7 +6,7 @@ use Prim.Native.Nat.{_-_, _*_, _/_, _≤_}
 use native.Mathlib.Omega.{arith}
 use Rattle.meaning.specs.Cursor.{fitsIn}
 use Rattle.steps.specs.FineLaws.{fits-room}
-use Rattle.strides.specs.PlainWords.{PlainWord}
+use Rattle.parser.specs.PlainWords.{PlainWord}
 use Rattle.strides.specs.StrideLaws.{most-small, most-fits}
 use Rattle.drawing.proofs.OnwardEvents.{drew-none, drew-word, strode-to}
 use borrow.Author.Needs.{needs}

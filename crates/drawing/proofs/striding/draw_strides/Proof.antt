@@ -7,7 +7,7 @@ use lib.ListN.{length}
 use Rattle.meaning.specs.declared.cursor.Place.{Place}
 use Rattle.steps.specs.FineLaws.{times-bound}
 use Rattle.steps.specs.Unrolled.{nothingResumed}
-use Rattle.strides.specs.PlainWords.{Stride}
+use Rattle.parser.specs.PlainWords.{Stride}
 use Rattle.strides.specs.Strides.{strodePlace}
 use Rattle.strides.specs.GoesLaws.{stride-waits}
 use Rattle.drawing.specs.DrawingOn.{Drew}

@@ -1,11 +1,7 @@
 -- `line::cut::cut_line` meets its contract.
 -- Assumes nothing.
-use mathlib.Core.Path.{_≡_, subst}
-use Prim.Native.Nat.{ℕ}
 use borrow.Author.Needs.{needs}
-use Rattle.meaning.specs.Tokens.{tokens}
-use Rattle.parser.specs.Lexing.{charsFrom, lexedAt}
-use Rattle.parser.specs.declared.lexeme.Lexed.the-variants.{Token}
+use Rattle.steps.specs.Knowing.{known-stands}
 use Rattle.line.proofs.cut.cut_line.Statement.{statement}
 use Rattle.line.proofs.cut.cut_line.Tie as tie
 
@@ -35,7 +31,7 @@ cut-part-requires c κs =
     let x = f .first .given .0 .0 in
     let word = c .enum-told2 .given .1 in (
       st .pre .0,
-      subst (λ (n : ℕ). lexedAt n (tokens (charsFrom (st .args .text .now) n)) ≡ Token x) (i .if1 .left) (st .pre .1 x (f .first .given .1) word),
+      known-stands _ _ (st .args .known) x (st .pre .1) (i .if1 .left) (f .first .given .1) word,
       word,
     )
 

@@ -1,7 +1,8 @@
 -- `line::quick::first_known` meets its contract.
 -- Assumes nothing.
 use borrow.Author.Needs.{needs}
-use Rattle.line.proofs.ShortLaws.{first-kept}
+use Rattle.parser.specs.WithinLaws.{first-kept}
+use Rattle.steps.specs.Knowing.{known-stands}
 use Rattle.line.proofs.quick.first_known.Statement.{statement}
 use Rattle.line.proofs.quick.first_known.Tie as tie
 
@@ -23,7 +24,9 @@ returns c =
     let f = k .before .before .before in
     let i = f .before .before in
     let s = i .before .before .before in
-    first-kept _ _ _ (s .args .known) (f .first .given .0 .0) (s .pre .2) (i .if1 .taken) (f .first .given .1) (k .enum-told .given .1) _ (c .kept-within .ensures)
+    let x = f .first .given .0 .0 in
+    let w = k .enum-told .given .1 in
+    first-kept _ _ _ x (known-stands _ _ (s .args .known) x (s .pre .2) (i .if1 .taken) (f .first .given .1) w) w _ (c .kept-within .ensures)
 
 enum-told-2 : tie.Need-enum-told-2
 enum-told-2 c = search needs

@@ -1,5 +1,6 @@
 -- `line::quick::quick_line` meets its contract.
 -- Assumes nothing.
+use mathlib.Core.Path.{sym, _∙_}
 use native.Mathlib.Omega.{arith}
 use borrow.Author.Needs.{needs}
 use Rattle.line.specs.Quick.{CountedWords}
@@ -56,14 +57,17 @@ returns-3 c =
     let m = i .before .before .before .before in
     quick-ends (begin (m .before) .pre .0) (counted (m .before)) _ (m .measured-to .ensures) (i .if3 .taken) _ (c .ends-before .ensures)
 
-cast-if4 : tie.Need-cast-if4
-cast-if4 c = search needs
+cast-feed-at : tie.Need-cast-feed-at
+cast-feed-at c = search needs
 
-shared-slice-read-if4 : tie.Need-shared-slice-read-if4
-shared-slice-read-if4 c = search needs
+feed-at-requires : tie.Need-feed-at-requires
+feed-at-requires c κs = search needs
 
 add-next : tie.Need-add-next
-add-next c = search needs
+add-next c =
+    let m = c .before .before .before .before .before .before in
+    let r = begin (m .before) .pre .0 in
+    record { fits = omega (arith, quick-inside r (counted (m .before)) _ (m .measured-to .ensures), r .short) }
 
 ends-before-requires-2 : tie.Need-ends-before-requires-2
 ends-before-requires-2 c κs = search needs
@@ -71,9 +75,9 @@ ends-before-requires-2 c κs = search needs
 returns-4 : tie.Need-returns-4
 returns-4 c =
     let i = c .before in
-    let e = i .before .before in
-    let m = e .before .before .before .before in
-    quick-feeds (begin (m .before) .pre .0) (counted (m .before)) _ (m .measured-to .ensures) (e .if3 .left) (i .if4 .taken) _ (c .ends-before2 .ensures)
+    let f = i .before in
+    let m = f .before .before .before .before .before in
+    quick-feeds (begin (m .before) .pre .0) (counted (m .before)) _ (m .measured-to .ensures) (sym (f .feed-at .ensures) ∙ i .if4 .taken) _ (c .ends-before2 .ensures)
 
 returns-5 : tie.Need-returns-5
 returns-5 c = search needs
@@ -91,8 +95,8 @@ quick-line-spec =
     add-far
     ends-before-requires
     returns-3
-    cast-if4
-    shared-slice-read-if4
+    cast-feed-at
+    feed-at-requires
     add-next
     ends-before-requires-2
     returns-4

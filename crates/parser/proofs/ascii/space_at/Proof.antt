@@ -1,6 +1,5 @@
 -- `parser::ascii::space_at` meets its contract.
 -- Assumes nothing.
-use native.Mathlib.Omega.{arith}
 use borrow.Author.Needs.{needs}
 use Rattle.basis.specs.Choice.{pick}
 use Rattle.basis.specs.Order.{tests}

@@ -2,7 +2,7 @@
 -- Assumes nothing.
 use Rattle.basis.specs.Choice.{pick}
 use Rattle.basis.specs.Order.{tests}
-use Rattle.parser.proofs.CharacterLaws.{ascii-run}
+use Rattle.parser.specs.CharacterLaws.{ascii-run}
 use Rattle.parser.proofs.characters.ascii_in_run.Statement.{statement}
 use Rattle.parser.proofs.characters.ascii_in_run.Tie as tie
 

@@ -2,7 +2,7 @@
 -- Assumes nothing.
 use Rattle.basis.specs.Choice.{pick}
 use Rattle.basis.specs.Order.{tests}
-use Rattle.parser.proofs.CharacterLaws.{ascii-word}
+use Rattle.parser.specs.CharacterLaws.{ascii-word}
 use Rattle.parser.proofs.characters.ascii_in_word.Statement.{statement}
 use Rattle.parser.proofs.characters.ascii_in_word.Tie as tie
 

@@ -3,7 +3,8 @@
 use mathlib.Core.Path.{sym, ap, _∙_}
 use borrow.Author.Needs.{needs}
 use Rattle.meaning.specs.Characters.{inRun}
-use Rattle.parser.proofs.CharacterLaws.{zero-width, no-break, high-run}
+use Rattle.parser.specs.GlueLaws.{glue-word}
+use Rattle.parser.specs.CharacterLaws.{zero-width, high-run}
 use Rattle.parser.proofs.characters.in_run.Statement.{statement}
 use Rattle.parser.proofs.characters.in_run.Tie as tie
 
@@ -20,7 +21,7 @@ is-glue-requires : tie.Need-is-glue-requires
 is-glue-requires c κs = search needs
 
 returns-3 : tie.Need-returns-3
-returns-3 c = sym (no-break _ (sym (c .before .is-glue .ensures) ∙ c .if3 .taken) .1)
+returns-3 c = sym (glue-word _ (sym (c .before .is-glue .ensures) ∙ c .if3 .taken) .1)
 
 is-white-space-requires : tie.Need-is-white-space-requires
 is-white-space-requires c κs = search needs

@@ -4,7 +4,8 @@ use mathlib.Core.Bool.{not}
 use mathlib.Core.Path.{sym, ap, _∙_}
 use borrow.Author.Needs.{needs}
 use Rattle.meaning.specs.Characters.{inWord}
-use Rattle.parser.proofs.CharacterLaws.{soft-hyphen, zero-width, no-break, high-word}
+use Rattle.parser.specs.GlueLaws.{glue-word}
+use Rattle.parser.specs.CharacterLaws.{soft-hyphen, zero-width, high-word}
 use Rattle.parser.proofs.characters.in_word.Statement.{statement}
 use Rattle.parser.proofs.characters.in_word.Tie as tie
 
@@ -24,7 +25,7 @@ is-glue-requires : tie.Need-is-glue-requires
 is-glue-requires c κs = search needs
 
 returns-4 : tie.Need-returns-4
-returns-4 c = sym (no-break _ (sym (c .before .is-glue .ensures) ∙ c .if4 .taken) .0)
+returns-4 c = sym (glue-word _ (sym (c .before .is-glue .ensures) ∙ c .if4 .taken) .0)
 
 is-white-space-requires : tie.Need-is-white-space-requires
 is-white-space-requires c κs = search needs

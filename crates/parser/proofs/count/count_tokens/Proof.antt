@@ -8,7 +8,7 @@ use lib.ListN.{length}
 use borrow.Author.Needs.{needs}
 use Rattle.meaning.specs.Tokens.{tokens}
 use Rattle.parser.specs.Lexing.{charsFrom}
-use Rattle.parser.proofs.NextLaws.{Next, next, next-none}
+use Rattle.parser.specs.NextLaws.{Next, next, next-none}
 use Rattle.parser.proofs.count.count_tokens.Statement.{statement}
 use Rattle.parser.proofs.count.count_tokens.Tie as tie
 

@@ -9,9 +9,10 @@ use Rattle.unicode.specs.Decoding.{decodeAt}
 use Rattle.unicode.specs.declared.sequence.Decoded.the-variants.{Char}
 use Rattle.meaning.specs.Tokens.{tokens}
 use Rattle.parser.specs.Lexing.{charsFrom, lexedAt}
-use Rattle.parser.specs.Ascii.{Letter}
+use Rattle.parser.specs.Letters.{Letter}
 use Rattle.parser.specs.declared.lexeme.Lexed.the-variants.{Token}
-use Rattle.parser.proofs.ScanLaws.{glue-one, char-room}
+use Rattle.parser.specs.GlueLaws.{glue-one}
+use Rattle.parser.specs.ScanLaws.{char-room}
 use Rattle.parser.proofs.ShorterLaws.{Less, less-starts, less-more}
 use borrow.Author.Needs.{needs}
 use Rattle.parser.proofs.later.token_after.Statement.{statement}

@@ -3,8 +3,8 @@
 use mathlib.Core.Path.{sym, ap, _∙_}
 use borrow.Author.Needs.{needs}
 use Rattle.unicode.specs.Walk.{isChar, decode-at-bytes}
-use Rattle.parser.proofs.ScanLaws.{char-room}
-use Rattle.parser.proofs.LexerLaws.{lexed-char, lexed-none}
+use Rattle.parser.specs.ScanLaws.{char-room}
+use Rattle.parser.specs.LexerLaws.{lexed-char, lexed-none}
 use Rattle.parser.proofs.lexer.decoded_at.Statement.{statement}
 use Rattle.parser.proofs.lexer.decoded_at.Tie as tie
 

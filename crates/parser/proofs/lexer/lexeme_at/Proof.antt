@@ -7,8 +7,8 @@ use borrow.Author.Needs.{needs}
 use Rattle.meaning.specs.Characters.{inWord}
 use Rattle.parser.specs.Lexing.{charsFrom}
 use Rattle.parser.specs.Scanning.{glueOf, scanFrom, wordOf, blankOf}
-use Rattle.parser.proofs.ScanLaws.{glue-one}
-use Rattle.parser.proofs.LexerLaws.{new-line, carriage-return, tabulator, soft-hyphen, zero-width, Left, word-is, blank-is}
+use Rattle.parser.specs.GlueLaws.{glue-one}
+use Rattle.parser.specs.LexerLaws.{new-line, carriage-return, tabulator, soft-hyphen, zero-width, Left, word-is, blank-is}
 use Rattle.parser.proofs.lexer.lexeme_at.Statement.{statement}
 use Rattle.parser.proofs.lexer.lexeme_at.Tie as tie
 

@@ -8,11 +8,10 @@ use borrow.Author.Needs.{needs}
 use Rattle.unicode.specs.Walk.{decode-at-within}
 use Rattle.unicode.specs.Long.{Long}
 use Rattle.parser.specs.Scanning.{wordOf, blankOf}
-use Rattle.parser.specs.declared.lexeme.Lexeme.{Lexeme}
 use Rattle.parser.specs.declared.lexeme.Lexed.the-variants.{Token}
-use Rattle.parser.specs.declared.scan.Scanned.{Scanned}
 use Rattle.parser.specs.Ascii.{plain-inside, space-inside}
-use Rattle.parser.proofs.LexerLaws.{plain-lexed, space-lexed, long-lexed}
+use Rattle.parser.specs.LetterLaws.{letter-plain, letter-long}
+use Rattle.parser.specs.LexerLaws.{letter-lexed, space-lexed}
 use Rattle.parser.proofs.lexer.token_at.Statement.{statement}
 use Rattle.parser.proofs.lexer.token_at.Tie as tie
 
@@ -39,7 +38,7 @@ returns : tie.Need-returns
 returns c =
     let w = c .before in
     let i = w .before in
-    ap Token (c .word .ensures ∙ ap wordOf (w .scan-word .ensures)) ∙ plain-lexed _ _ (sym (i .before .plain-at .ensures) ∙ i .if1 .taken)
+    ap Token (c .word .ensures ∙ ap wordOf (w .scan-word .ensures)) ∙ letter-lexed _ _ _ (letter-plain _ _ (sym (i .before .plain-at .ensures) ∙ i .if1 .taken))
 
 space-at-requires : tie.Need-space-at-requires
 space-at-requires c κs = search needs
@@ -81,7 +80,7 @@ word-requires-2 c κs = search needs
 returns-3 : tie.Need-returns-3
 returns-3 c =
     let w = c .before in
-    ap Token (c .word2 .ensures ∙ ap wordOf (w .scan-word2 .ensures)) ∙ long-lexed _ _ _ (told (w .before))
+    ap Token (c .word2 .ensures ∙ ap wordOf (w .scan-word2 .ensures)) ∙ letter-lexed _ _ _ (letter-long _ _ _ (told (w .before)))
 
 decoded-at-requires : tie.Need-decoded-at-requires
 decoded-at-requires c κs = search needs

@@ -1,10 +1,10 @@
 -- `parser::pair::long_space_at` meets its contract.
 -- Assumes nothing.
-use mathlib.Core.Path.{_≡_, sym, _∙_}
+use mathlib.Core.Path.{sym, _∙_}
 use mathlib.Core.Bool.{false≢true}
 use native.Mathlib.Omega.{arith}
 use borrow.Author.Needs.{needs}
-use Rattle.parser.proofs.PairLaws.{blank-long}
+use Rattle.parser.specs.PairLaws.{blank-long}
 use Rattle.parser.proofs.pair.long_space_at.Statement.{statement}
 use Rattle.parser.proofs.pair.long_space_at.Tie as tie
 

@@ -4,9 +4,10 @@ use Prim.Native.Nat.{_+_, _≤_}
 use native.Mathlib.Omega.{arith}
 use lib.ListN.{length}
 use borrow.Author.Needs.{needs}
-use Rattle.parser.specs.Ascii.{Letter}
+use Rattle.parser.specs.Letters.{Letter}
 use Rattle.parser.specs.Pairs.{Blank}
-use Rattle.parser.proofs.PairLaws.{letter-within, pair-is}
+use Rattle.parser.specs.LetterLaws.{spells-room}
+use Rattle.parser.specs.PairLaws.{pair-is}
 use Rattle.parser.proofs.pair.pair_at.Statement.{statement}
 use Rattle.parser.proofs.pair.pair_at.Tie as tie
 
@@ -17,14 +18,14 @@ spaced c = c .before .space-len .ensures (omega (arith, c .if1 .left))
 lettered : (c : tie.Else2) →
     let e = c .before .before in
     let s = e .before .before .before in
-    Letter (s .args .text .now) (s .args .at + e .before .space-len .result) (c .before .first-len .result)
-lettered c = c .before .first-len .ensures (omega (arith, c .if2 .left))
+    Letter (s .args .text .now) (s .args .at + e .before .space-len .result) (c .before .letter-len .result)
+lettered c = c .before .letter-len .ensures (omega (arith, c .if2 .left))
 
 within : (c : tie.Else2) →
     let e = c .before .before in
     let s = e .before .before .before in
-    s .args .at + e .before .space-len .result + c .before .first-len .result ≤ length (s .args .text .now)
-within c = letter-within _ _ _ _ (lettered c)
+    s .args .at + e .before .space-len .result + c .before .letter-len .result ≤ length (s .args .text .now)
+within c = spells-room _ _ _ 0 (lettered c) .2
 
 space-len-requires : tie.Need-space-len-requires
 space-len-requires c κs = search needs
@@ -38,8 +39,8 @@ returns c = λ h. absurd (omega (arith, c .no-pair .ensures))
 add-from : tie.Need-add-from
 add-from c = omega (arith, spaced c .inside)
 
-first-len-requires : tie.Need-first-len-requires
-first-len-requires c κs = search needs
+letter-len-requires : tie.Need-letter-len-requires
+letter-len-requires c κs = search needs
 
 no-pair-requires-2 : tie.Need-no-pair-requires-2
 no-pair-requires-2 c κs = search needs
@@ -70,7 +71,7 @@ pair-at-spec =
     no-pair-requires
     returns
     add-from
-    first-len-requires
+    letter-len-requires
     no-pair-requires-2
     returns-2
     add-next

@@ -3,7 +3,7 @@
 use mathlib.Core.Path.{sym, _∙_}
 use native.Mathlib.Omega.{arith}
 use borrow.Author.Needs.{needs}
-use Rattle.parser.proofs.PairLaws.{blank-space}
+use Rattle.parser.specs.PairLaws.{blank-space}
 use Rattle.parser.proofs.pair.space_len.Statement.{statement}
 use Rattle.parser.proofs.pair.space_len.Tie as tie
 

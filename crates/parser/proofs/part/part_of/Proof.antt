@@ -9,8 +9,9 @@ use borrow.Author.Needs.{needs}
 use Rattle.unicode.specs.Decoding.{decodeAt}
 use Rattle.unicode.specs.Walk.{isChar}
 use Rattle.unicode.specs.declared.sequence.Decoded.the-variants.{Char}
-use Rattle.parser.specs.Ascii.{Letter}
-use Rattle.parser.proofs.ScanLaws.{glue-one, char-room}
+use Rattle.parser.specs.Letters.{Letter}
+use Rattle.parser.specs.GlueLaws.{glue-one}
+use Rattle.parser.specs.ScanLaws.{char-room}
 use Rattle.parser.proofs.PartLaws.{sizeTo, gluesTo, to-more, to-none, to-zero, part-is}
 use Rattle.parser.proofs.part.part_of.Statement.{statement}
 use Rattle.parser.proofs.part.part_of.Tie as tie

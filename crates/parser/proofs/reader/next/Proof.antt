@@ -1,3 +1,5 @@
+-- `parser::reader::next` meets its contract.
+-- Assumes nothing.
 -- `reader::next` meets its contract: a walk of its MIR, by hand. The borrow is opened, the reader's text and offset go to `token_at`,
 -- what that finds goes to `end_of`, the offset that it answers is stored, and the borrow is closed at the reader that stands there.
 -- All that the proof knows of `token_at` and `end_of` is that each meets its contract. What a reader owns can be had twice: one copy

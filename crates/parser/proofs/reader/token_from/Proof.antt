@@ -1,3 +1,5 @@
+-- `parser::reader::token_from` meets its contract.
+-- Assumes nothing.
 -- `reader::token_from` meets its contract: a walk of its MIR, by hand. A reader is made in a local, the local is lent to `next` for a
 -- lifetime that is made for the call and lies within the text's, and comes back once that lifetime has ended.
 -- All that the proof knows of `next` is that it meets its contract. In a local MIR erases the lifetime of the struct's type: `erased`.

@@ -14,9 +14,8 @@ use Rattle.unicode.specs.declared.sequence.Decoded.the-variants.{Char}
 use Rattle.meaning.specs.Characters.{inRun}
 use Rattle.parser.specs.Lexing.{charsFrom}
 use Rattle.parser.specs.Scanning.{spaceOf, scanFrom}
-use Rattle.parser.proofs.ScanLaws.{scan-more, scan-stop, scan-end, space-one, char-room}
-use Rattle.parser.specs.Ascii.{plain-char}
-use Rattle.parser.proofs.AsciiLaws.{plain-run, black-run}
+use Rattle.parser.specs.ScanLaws.{scan-more, scan-stop, scan-end, space-one, char-room}
+use Rattle.parser.specs.LetterLaws.{letter-plain, letter-long, run-stops}
 use Rattle.parser.proofs.scan.scan_run.Statement.{statement}
 use Rattle.parser.proofs.scan.scan_run.Tie as tie
 
@@ -34,8 +33,8 @@ loop-holds c = (refl, search needs, search needs, search needs)
 plain-at-requires : tie.Need-plain-at-requires Inv-loop μ-loop
 plain-at-requires c κs = search needs
 
-ended-requires : tie.Need-ended-requires Inv-loop μ-loop
-ended-requires c κs = search needs
+scanned-at-requires : tie.Need-scanned-at-requires Inv-loop μ-loop
+scanned-at-requires c κs = search needs
 
 -- A byte of a word ends the run.
 returns : tie.Need-returns Inv-loop μ-loop
@@ -43,8 +42,8 @@ returns c =
     let p = c .before .before in
     let l = p .before .loop in
     let t = p .before .before .before .args .text .now in
-    let h = plain-char t (l .at) (sym (p .plain-at .ensures) ∙ c .before .if1 .taken) in
-    c .ended .ensures ∙ sym (scan-stop inRun spaceOf t _ _ _ _ _ (h .1) (plain-run _ (h .0))) ∙ l .inv .0
+    let h = letter-plain t (l .at) (sym (p .plain-at .ensures) ∙ c .before .if1 .taken) in
+    c .scanned-at .ensures ∙ sym (run-stops t (l .at) 1 0 h _ _) ∙ l .inv .0
 
 long-len-requires : tie.Need-long-len-requires Inv-loop μ-loop
 long-len-requires c κs = search needs
@@ -56,18 +55,17 @@ told c = c .before .long-len .ensures (omega arith)
 told-room : (c : tie.Then2 Inv-loop μ-loop) → c .before .long-len .result ≤ 4
 told-room c = let w = told c in char-room _ _ (w .char) _ (w .is) .1
 
-cast-ended : tie.Need-cast-ended Inv-loop μ-loop
-cast-ended c = omega (arith, told-room c)
+cast-scanned-at : tie.Need-cast-scanned-at Inv-loop μ-loop
+cast-scanned-at c = omega (arith, told-room c)
 
-ended-requires-2 : tie.Need-ended-requires-2 Inv-loop μ-loop
-ended-requires-2 c κs = omega (arith, told-room c)
+scanned-at-requires-2 : tie.Need-scanned-at-requires-2 Inv-loop μ-loop
+scanned-at-requires-2 c κs = omega (arith, told-room c)
 
 -- It ends the run.
 returns-2 : tie.Need-returns-2 Inv-loop μ-loop
 returns-2 c =
-    let w = told (c .before) in
     let l = c .before .before .before .before .before .loop in
-    c .ended2 .ensures ∙ sym (scan-stop inRun spaceOf _ _ _ _ (w .char) _ (w .is) (black-run (w .char) (w .black))) ∙ l .inv .0
+    c .scanned-at2 .ensures ∙ sym (run-stops _ _ _ 0 (letter-long _ _ _ (told (c .before))) _ _) ∙ l .inv .0
 
 decode-requires : tie.Need-decode-requires Inv-loop μ-loop
 decode-requires c κs = search needs
@@ -100,15 +98,15 @@ read c = sym (c .before .before .before .decode .ensures) ∙ c .before .cp .giv
 room : (c : Read) → (1 ≤ N c) × (N c ≤ 4) × (I c + N c ≤ length (T c))
 room c = char-room (T c) (I c) (C c) (N c) (read c)
 
-ended-requires-3 : tie.Need-ended-requires-3 Inv-loop μ-loop
-ended-requires-3 c κs = omega (arith, room (c .before .before))
+scanned-at-requires-3 : tie.Need-scanned-at-requires-3 Inv-loop μ-loop
+scanned-at-requires-3 c κs = omega (arith, room (c .before .before))
 
 returns-3 : tie.Need-returns-3 Inv-loop μ-loop
 returns-3 c =
     let i = c .before .before in
     let r = i .before in
     let l = r .before .before .before .before .before .before .before .before .loop in
-    c .ended3 .ensures
+    c .scanned-at3 .ensures
     ∙ sym (scan-stop inRun spaceOf (T r) _ _ _ _ _ (read r) (sym (i .in-run .ensures) ∙ not-true _ (c .before .if3 .taken)))
     ∙ l .inv .0
 
@@ -147,28 +145,28 @@ loop-again c =
 enum-told : tie.Need-enum-told Inv-loop μ-loop
 enum-told c = search needs
 
-ended-requires-4 : tie.Need-ended-requires-4 Inv-loop μ-loop
-ended-requires-4 c κs = search needs
+scanned-at-requires-4 : tie.Need-scanned-at-requires-4 Inv-loop μ-loop
+scanned-at-requires-4 c κs = search needs
 
 returns-4 : tie.Need-returns-4 Inv-loop μ-loop
 returns-4 c =
     let d = c .before .before .before in
     let l = d .before .before .before .before .before .loop in
-    c .ended4 .ensures
+    c .scanned-at4 .ensures
     ∙ sym (scan-end inRun spaceOf _ _ _ _ (ap isChar (sym (d .decode .ensures) ∙ c .before .enum-told .given .1)))
     ∙ l .inv .0
 
 enum-told-2 : tie.Need-enum-told-2 Inv-loop μ-loop
 enum-told-2 c = search needs
 
-ended-requires-5 : tie.Need-ended-requires-5 Inv-loop μ-loop
-ended-requires-5 c κs = search needs
+scanned-at-requires-5 : tie.Need-scanned-at-requires-5 Inv-loop μ-loop
+scanned-at-requires-5 c κs = search needs
 
 returns-5 : tie.Need-returns-5 Inv-loop μ-loop
 returns-5 c =
     let d = c .before .before .before in
     let l = d .before .before .before .before .before .loop in
-    c .ended5 .ensures
+    c .scanned-at5 .ensures
     ∙ sym (scan-end inRun spaceOf _ _ _ _ (ap isChar (sym (d .decode .ensures) ∙ c .before .enum-told2 .given .1)))
     ∙ l .inv .0
 
@@ -180,16 +178,16 @@ scan-run-spec =
     μ-loop
     loop-holds
     plain-at-requires
-    ended-requires
+    scanned-at-requires
     returns
     long-len-requires
-    cast-ended
-    ended-requires-2
+    cast-scanned-at
+    scanned-at-requires-2
     returns-2
     decode-requires
     enum-known-cp
     in-run-requires
-    ended-requires-3
+    scanned-at-requires-3
     returns-3
     space-of-requires
     add-weight
@@ -199,8 +197,8 @@ scan-run-spec =
     loop-less
     loop-again
     enum-told
-    ended-requires-4
+    scanned-at-requires-4
     returns-4
     enum-told-2
-    ended-requires-5
+    scanned-at-requires-5
     returns-5)

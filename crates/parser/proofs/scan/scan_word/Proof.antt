@@ -13,8 +13,10 @@ use Rattle.unicode.specs.declared.sequence.Decoded.the-variants.{Char}
 use Rattle.meaning.specs.Characters.{inWord}
 use Rattle.parser.specs.Lexing.{charsFrom}
 use Rattle.parser.specs.Scanning.{glueOf, scanFrom}
-use Rattle.parser.specs.Ascii.{Glues}
-use Rattle.parser.proofs.ScanLaws.{scan-more, scan-stop, scan-end, glue-one, char-room}
+use Rattle.parser.specs.Letters.{Glues}
+use Rattle.parser.specs.GlueLaws.{glue-one}
+use Rattle.parser.specs.ScanLaws.{scan-more, scan-stop, scan-end, char-room}
+use Rattle.parser.specs.LetterLaws.{spells-room, ends-ender}
 use Rattle.parser.proofs.scan.scan_word.Statement.{statement}
 use Rattle.parser.proofs.scan.scan_word.Tie as tie
 
@@ -29,10 +31,10 @@ abbrev μ-loop : tie.MeasureT-loop
 loop-holds : tie.Need-loop-holds Inv-loop μ-loop
 loop-holds c = (refl, search needs, search needs, search needs)
 
-pass-letters-requires : tie.Need-pass-letters-requires Inv-loop μ-loop
-pass-letters-requires c κs = search needs
+skip-letters-requires : tie.Need-skip-letters-requires Inv-loop μ-loop
+skip-letters-requires c κs = search needs
 
--- In a turn, behind the letters that it passes: the text, where they end, how many characters there were, and what they weigh.
+-- In a turn, behind the letters that it skips: the text, where they end, how many characters there were, and what they weigh.
 abbrev Behind : Type 0
 Behind = tie.After-struct-known Inv-loop μ-loop
 
@@ -40,10 +42,10 @@ abbrev T : Behind → List ℕ
 T c = c .before .before .before .before .args .text .now
 
 abbrev E : Behind → ℕ
-E c = c .before .pass-letters .result .end
+E c = c .before .skip-letters .result .end
 
 abbrev M : Behind → ℕ
-M c = c .before .before .loop .chars + c .before .pass-letters .result .chars
+M c = c .before .before .loop .chars + c .before .skip-letters .result .chars
 
 abbrev W : Behind → ℕ
 W c = c .before .before .loop .weight
@@ -51,33 +53,40 @@ W c = c .before .before .loop .weight
 -- What is left of the scan there gives the whole, and the bounds of the numbers.
 left : (c : Behind)
     → let a = c .before .before .before .before .args in scanFrom inWord glueOf (E c) (M c) (W c) (charsFrom (T c) (E c)) ≡ scanFrom inWord glueOf (a .from) 1 (a .first) (charsFrom (T c) (a .from))
-left c = sym (c .before .pass-letters .ensures .scans (c .before .before .loop .chars) (W c)) ∙ c .before .before .loop .inv .0
+left c =
+    let w : W c ≡ W c + 0 = omega arith in
+    ap (λ (k : ℕ). scanFrom inWord glueOf (E c) (M c) k (charsFrom (T c) (E c))) w
+    ∙ sym (c .before .skip-letters .ensures .scans (c .before .before .loop .chars) (W c)) ∙ c .before .before .loop .inv .0
 
 bounds : (c : Behind) → (c .before .before .loop .at ≤ E c) × (E c ≤ length (T c)) × (M c ≤ E c + 1) × (W c ≤ E c + 1)
-bounds c = let p = c .before .pass-letters .ensures in omega (arith, p .forward, p .inside, c .before .before .loop .inv)
+bounds c = let p = c .before .skip-letters .ensures in omega (arith, p .forward, p .inside, c .before .before .loop .inv)
 
-add-passed : tie.Need-add-passed Inv-loop μ-loop
-add-passed c = omega (arith, bounds c)
+add-skipped : tie.Need-add-skipped Inv-loop μ-loop
+add-skipped c = omega (arith, bounds c)
 
 ends-at-requires : tie.Need-ends-at-requires Inv-loop μ-loop
 ends-at-requires c κs = search needs
 
-ended-requires : tie.Need-ended-requires Inv-loop μ-loop
-ended-requires c κs = omega (arith, bounds (c .before .before))
+scanned-at-requires : tie.Need-scanned-at-requires Inv-loop μ-loop
+scanned-at-requires c κs = omega (arith, bounds (c .before .before))
 
 -- What words mostly end with.
 returns : tie.Need-returns Inv-loop μ-loop
 returns c =
     let e = c .before .before in
     let b = e .before in
-    c .ended .ensures ∙ sym (e .ends-at .ensures (c .before .if1 .taken) .scans (M b) (W b)) ∙ left b
+    c .scanned-at .ensures ∙ sym (ends-ender _ _ (sym (e .ends-at .ensures) ∙ c .before .if1 .taken) .scans (M b) (W b)) ∙ left b
 
-glue-at-requires : tie.Need-glue-at-requires Inv-loop μ-loop
-glue-at-requires c κs = search needs
+glue-len-requires : tie.Need-glue-len-requires Inv-loop μ-loop
+glue-len-requires c κs = search needs
 
 -- What glues, told by its bytes.
-glues : (c : tie.Then2 Inv-loop μ-loop) → let b = c .before .before .before .before in Glues (T b) (E b)
-glues c = c .before .glue-at .ensures (c .if2 .taken)
+glues : (c : tie.Then2 Inv-loop μ-loop) → let b = c .before .before .before .before in Glues (T b) (E b) (c .before .glue-len .result)
+glues c = c .before .glue-len .ensures (c .if2 .taken)
+
+glue-room : (c : tie.Then2 Inv-loop μ-loop)
+    → let b = c .before .before .before .before in let n = c .before .glue-len .result in (1 ≤ n) × (n ≤ 4) × (E b + n ≤ length (T b))
+glue-room c = spells-room _ _ _ 1 (glues c)
 
 add-weight : tie.Need-add-weight Inv-loop μ-loop
 add-weight c = omega (arith, bounds (c .before .before .before .before))
@@ -86,17 +95,25 @@ add-chars : tie.Need-add-chars Inv-loop μ-loop
 add-chars c = omega (arith, bounds (c .before .before .before .before))
 
 add-at : tie.Need-add-at Inv-loop μ-loop
-add-at c = omega (arith, glues c .inside)
+add-at c = omega (arith, glue-room c)
 
 loop-less : tie.Need-loop-less Inv-loop μ-loop
-loop-less c = omega (arith, glues c .inside, bounds (c .before .before .before .before))
+loop-less c = omega (arith, glue-room c, bounds (c .before .before .before .before))
 
 loop-again : tie.Need-loop-again Inv-loop μ-loop
 loop-again c =
     let b = c .before .before .before .before in
     let g = glues c in
+    let n = c .before .glue-len .result in
     let k = bounds b in
-    (sym (g .scans (M b) (W b)) ∙ left b, g .inside, omega arith, omega arith)
+    let r = glue-room c in (
+      ap (λ (w : ℕ). scanFrom inWord glueOf (E b + n) (M b + 1) (W b + w) (charsFrom (T b) (E b + n))) (sym (g .glue))
+          ∙ sym (scan-more inWord glueOf (T b) _ _ _ _ _ (g .is) (g .word))
+          ∙ left b,
+      r .2,
+      omega arith,
+      omega arith,
+    )
 
 decode-requires : tie.Need-decode-requires Inv-loop μ-loop
 decode-requires c κs = search needs
@@ -126,14 +143,14 @@ read c = sym (c .before .before .before .decode .ensures) ∙ c .before .cp .giv
 room : (c : Read) → (1 ≤ N c) × (N c ≤ 4) × (E (B c) + N c ≤ length (T (B c)))
 room c = char-room (T (B c)) (E (B c)) (C c) (N c) (read c)
 
-ended-requires-2 : tie.Need-ended-requires-2 Inv-loop μ-loop
-ended-requires-2 c κs = omega (arith, room (c .before .before))
+scanned-at-requires-2 : tie.Need-scanned-at-requires-2 Inv-loop μ-loop
+scanned-at-requires-2 c κs = omega (arith, room (c .before .before))
 
 returns-2 : tie.Need-returns-2 Inv-loop μ-loop
 returns-2 c =
     let i = c .before .before in
     let r = i .before in
-    c .ended2 .ensures
+    c .scanned-at2 .ensures
     ∙ sym (scan-stop inWord glueOf (T (B r)) _ _ _ _ _ (read r) (sym (i .in-word .ensures) ∙ not-true _ (c .before .if3 .taken)))
     ∙ left (B r)
 
@@ -180,26 +197,26 @@ loop-again-2 c =
 enum-told : tie.Need-enum-told Inv-loop μ-loop
 enum-told c = search needs
 
-ended-requires-3 : tie.Need-ended-requires-3 Inv-loop μ-loop
-ended-requires-3 c κs = omega (arith, bounds (c .before .before .before .before .before .before .before))
+scanned-at-requires-3 : tie.Need-scanned-at-requires-3 Inv-loop μ-loop
+scanned-at-requires-3 c κs = omega (arith, bounds (c .before .before .before .before .before .before .before))
 
 returns-3 : tie.Need-returns-3 Inv-loop μ-loop
 returns-3 c =
     let d = c .before .before .before in
-    c .ended3 .ensures
+    c .scanned-at3 .ensures
     ∙ sym (scan-end inWord glueOf _ _ _ _ (ap isChar (sym (d .decode .ensures) ∙ c .before .enum-told .given .1)))
     ∙ left (d .before .before .before .before .before)
 
 enum-told-2 : tie.Need-enum-told-2 Inv-loop μ-loop
 enum-told-2 c = search needs
 
-ended-requires-4 : tie.Need-ended-requires-4 Inv-loop μ-loop
-ended-requires-4 c κs = omega (arith, bounds (c .before .before .before .before .before .before .before))
+scanned-at-requires-4 : tie.Need-scanned-at-requires-4 Inv-loop μ-loop
+scanned-at-requires-4 c κs = omega (arith, bounds (c .before .before .before .before .before .before .before))
 
 returns-4 : tie.Need-returns-4 Inv-loop μ-loop
 returns-4 c =
     let d = c .before .before .before in
-    c .ended4 .ensures
+    c .scanned-at4 .ensures
     ∙ sym (scan-end inWord glueOf _ _ _ _ (ap isChar (sym (d .decode .ensures) ∙ c .before .enum-told2 .given .1)))
     ∙ left (d .before .before .before .before .before)
 
@@ -210,12 +227,12 @@ scan-word-spec =
     Inv-loop
     μ-loop
     loop-holds
-    pass-letters-requires
-    add-passed
+    skip-letters-requires
+    add-skipped
     ends-at-requires
-    ended-requires
+    scanned-at-requires
     returns
-    glue-at-requires
+    glue-len-requires
     add-weight
     add-chars
     add-at
@@ -224,7 +241,7 @@ scan-word-spec =
     decode-requires
     enum-known-cp
     in-word-requires
-    ended-requires-2
+    scanned-at-requires-2
     returns-2
     glue-of-requires
     add-weight-2
@@ -234,8 +251,8 @@ scan-word-spec =
     loop-less-2
     loop-again-2
     enum-told
-    ended-requires-3
+    scanned-at-requires-3
     returns-3
     enum-told-2
-    ended-requires-4
+    scanned-at-requires-4
     returns-4)

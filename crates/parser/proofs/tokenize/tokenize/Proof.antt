@@ -2,7 +2,8 @@
 -- Assumes nothing.
 use mathlib.Core.Path.{sym, _∙_}
 use borrow.Author.Needs.{needs}
-use Rattle.parser.proofs.TokenizeLaws.{good-length, text-good, text-refused}
+use Rattle.parser.specs.GoodText.{good-length}
+use Rattle.parser.proofs.TokenizeLaws.{text-good, text-refused}
 use Rattle.parser.proofs.tokenize.tokenize.Statement.{statement}
 use Rattle.parser.proofs.tokenize.tokenize.Tie as tie
 

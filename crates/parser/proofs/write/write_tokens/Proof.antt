@@ -11,7 +11,7 @@ use borrow.Author.Needs.{needs}
 use Rattle.meaning.specs.Tokens.{tokens}
 use Rattle.parser.specs.Lexing.{charsFrom}
 use Rattle.parser.specs.Writing.{numbersFrom}
-use Rattle.parser.proofs.NextLaws.{Next, next, next-none}
+use Rattle.parser.specs.NextLaws.{Next, next, next-none}
 use Rattle.parser.proofs.WriteLaws.{sets-more, sets-none}
 use Rattle.parser.proofs.write.write_tokens.Statement.{statement}
 use Rattle.parser.proofs.write.write_tokens.Tie as tie

@@ -1,8 +1,10 @@
 -- `steps::first::first_token` meets its contract.
 -- Assumes nothing.
-use mathlib.Core.Path.{_∙_}
-use Rattle.steps.proofs.RestLaws.{none-read}
+use mathlib.Core.Path.{ap, _∙_}
+use native.Mathlib.Omega.{arith}
 use borrow.Author.Needs.{needs}
+use Rattle.parser.specs.declared.lexeme.Lexed.the-variants as lexed
+use Rattle.steps.proofs.RestLaws.{rest-inside, rest-read, ender-at-most, none-read}
 use Rattle.steps.proofs.first.first_token.Statement.{statement}
 use Rattle.steps.proofs.first.first_token.Tie as tie
 
@@ -14,11 +16,26 @@ returns c =
     let a = c .before .before .before .before .args in
     c .known-token .ensures ∙ none-read _ (a .at) (a .rest) (c .before .if1 .taken)
 
-pending-requires : tie.Need-pending-requires
-pending-requires c κs = search needs
+cast-ender-at : tie.Need-cast-ender-at
+cast-ender-at c = search needs
+
+ender-at-requires : tie.Need-ender-at-requires
+ender-at-requires c κs = search needs
+
+rest-lexeme-requires : tie.Need-rest-lexeme-requires
+rest-lexeme-requires c κs =
+    let e = c .before .before in
+    let s = e .before .before .before in
+    (omega (arith, rest-inside _ (s .args .at) (s .args .rest) (s .pre .1) (e .if1 .left), s .pre .0), ender-at-most _ (s .args .rest .end .0) _ (c .ender-at .ensures))
 
 returns-2 : tie.Need-returns-2
-returns-2 c = search needs
+returns-2 c =
+    let n = c .before in
+    let e = n .before .before in
+    let s = e .before .before .before in
+    ap lexed.Token (c .rest-lexeme .ensures) ∙ rest-read _ (s .args .at) (s .args .rest) (s .pre .1) (e .if1 .left) _ (n .ender-at .ensures)
 
 pub first-token-spec : {M : Type 1} → statement M
-first-token-spec = tie.close (tie.spec known-token-requires returns pending-requires returns-2)
+first-token-spec =
+    tie.close
+    (tie.spec known-token-requires returns cast-ender-at ender-at-requires rest-lexeme-requires returns-2)

@@ -1,6 +1,5 @@
 -- `steps::first::known_token` meets its contract.
 -- Assumes nothing.
-use mathlib.Core.Path.{sym, _∙_}
 use borrow.Author.Needs.{needs}
 use Rattle.steps.proofs.first.known_token.Statement.{statement}
 use Rattle.steps.proofs.first.known_token.Tie as tie

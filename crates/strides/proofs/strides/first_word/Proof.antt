@@ -4,7 +4,7 @@ use Prim.Native.Nat.{_-_, _*_, _/_, _≤_}
 use native.Mathlib.Omega.{arith}
 use borrow.Author.Needs.{needs}
 use Rattle.meaning.specs.Cursor.{fitsIn}
-use Rattle.strides.specs.PlainWords.{PlainWord}
+use Rattle.parser.specs.PlainWords.{PlainWord}
 use Rattle.strides.specs.OnwardLaws.{onward-none}
 use Rattle.strides.specs.StrideLaws.{most-small, most-fits, plain-goes}
 use Rattle.strides.specs.GoesLaws.{goes-to}

@@ -6,7 +6,7 @@ use borrow.Author.Needs.{needs}
 use Rattle.laws.specs.Measuring.{printedAt}
 use Rattle.steps.specs.FineLaws.{times-bound}
 use Rattle.steps.specs.Unrolled.{nothingResumed}
-use Rattle.strides.specs.PlainWords.{Stride}
+use Rattle.parser.specs.PlainWords.{Stride}
 use Rattle.strides.specs.Strides.{strodePlace, Onward}
 use Rattle.strides.specs.OnwardLaws.{onward-on}
 use Rattle.strides.specs.StrideLaws.{stride-goes}

@@ -1,0 +1,41 @@
+// Which characters glue, by their numbers and by their bytes: said here alone.
+// A character that `is_glue` knows and `glue_len` does not tell is decoded, and glues too: telling it by its bytes is only faster.
+// What glues is no space: `is_long_space` of pair.rt must not tell it.
+ghost use mathlib.Core.Path.{_≡_};
+ghost use Prim.Native.Nat.{_<_};
+ghost use Rattle.meaning.specs.Characters.{glue};
+ghost use Rattle.parser.specs.Scanning.{glueOf};
+ghost use Rattle.parser.specs.Letters.{Glues};
+
+// Does a character hold a word together.
+pub fn is_glue(c: u32) -> bool
+    ensures { λ r. ⌜ r ≡ glue c ⌝ }
+{
+    c == 0x00A0
+}
+
+// How many of one character glue.
+pub fn glue_of(c: u32) -> u32
+    ensures { λ r. ⌜ r ≡ glueOf c ⌝ }
+{
+    if is_glue(c) { 1 } else { 0 }
+}
+
+// How many bytes the gluing character has that stands at a position, where it is told so. 0: none is told.
+pub fn glue_len(text: &[u8], at: usize) -> usize
+    ensures { λ r. ⌜ (0 < r → Glues (now (text .entry)) at r) ⌝ }
+{
+    if text.len() <= at {
+        return 0;
+    }
+    if text[at] != 0xC2 {
+        return 0;
+    }
+    if text.len() - at < 2 {
+        return 0;
+    }
+    if text[at + 1] != 0xA0 {
+        return 0;
+    }
+    2
+}
