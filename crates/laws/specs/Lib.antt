@@ -6,6 +6,7 @@ pub mod Cuts
 pub mod Demand3
 pub mod Demand3Calls
 pub mod EditChecks
+pub mod EditSettings
 pub mod Fuel
 pub mod GoodChecks
 pub mod GoodLines
@@ -27,6 +28,7 @@ pub mod Relaid
 pub mod Rests
 pub mod RowInduction
 pub mod Runs
+pub mod SameLines
 pub mod Shift
 pub mod Spell
 pub mod Stands
