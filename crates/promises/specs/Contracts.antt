@@ -1,0 +1,67 @@
+-- Contracts with the arguments of the call, its result and what it leaves behind by name. A primed name is what is left of the number
+-- that is lent.
+-- Assumes nothing.
+use Prim.Native.Nat.{ℕ}
+use mathlib.Core.List.{List}
+use lib.IntN.{ℤ}
+use contract.Lifetimes.{Lfts}
+use Rattle.meaning.specs.declared.settings.Settings.{Settings}
+use Rattle.meaning.specs.declared.edit.Edit.{Edit}
+use Rattle.meaning.specs.declared.answers.Tokenized.{Tokenized}
+use Rattle.meaning.specs.declared.answers.Laid.{Laid}
+use Rattle.meaning.specs.declared.answers.LaidWithEvents.{LaidWithEvents}
+use Rattle.meaning.specs.declared.answers.Affected.{Affected}
+use Rattle.meaning.specs.declared.answers.Relaid.{Relaid}
+use Rattle.promises.specs.Call.{Meets}
+use Rattle.promises.specs.InsideCalls.{tokenize, layout, layout-with-events, first-affected, lay-again}
+use Rattle.promises.specs.ForCCalls.{c-tokens, c-layout, c-layout-events, c-first-affected, c-lay-again, c-line-y}
+use Rattle.promises.specs.Passed.{Lent, LentNumber, LentSigned, passed, passedEdit, noneLeft, noEditLeft}
+
+-- ---- the calls in Rattle
+
+abbrev pub Tokenize : (κs : Lfts 2) (text buffer : Lent) → Tokenized → (after : List ℕ) → Type 0
+Tokenize κs text buffer z after = Meets tokenize κs (text, (buffer, tt)) z (tt, (after, tt))
+
+abbrev pub Layout : (κs : Lfts 2) → Settings → (text table : Lent) → Laid → (after : List ℕ) → Type 0
+Layout κs s text table z after = Meets layout κs (s, (text, (table, tt))) z (tt, (tt, (after, tt)))
+
+abbrev pub LayoutWithEvents : (κs : Lfts 3) → Settings → (text table events : Lent) → LaidWithEvents → (after drawn : List ℕ) → Type 0
+LayoutWithEvents κs s text table events z after drawn =
+    Meets layout-with-events κs (s, (text, (table, (events, tt)))) z (tt, (tt, (after, (drawn, tt))))
+
+abbrev pub FirstAffected : (κs : Lfts 1) → (table : Lent) → (lines : ℕ) → Edit → Affected → Type 0
+FirstAffected κs table lines ed z = Meets first-affected κs (table, (lines, (ed, tt))) z (tt, (tt, (tt, tt)))
+
+abbrev pub LayAgain : (κs : Lfts 2) → Settings → (part table : Lent) → (lines : ℕ) → Edit → Relaid → (after : List ℕ) → Type 0
+LayAgain κs s part table lines ed z after =
+    Meets lay-again κs (s, (part, (table, (lines, (ed, tt))))) z (tt, (tt, (after, (tt, (tt, tt)))))
+
+-- ---- the calls for C
+
+abbrev pub CTokens : (κs : Lfts 3) (text tokens : Lent) (value : LentNumber) (z : ℕ) (after : List ℕ) (value′ : ℕ) → Type 0
+CTokens κs text tokens value z after value′ = Meets c-tokens κs (text, (tokens, (value, tt))) z (tt, (after, (value′, tt)))
+
+abbrev pub CLayout : (κs : Lfts 3) → Settings → (text table : Lent) (value : LentNumber) (z : ℕ) (after : List ℕ) (value′ : ℕ) → Type 0
+CLayout κs s text table value z after value′ =
+    Meets c-layout κs (passed s (text, (table, (value, tt)))) z (noneLeft (tt, (after, (value′, tt))))
+
+abbrev pub CLayoutEvents : (κs : Lfts 5) → Settings → (text table events : Lent) (value count : LentNumber) (z : ℕ) (after drawn : List ℕ)
+    (value′ count′ : ℕ) → Type 0
+CLayoutEvents κs s text table events value count z after drawn value′ count′ =
+    Meets c-layout-events κs (passed s (text, (table, (events, (value, (count, tt)))))) z
+    (noneLeft (tt, (after, (drawn, (value′, (count′, tt))))))
+
+abbrev pub CFirstAffected : (κs : Lfts 2) → (table : Lent) → (lines : ℕ) → Edit → (value : LentNumber) (z value′ : ℕ) → Type 0
+CFirstAffected κs table lines ed value z value′ =
+    Meets c-first-affected κs (table, (lines, passedEdit ed (value, tt))) z (tt, (tt, noEditLeft (value′, tt)))
+
+abbrev pub CLayAgain : (κs : Lfts 4) → Settings → (part table : Lent) → (lines : ℕ) → Edit → (value laid : LentNumber) (z : ℕ)
+    (after : List ℕ) (value′ laid′ : ℕ) → Type 0
+CLayAgain κs s part table lines ed value laid z after value′ laid′ =
+    Meets c-lay-again κs (passed s (part, (table, (lines, passedEdit ed (value, (laid, tt)))))) z
+    (noneLeft (tt, (after, (tt, noEditLeft (value′, (laid′, tt))))))
+
+abbrev pub CLineY : (κs : Lfts 3) → Settings → (table : Lent) (lines line : ℕ) (value : LentNumber) (y : LentSigned) (z value′ : ℕ)
+    (y′ : ℤ) → Type 0
+CLineY κs s table lines line value y z value′ y′ =
+    Meets c-line-y κs (passed s (table, (lines, (line, (value, (y, tt)))))) z (noneLeft (tt, (tt, (tt, (value′, (y′, tt))))))

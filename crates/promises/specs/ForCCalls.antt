@@ -1,0 +1,57 @@
+-- The public calls for C, each with its own contract.
+-- Assumes nothing.
+use Rattle.promises.specs.Call.{Call, callOf}
+use Rattle.bisquemop.proofs.bisquemop_check_settings.Kinds as c-check-settings-kinds
+use Rattle.bisquemop.proofs.bisquemop_check_settings.Reads as c-check-settings-reads
+use Rattle.bisquemop.proofs.bisquemop_check_text.Kinds as c-check-text-kinds
+use Rattle.bisquemop.proofs.bisquemop_check_text.Reads as c-check-text-reads
+use Rattle.bisquemop.proofs.bisquemop_tokens.Kinds as c-tokens-kinds
+use Rattle.bisquemop.proofs.bisquemop_tokens.Reads as c-tokens-reads
+use Rattle.bisquemop.proofs.bisquemop_layout.Kinds as c-layout-kinds
+use Rattle.bisquemop.proofs.bisquemop_layout.Reads as c-layout-reads
+use Rattle.bisquemop.proofs.bisquemop_layout_events.Kinds as c-layout-events-kinds
+use Rattle.bisquemop.proofs.bisquemop_layout_events.Reads as c-layout-events-reads
+use Rattle.bisquemop.proofs.bisquemop_first_affected.Kinds as c-first-affected-kinds
+use Rattle.bisquemop.proofs.bisquemop_first_affected.Reads as c-first-affected-reads
+use Rattle.bisquemop.proofs.bisquemop_lay_again.Kinds as c-lay-again-kinds
+use Rattle.bisquemop.proofs.bisquemop_lay_again.Reads as c-lay-again-reads
+use Rattle.bisquemop.proofs.bisquemop_height.Kinds as c-height-kinds
+use Rattle.bisquemop.proofs.bisquemop_height.Reads as c-height-reads
+use Rattle.bisquemop.proofs.bisquemop_line_y.Kinds as c-line-y-kinds
+use Rattle.bisquemop.proofs.bisquemop_line_y.Reads as c-line-y-reads
+
+-- bisquemop_check_settings
+abbrev pub c-check-settings : Call
+c-check-settings = callOf 1 c-check-settings-kinds.ps c-check-settings-kinds.r c-check-settings-reads.Asked c-check-settings-reads.Learnt
+
+-- bisquemop_check_text
+abbrev pub c-check-text : Call
+c-check-text = callOf 2 c-check-text-kinds.ps c-check-text-kinds.r c-check-text-reads.Asked c-check-text-reads.Learnt
+
+-- bisquemop_tokens
+abbrev pub c-tokens : Call
+c-tokens = callOf 3 c-tokens-kinds.ps c-tokens-kinds.r c-tokens-reads.Asked c-tokens-reads.Learnt
+
+-- bisquemop_layout
+abbrev pub c-layout : Call
+c-layout = callOf 3 c-layout-kinds.ps c-layout-kinds.r c-layout-reads.Asked c-layout-reads.Learnt
+
+-- bisquemop_layout_events
+abbrev pub c-layout-events : Call
+c-layout-events = callOf 5 c-layout-events-kinds.ps c-layout-events-kinds.r c-layout-events-reads.Asked c-layout-events-reads.Learnt
+
+-- bisquemop_first_affected
+abbrev pub c-first-affected : Call
+c-first-affected = callOf 2 c-first-affected-kinds.ps c-first-affected-kinds.r c-first-affected-reads.Asked c-first-affected-reads.Learnt
+
+-- bisquemop_lay_again
+abbrev pub c-lay-again : Call
+c-lay-again = callOf 4 c-lay-again-kinds.ps c-lay-again-kinds.r c-lay-again-reads.Asked c-lay-again-reads.Learnt
+
+-- bisquemop_height
+abbrev pub c-height : Call
+c-height = callOf 2 c-height-kinds.ps c-height-kinds.r c-height-reads.Asked c-height-reads.Learnt
+
+-- bisquemop_line_y
+abbrev pub c-line-y : Call
+c-line-y = callOf 3 c-line-y-kinds.ps c-line-y-kinds.r c-line-y-reads.Asked c-line-y-reads.Learnt

@@ -1,0 +1,47 @@
+-- Agreement of the calls in Rattle: for each, two answers that meet its contract for the same arguments are equal.
+-- Assumes nothing.
+use mathlib.Core.Path.{refl}
+use Rattle.promises.specs.Call.{AsksNothing, Agrees, agree}
+use Rattle.promises.specs.InsideCalls.{check-settings, check-text, tokenize, layout, layout-with-events, first-affected, lay-again, text-height, line-y}
+
+-- None of them has a `requires`.
+pub inside-asks-nothing : AsksNothing check-settings
+    × AsksNothing check-text
+    × AsksNothing tokenize
+    × AsksNothing layout
+    × AsksNothing layout-with-events
+    × AsksNothing first-affected
+    × AsksNothing lay-again
+    × AsksNothing text-height
+    × AsksNothing line-y
+inside-asks-nothing = (λ κs a. tt, λ κs a. tt, λ κs a. tt, λ κs a. tt, λ κs a. tt, λ κs a. tt, λ κs a. tt, λ κs a. tt, λ κs a. tt)
+
+pub check-settings-agrees : Agrees check-settings
+check-settings-agrees κs a z z′ ws ws′ p q = (agree p q, refl)
+
+pub check-text-agrees : Agrees check-text
+check-text-agrees κs a z z′ ws ws′ p q = (agree p q, refl)
+
+pub tokenize-agrees : Agrees tokenize
+tokenize-agrees κs a z z′ ws ws′ p q = (agree (p .0) (q .0), λ i. (tt, (agree (p .1) (q .1) i, tt)))
+
+pub layout-agrees : Agrees layout
+layout-agrees κs a z z′ ws ws′ p q = (agree (p .0) (q .0), λ i. (tt, (tt, (agree (p .1) (q .1) i, tt))))
+
+pub layout-with-events-agrees : Agrees layout-with-events
+layout-with-events-agrees κs a z z′ ws ws′ p q = (
+  agree (p .0) (q .0),
+  λ i. (tt, (tt, (agree (p .1 .0) (q .1 .0) i, (agree (p .1 .1) (q .1 .1) i, tt)))),
+)
+
+pub first-affected-agrees : Agrees first-affected
+first-affected-agrees κs a z z′ ws ws′ p q = (agree p q, refl)
+
+pub lay-again-agrees : Agrees lay-again
+lay-again-agrees κs a z z′ ws ws′ p q = (agree (p .0) (q .0), λ i. (tt, (tt, (agree (p .1) (q .1) i, (tt, (tt, tt))))))
+
+pub text-height-agrees : Agrees text-height
+text-height-agrees κs a z z′ ws ws′ p q = (agree p q, refl)
+
+pub line-y-agrees : Agrees line-y
+line-y-agrees κs a z z′ ws ws′ p q = (agree p q, refl)

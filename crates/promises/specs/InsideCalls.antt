@@ -1,0 +1,57 @@
+-- The public calls in Rattle, each with its own contract.
+-- Assumes nothing.
+use Rattle.promises.specs.Call.{Call, callOf}
+use Rattle.checks.proofs.settings.check_settings.Kinds as check-settings-kinds
+use Rattle.checks.proofs.settings.check_settings.Reads as check-settings-reads
+use Rattle.checks.proofs.text.check_text.Kinds as check-text-kinds
+use Rattle.checks.proofs.text.check_text.Reads as check-text-reads
+use Rattle.parser.proofs.tokenize.tokenize.Kinds as tokenize-kinds
+use Rattle.parser.proofs.tokenize.tokenize.Reads as tokenize-reads
+use Rattle.layout.proofs.fresh.layout.Kinds as layout-kinds
+use Rattle.layout.proofs.fresh.layout.Reads as layout-reads
+use Rattle.layout.proofs.drawn.layout_with_events.Kinds as layout-with-events-kinds
+use Rattle.layout.proofs.drawn.layout_with_events.Reads as layout-with-events-reads
+use Rattle.table.proofs.affected.first_affected.Kinds as first-affected-kinds
+use Rattle.table.proofs.affected.first_affected.Reads as first-affected-reads
+use Rattle.again.proofs.relay.lay_again.Kinds as lay-again-kinds
+use Rattle.again.proofs.relay.lay_again.Reads as lay-again-reads
+use Rattle.table.proofs.height.text_height.Kinds as text-height-kinds
+use Rattle.table.proofs.height.text_height.Reads as text-height-reads
+use Rattle.table.proofs.height.line_y.Kinds as line-y-kinds
+use Rattle.table.proofs.height.line_y.Reads as line-y-reads
+
+-- checks::settings::check_settings
+abbrev pub check-settings : Call
+check-settings = callOf 0 check-settings-kinds.ps check-settings-kinds.r check-settings-reads.Asked check-settings-reads.Learnt
+
+-- checks::text::check_text
+abbrev pub check-text : Call
+check-text = callOf 1 check-text-kinds.ps check-text-kinds.r check-text-reads.Asked check-text-reads.Learnt
+
+-- parser::tokenize::tokenize
+abbrev pub tokenize : Call
+tokenize = callOf 2 tokenize-kinds.ps tokenize-kinds.r tokenize-reads.Asked tokenize-reads.Learnt
+
+-- layout::fresh::layout
+abbrev pub layout : Call
+layout = callOf 2 layout-kinds.ps layout-kinds.r layout-reads.Asked layout-reads.Learnt
+
+-- layout::drawn::layout_with_events
+abbrev pub layout-with-events : Call
+layout-with-events = callOf 3 layout-with-events-kinds.ps layout-with-events-kinds.r layout-with-events-reads.Asked layout-with-events-reads.Learnt
+
+-- table::affected::first_affected
+abbrev pub first-affected : Call
+first-affected = callOf 1 first-affected-kinds.ps first-affected-kinds.r first-affected-reads.Asked first-affected-reads.Learnt
+
+-- again::relay::lay_again
+abbrev pub lay-again : Call
+lay-again = callOf 2 lay-again-kinds.ps lay-again-kinds.r lay-again-reads.Asked lay-again-reads.Learnt
+
+-- table::height::text_height
+abbrev pub text-height : Call
+text-height = callOf 1 text-height-kinds.ps text-height-kinds.r text-height-reads.Asked text-height-reads.Learnt
+
+-- table::height::line_y
+abbrev pub line-y : Call
+line-y = callOf 1 line-y-kinds.ps line-y-kinds.r line-y-reads.Asked line-y-reads.Learnt

@@ -1,0 +1,12 @@
+pub mod Call
+pub mod InsideCalls
+pub mod ForCCalls
+pub mod Passed
+pub mod Contracts
+pub mod Inside
+pub mod ForC
+pub mod Unwritten
+pub mod Refused
+pub mod Demand3
+pub mod AsFresh
+pub mod OtherSettings

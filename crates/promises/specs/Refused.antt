@@ -1,0 +1,82 @@
+-- A call that refuses leaves every buffer that it is lent as it was, and every number but the one that goes besides the refusal's.
+-- Assumes nothing.
+use Prim.Native.Nat.{ℕ, _<_}
+use native.Mathlib.Omega.{arith}
+use mathlib.Core.Path.{_≡_, ap, _∙_}
+use mathlib.Core.List.{List}
+use lib.IntN.{ℤ}
+use contract.Lifetimes.{Lfts}
+use denote.Ref.{now}
+use Rattle.meaning.specs.Settings.{settingsOf}
+use Rattle.meaning.specs.Calls.{drawingAnswer, relayAnswer, yAnswer}
+use Rattle.meaning.specs.Answers.{tokensNumber, layoutNumber, drawingNumber, relayNumber}
+use Rattle.meaning.specs.declared.settings.Settings.{Settings}
+use Rattle.meaning.specs.declared.edit.Edit.{Edit}
+use Rattle.meaning.specs.declared.refusals.Refusal.{Refusal}
+use Rattle.meaning.specs.declared.answers.Tokenized.the-variants as tokenized
+use Rattle.meaning.specs.declared.answers.Laid.the-variants as laid
+use Rattle.meaning.specs.declared.answers.LaidWithEvents.the-variants as drawing
+use Rattle.meaning.specs.declared.answers.Relaid.the-variants as relaid
+use Rattle.promises.specs.Passed.{Lent, LentNumber, LentSigned}
+use Rattle.promises.specs.Contracts.{Tokenize, Layout, LayoutWithEvents, LayAgain, CTokens, CLayout, CLayoutEvents, CLayAgain, CLineY}
+use Rattle.promises.specs.Unwritten.{tokens-kept, layout-kept, drawing-kept, relay-kept, drawing-counted, relay-counted, y-kept}
+
+-- ---- the calls in Rattle
+
+pub tokenize-refused : (κs : Lfts 2) (text buffer : Lent) (r : Refusal) (after : List ℕ)
+    → Tokenize κs text buffer (tokenized.Refused r) after → after ≡ now buffer
+tokenize-refused κs text buffer r after p =
+    p .1 ∙ tokens-kept (now text) (now buffer) (λ n e. let z : _≡_ {A = ℕ} 0 1 = cc in omega arith)
+
+pub layout-refused : (κs : Lfts 2) (s : Settings) (text table : Lent) (r : Refusal) (after : List ℕ)
+    → Layout κs s text table (laid.Refused r) after → after ≡ now table
+layout-refused κs s text table r after p =
+    p .1 ∙ layout-kept s (now text) (now table) (λ n e. let z : _≡_ {A = ℕ} 0 1 = cc in omega arith)
+
+pub layout-with-events-refused : (κs : Lfts 3) (s : Settings) (text table events : Lent) (r : Refusal) (after drawn : List ℕ)
+    → LayoutWithEvents κs s text table events (drawing.Refused r) after drawn → (after ≡ now table) × (drawn ≡ now events)
+layout-with-events-refused κs s text table events r after drawn p =
+    let k = drawing-kept s (now text) (now table) (now events) (λ n m e. let z : _≡_ {A = ℕ} 0 1 = cc in omega arith) in
+    (p .1 .0 ∙ k .0, p .1 .1 ∙ k .1)
+
+pub lay-again-refused : (κs : Lfts 2) (s : Settings) (part table : Lent) (lines : ℕ) (ed : Edit) (r : Refusal) (after : List ℕ)
+    → LayAgain κs s part table lines ed (relaid.Refused r) after → after ≡ now table
+lay-again-refused κs s part table lines ed r after p =
+    p .1 ∙ relay-kept s (now part) (now table) lines ed (λ n m e. let z : _≡_ {A = ℕ} 0 1 = cc in omega arith)
+
+-- ---- the calls for C: a refusal returns no 0
+
+pub c-tokens-refused : (κs : Lfts 3) (text tokens : Lent) (value : LentNumber) (z : ℕ) (after : List ℕ) (value′ : ℕ)
+    → CTokens κs text tokens value z after value′ → 0 < z → after ≡ now tokens
+c-tokens-refused κs text tokens value z after value′ p h =
+    p .1 .0 ∙ tokens-kept (now text) (now tokens) (λ n e. omega (arith, p .0 ∙ ap tokensNumber e))
+
+pub c-layout-refused : (κs : Lfts 3) (s : Settings) (text table : Lent) (value : LentNumber) (z : ℕ) (after : List ℕ) (value′ : ℕ)
+    → CLayout κs s text table value z after value′ → 0 < z → after ≡ now table
+unfolding settingsOf
+c-layout-refused κs s text table value z after value′ p h =
+    p .1 .0 ∙ layout-kept s (now text) (now table) (λ n e. omega (arith, p .0 ∙ ap layoutNumber e))
+
+pub c-layout-events-refused : (κs : Lfts 5) (s : Settings) (text table events : Lent) (value count : LentNumber) (z : ℕ)
+    (after drawn : List ℕ) (value′ count′ : ℕ) → CLayoutEvents κs s text table events value count z after drawn value′ count′ → 0 < z
+    → (after ≡ now table) × (drawn ≡ now events) × (count′ ≡ now count)
+unfolding settingsOf
+c-layout-events-refused κs s text table events value count z after drawn value′ count′ p h =
+    let k = drawing-kept s (now text) (now table) (now events) (λ n m e. omega (arith, p .0 ∙ ap drawingNumber e)) in
+    let c = drawing-counted (drawingAnswer s (now text) (now table) (now events)) (now count) (omega (arith, p .0)) in
+    (p .1 .0 ∙ k .0, p .1 .1 .0 ∙ k .1, p .1 .1 .1 .1 ∙ c)
+
+pub c-lay-again-refused : (κs : Lfts 4) (s : Settings) (part table : Lent) (lines : ℕ) (ed : Edit) (value laid : LentNumber) (z : ℕ)
+    (after : List ℕ) (value′ laid′ : ℕ) → CLayAgain κs s part table lines ed value laid z after value′ laid′ → 0 < z
+    → (after ≡ now table) × (laid′ ≡ now laid)
+unfolding settingsOf
+c-lay-again-refused κs s part table lines ed value laid z after value′ laid′ p h =
+    let k = relay-kept s (now part) (now table) lines ed (λ n m e. omega (arith, p .0 ∙ ap relayNumber e)) in
+    let c = relay-counted (relayAnswer s (now part) (now table) lines ed) (now laid) (omega (arith, p .0)) in
+    (p .1 .0 ∙ k, p .1 .1 .1 ∙ c)
+
+pub c-line-y-refused : (κs : Lfts 3) (s : Settings) (table : Lent) (lines line : ℕ) (value : LentNumber) (y : LentSigned) (z value′ : ℕ)
+    (y′ : ℤ) → CLineY κs s table lines line value y z value′ y′ → 0 < z → y′ ≡ now y
+unfolding settingsOf
+c-line-y-refused κs s table lines line value y z value′ y′ p h =
+    p .1 .1 ∙ y-kept (yAnswer s (now table) lines line) (now y) (omega (arith, p .0))

@@ -1,0 +1,60 @@
+-- By the definitions, a call that is not done leaves each buffer as it was, and each count that only a call that is done writes.
+-- Assumes nothing.
+use Prim.Native.Nat.{ℕ, _<_}
+use native.Mathlib.Omega.{arith}
+use mathlib.Core.Path.{_≡_, refl}
+use mathlib.Core.List.{List}
+use lib.IntN.{ℤ}
+use Rattle.meaning.specs.Checks.{answered, afterwards}
+use Rattle.meaning.specs.Calls.{checkTokens, tokensAnswer, tokensBuffer, checkLayout, layoutAnswer, layoutTable, checkDrawing, drawingAnswer, drawingTable, drawingEvents, checkRelay, relayAnswer, relayTable}
+use Rattle.meaning.specs.Answers.{drawingNumber, drawingCount, relayNumber, relayCount, yNumber, yPlace}
+use Rattle.meaning.specs.declared.settings.Settings.{Settings}
+use Rattle.meaning.specs.declared.edit.Edit.{Edit}
+use Rattle.meaning.specs.declared.refusals.Refusal.{Refusal}
+use Rattle.meaning.specs.declared.refusals.Checked.{Checked}
+use Rattle.meaning.specs.declared.refusals.Checked.the-variants.{Good, Refused}
+use Rattle.meaning.specs.declared.answers.Tokenized.the-variants as tokenized
+use Rattle.meaning.specs.declared.answers.Laid.the-variants as laid
+use Rattle.meaning.specs.declared.answers.LaidWithEvents.{LaidWithEvents}
+use Rattle.meaning.specs.declared.answers.LaidWithEvents.the-variants as drawing
+use Rattle.meaning.specs.declared.answers.Relaid.{Relaid}
+use Rattle.meaning.specs.declared.answers.Relaid.the-variants as relaid
+use Rattle.meaning.specs.declared.answers.LineY.{LineY}
+use Rattle.meaning.specs.declared.answers.LineY.the-variants as liney
+
+-- What is not done is refused.
+kept : {X Y : Type 0} (c : Checked) (done : X) (f : Refusal → X) (new old : Y) → (answered c done f ≡ done → ⊥) → afterwards c new old ≡ old
+kept Good done f new old d = absurd (d refl)
+kept (Refused r) done f new old d = refl
+
+pub tokens-kept : (t b : List ℕ) → ((n : ℕ) → tokensAnswer t b ≡ tokenized.Tokens n → ⊥) → tokensBuffer t b ≡ b
+unfolding tokensAnswer tokensBuffer
+tokens-kept t b d = kept (checkTokens t b) _ _ _ b (d _)
+
+pub layout-kept : (s : Settings) (t b : List ℕ) → ((n : ℕ) → layoutAnswer s t b ≡ laid.Lines n → ⊥) → layoutTable s t b ≡ b
+unfolding layoutAnswer layoutTable
+layout-kept s t b d = kept (checkLayout s t b) _ _ _ b (d _)
+
+pub drawing-kept : (s : Settings) (t b v : List ℕ) → ((n m : ℕ) → drawingAnswer s t b v ≡ drawing.Lines n m → ⊥)
+    → (drawingTable s t b v ≡ b) × (drawingEvents s t b v ≡ v)
+unfolding drawingAnswer drawingTable drawingEvents
+drawing-kept s t b v d = (kept (checkDrawing s t b v) _ _ _ b (d _ _), kept (checkDrawing s t b v) _ _ _ v (d _ _))
+
+pub relay-kept : (s : Settings) (t b : List ℕ) (lines : ℕ) (ed : Edit) → ((n m : ℕ) → relayAnswer s t b lines ed ≡ relaid.Lines n m → ⊥)
+    → relayTable s t b lines ed ≡ b
+unfolding relayAnswer relayTable
+relay-kept s t b lines ed d = kept (checkRelay s t b lines ed) _ _ _ b (d _ _)
+
+pub drawing-counted : (x : LaidWithEvents) (old : ℕ) → 0 < drawingNumber x → drawingCount x old ≡ old
+drawing-counted (drawing.Lines n m) old h = omega arith
+drawing-counted (drawing.Refused r) old h = refl
+
+pub relay-counted : (x : Relaid) (old : ℕ) → 0 < relayNumber x → relayCount x old ≡ old
+relay-counted (relaid.Lines n m) old h = omega arith
+relay-counted (relaid.Refused r) old h = refl
+
+pub y-kept : (x : LineY) (old : ℤ) → 0 < yNumber x → yPlace x old ≡ old
+y-kept (liney.Shows y) old h = absurd (omega arith)
+y-kept (liney.Hidden y) old h = absurd (omega arith)
+y-kept liney.NoLine old h = absurd (omega arith)
+y-kept (liney.Refused r) old h = refl

@@ -1,0 +1,1 @@
+// Promises about the contracts of the public calls. Nothing here runs.
