@@ -13,4 +13,3 @@ pub mod GoodRelay
 pub mod Written
 pub mod Answering
 pub mod Relaying
-pub mod Demand3
