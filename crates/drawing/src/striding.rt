@@ -1,10 +1,10 @@
 // Words that fit, drawn in strides of a space and a word.
-use basis::numbers::lesser;
 use crate::going::Going;
 use crate::going::stands_at;
 use crate::pairs::draw_pair;
 use crate::pen::Pen;
 use crate::pen::put_one;
+use basis::numbers::lesser;
 use meaning::counts::Chars;
 use meaning::counts::Pixels;
 use meaning::cursor::Place;

@@ -1,11 +1,11 @@
 // The events of one token (rules 7 to 9).
-use basis::numbers::lesser;
 use crate::grown::Grown;
 use crate::grown::growth;
 use crate::grown::taken_end;
 use crate::pen::Pen;
 use crate::pen::put_one;
 use crate::words::draw_word;
+use basis::numbers::lesser;
 use meaning::cursor::Place;
 use meaning::line::EventKind;
 use meaning::line::Measure;

@@ -1,5 +1,4 @@
 // The two looks ahead: the next word's width, and whether the next word fits (rules 8 and 12).
-use basis::numbers::greater;
 use crate::cursor::advanced;
 use crate::cursor::fits;
 use crate::cursor::tab_width;
@@ -7,6 +6,7 @@ use crate::look::Look;
 use crate::look::WidthAhead;
 use crate::space_config::spaces_after;
 use crate::space_config::spaces_width;
+use basis::numbers::greater;
 use meaning::counts::Offset;
 use meaning::counts::Pixels;
 use meaning::cursor::LineCursor;

@@ -1,5 +1,4 @@
 // What a space run does to a line (rules 5, 8 and 9).
-use basis::numbers::lesser;
 use crate::cursor::fits;
 use crate::cursor::room;
 use crate::ending::nothing_left;
@@ -14,6 +13,7 @@ use crate::space_config::spaces_width;
 use crate::step::Ended;
 use crate::step::Resumed;
 use crate::step::Stepped;
+use basis::numbers::lesser;
 use meaning::counts::Chars;
 use meaning::counts::Offset;
 use meaning::counts::Pixels;
