@@ -32,7 +32,7 @@ use Rattle.table.specs.LinesFrom.{linesFrom, lines-more}
 use Rattle.table.specs.GoodTable.{table-room, table-text, table-lines}
 use Rattle.table.specs.Moving.{AllMovable}
 use Rattle.table.specs.MovableLines.{table-movable}
-use Rattle.layout.specs.GoodInput.{fine-settings}
+use Rattle.rows.specs.GoodInput.{fine-settings}
 use Rattle.again.specs.Behind.{behind}
 use Rattle.again.specs.HeldRest.{resumedOf, resumed-held, resumed-fits}
 use Rattle.again.specs.OldLines.{rises, affected-drop, kept-affected}

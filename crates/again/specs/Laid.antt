@@ -17,7 +17,7 @@ use Rattle.line.specs.LineFrom.{heldIn, lineFrom}
 use Rattle.line.specs.LineLaws.{next-rest}
 use Rattle.steps.specs.Pending.{RestFits}
 use Rattle.steps.specs.declared.step.Resumed.{Resumed}
-use Rattle.layout.specs.RowsFrom.{isLast, last-is, not-last}
+use Rattle.rows.specs.RowsFrom.{isLast, last-is, not-last}
 use Rattle.again.specs.Behind.{behind, restBehind}
 use Rattle.again.specs.AgainFrom.{againFrom, entry-is, again-stop, again-last, again-more}
 

@@ -22,8 +22,8 @@ use Rattle.line.specs.LineFrom.{lineFrom}
 use Rattle.steps.specs.declared.step.Resumed.{Resumed}
 use Rattle.line.specs.declared.line.LineAt.{LineAt}
 use Rattle.table.specs.LinesFrom.{linesFrom}
-use Rattle.layout.specs.RowsFrom.{isLast, last-is, not-last}
-use Rattle.layout.specs.Turns.{ready-next, further}
+use Rattle.rows.specs.RowsFrom.{isLast, last-is, not-last}
+use Rattle.rows.specs.Turns.{ready-next, further}
 use Rattle.again.specs.Behind.{restBehind, RestLow}
 use Rattle.again.specs.Pointer.{Rising, Past, passing, meetsFirst, rising-drop, kept-after, passing-few, past-passing, met-first, none-met}
 use Rattle.again.specs.AgainFrom.{againFrom, again-stop, again-last, again-more}

@@ -18,7 +18,7 @@ use Rattle.line.specs.declared.line.LineAt.{LineAt}
 use Rattle.table.specs.Numbers.{putNumbers}
 use Rattle.table.specs.Stretches.{join-behind, put-none}
 use Rattle.table.specs.Moving.{MovableEntry}
-use Rattle.layout.specs.Turns.{ready-next}
+use Rattle.rows.specs.Turns.{ready-next}
 use Rattle.again.specs.Behind.{behind}
 use Rattle.again.specs.Laid.{laidFrom}
 

@@ -1,6 +1,6 @@
 // The rest that the first affected line resumes: refusal 5 of it, and what it is.
 use crate::meeting::less;
-use layout::lines::nothing;
+use rows::lines::nothing;
 use meaning::counts::Chars;
 use meaning::counts::Offset;
 use meaning::line::Entry;

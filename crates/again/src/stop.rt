@@ -1,8 +1,7 @@
 // Where laying again stops: at the first line that an old line meets, or at the text's end. Nothing is written.
 use crate::meeting::meets_line;
 use crate::meeting::stands_before;
-use layout::lines::is_last;
-use line::line::lay_line;
+use rows::lines::is_last;
 use meaning::counts::Chars;
 use meaning::counts::Offset;
 use meaning::edit::Edit;
@@ -10,6 +9,7 @@ use meaning::line::Rest;
 use meaning::settings::Settings;
 use steps::first::known_from;
 use steps::first::nothing_known;
+use line::line::lay_line;
 use steps::step::Resumed;
 use table::entries::read_entry;
 ghost use Prim.Native.Nat.{_+_, _*_, _≤_};

@@ -1,11 +1,11 @@
 // The lines laid again, written to the table.
-use line::line::lay_line;
 use meaning::counts::Offset;
 use meaning::edit::Edit;
 use meaning::line::Entry;
 use meaning::settings::Settings;
 use steps::first::known_from;
 use steps::first::nothing_known;
+use line::line::lay_line;
 use steps::step::Resumed;
 use table::entries::write_entry;
 use table::moving::moved_entry;

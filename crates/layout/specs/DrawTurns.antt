@@ -19,9 +19,9 @@ use Rattle.steps.specs.declared.step.Resumed.{Resumed}
 use Rattle.line.specs.declared.line.LineAt.{LineAt}
 use Rattle.drawing.specs.Sheet.{put-append}
 use Rattle.drawing.specs.PassDrawn.{DrawRoom}
-use Rattle.layout.specs.RowsFrom.{TextReady, isLast, last-is, not-last}
+use Rattle.rows.specs.RowsFrom.{TextReady, isLast, last-is, not-last}
 use Rattle.layout.specs.EventsFrom.{eventsOf, eventsAfter, placeIn, lineEvents, all-events, line-events-few, one-drawn, more-drawn}
-use Rattle.layout.specs.Turns.{start-ready, ready-next}
+use Rattle.rows.specs.Turns.{start-ready, ready-next}
 
 -- So far k events are put into the buffer ev₀, which is ev now, and the next line starts at an offset and resumes r.
 pub record Drew (s : Settings) (t ev₀ ev : List ℕ) (k at : ℕ) (r : Resumed) : Type 0 where

@@ -32,7 +32,7 @@ use Rattle.steps.specs.declared.step.Resumed.{Resumed}
 use Rattle.drawing.specs.Drawn.{drawnFrom, eventsFrom}
 use Rattle.drawing.specs.PassDrawn.{DrawRoom}
 use Rattle.drawing.specs.DrawnBounds.{line-few}
-use Rattle.layout.specs.RowsFrom.{rowsFrom, rows-step}
+use Rattle.rows.specs.RowsFrom.{rowsFrom, rows-step}
 
 -- The events of a text, and those of its lines from an offset on.
 unfoldable pub eventsOf : Settings → List ℕ → List Event

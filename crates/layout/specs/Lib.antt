@@ -1,7 +1,3 @@
-pub mod RowsFrom
-pub mod Writing
-pub mod Turns
-pub mod GoodInput
 pub mod EventsFrom
 pub mod DrawTurns
 pub mod Checking

@@ -1,6 +1,6 @@
 // The tests of a fresh layout, in their order. None of them writes anything.
 use crate::events::count_events;
-use crate::lines::count_lines;
+use rows::lines::count_lines;
 use checks::settings::check_settings;
 use checks::text::check_text;
 use meaning::refusals::Checked;
@@ -11,7 +11,7 @@ ghost use lib.ListN.{length};
 ghost use Rattle.meaning.specs.Checks.{checkRoom};
 ghost use Rattle.meaning.specs.Table.{entryNumbers, eventNumbers, capacityOf};
 ghost use Rattle.meaning.specs.Calls.{checkLayout};
-ghost use Rattle.layout.specs.RowsFrom.{TextReady, entriesOf};
+ghost use Rattle.rows.specs.RowsFrom.{TextReady, entriesOf};
 ghost use Rattle.layout.specs.EventsFrom.{eventsOf};
 
 // Refusal 8.

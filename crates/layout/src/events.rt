@@ -1,14 +1,14 @@
 // The events of a text's lines, one line after the other: counted, and drawn as each line is written.
-use crate::lines::is_last;
-use crate::lines::nothing;
+use rows::lines::is_last;
+use rows::lines::nothing;
 use drawing::pass::draw_pass;
-use line::line::lay_line;
 use meaning::cursor::Spaces;
 use meaning::line::Entry;
 use meaning::settings::Settings;
 use steps::first::Known;
 use steps::first::known_from;
 use steps::first::nothing_known;
+use line::line::lay_line;
 use steps::place::start_place;
 use steps::step::Resumed;
 use table::entries::write_entry;
@@ -19,7 +19,7 @@ ghost use Rattle.meaning.specs.Table.{ofEntry, ofAll, written};
 ghost use Rattle.steps.specs.Knowing.{KnownFits};
 ghost use Rattle.table.specs.Numbers.{putEvents};
 ghost use Rattle.drawing.specs.PassDrawn.{DrawRoom};
-ghost use Rattle.layout.specs.RowsFrom.{TextReady, entriesOf};
+ghost use Rattle.rows.specs.RowsFrom.{TextReady, entriesOf};
 ghost use Rattle.layout.specs.EventsFrom.{eventsOf, placeIn, lineEvents};
 
 // The events of the line at an offset, after a rest that it resumes, where a word may be known, from its entry: events number k and

@@ -1,6 +1,6 @@
 // The fresh layout of a text: a public call.
 use crate::checked::check_layout;
-use crate::lines::write_lines;
+use rows::lines::write_lines;
 use meaning::answers::Laid;
 use meaning::refusals::Checked;
 use meaning::settings::Settings;

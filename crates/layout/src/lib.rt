@@ -3,4 +3,3 @@ mod checked;
 pub mod drawn;
 mod events;
 pub mod fresh;
-pub mod lines;

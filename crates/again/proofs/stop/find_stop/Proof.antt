@@ -5,7 +5,7 @@ use mathlib.Core.Path.{sym, _∙_}
 use native.Mathlib.Omega.{arith}
 use lib.ListN.{length}
 use Rattle.steps.specs.Knowing.{KnownFits, nothing-fits}
-use Rattle.layout.specs.Turns.{further, stays}
+use Rattle.rows.specs.Turns.{further, stays}
 use Rattle.again.specs.Seeking.{Seeking, rest-low, seek-start, stops, finds-last, seeks-on}
 use borrow.Author.Needs.{needs}
 use Rattle.again.proofs.stop.find_stop.Statement.{statement}

@@ -1,7 +1,7 @@
 -- `check_layout` meets its contract.
 -- Assumes nothing.
 use mathlib.Core.Path.{sym, _∙_}
-use Rattle.layout.specs.GoodInput.{text-ready}
+use Rattle.rows.specs.GoodInput.{text-ready}
 use Rattle.layout.specs.Checking.{settings-refused, text-refused, room-decides}
 use borrow.Author.Needs.{needs}
 use Rattle.layout.proofs.checked.check_layout.Statement.{statement}

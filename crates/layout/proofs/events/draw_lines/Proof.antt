@@ -6,7 +6,7 @@ use native.Mathlib.Omega.{arith}
 use lib.ListN.{length}
 use borrow.Author.Needs.{needs}
 use Rattle.steps.specs.Knowing.{KnownFits, nothing-fits}
-use Rattle.layout.specs.Turns.{further, stays}
+use Rattle.rows.specs.Turns.{further, stays}
 use Rattle.layout.specs.DrawTurns.{Drew, draw-start, draw-room, draw-last, draw-next}
 use Rattle.layout.proofs.events.draw_lines.Statement.{statement}
 use Rattle.layout.proofs.events.draw_lines.Tie as tie

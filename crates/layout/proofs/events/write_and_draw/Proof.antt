@@ -6,7 +6,7 @@ use native.Mathlib.Omega.{arith}
 use lib.ListN.{length}
 use borrow.Author.Needs.{needs}
 use Rattle.steps.specs.Knowing.{KnownFits, nothing-fits}
-use Rattle.layout.specs.Turns.{Wrote, write-start, write-last, write-next, count-last, further, stays, room-left}
+use Rattle.rows.specs.Turns.{Wrote, write-start, write-last, write-next, count-last, further, stays, room-left}
 use Rattle.layout.specs.DrawTurns.{Drew, draw-start, draw-room, draw-last, draw-next}
 use Rattle.layout.proofs.events.write_and_draw.Statement.{statement}
 use Rattle.layout.proofs.events.write_and_draw.Tie as tie

@@ -7,10 +7,10 @@ use native.Mathlib.Omega.{arith}
 use lib.ListN.{length}
 use borrow.Author.Needs.{needs}
 use Rattle.steps.specs.Knowing.{KnownFits, nothing-fits}
-use Rattle.layout.specs.RowsFrom.{isLast}
-use Rattle.layout.specs.Turns.{Wrote, write-start, write-last, write-next, count-last, further, stays, room-left}
-use Rattle.layout.proofs.lines.write_lines.Statement.{statement}
-use Rattle.layout.proofs.lines.write_lines.Tie as tie
+use Rattle.rows.specs.RowsFrom.{isLast}
+use Rattle.rows.specs.Turns.{Wrote, write-start, write-last, write-next, count-last, further, stays, room-left}
+use Rattle.rows.proofs.lines.write_lines.Statement.{statement}
+use Rattle.rows.proofs.lines.write_lines.Tie as tie
 
 abbrev Inv-loop : tie.InvT-loop
 Inv-loop text s table₀ n₀ at₀ rest₀ known₀ table n at rest known =

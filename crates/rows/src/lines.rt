@@ -1,11 +1,11 @@
 // The lines of a text, one after the other: counted, and written to a table.
-use line::line::lay_line;
 use meaning::counts::Chars;
 use meaning::counts::Offset;
 use meaning::line::LineEnd;
 use meaning::settings::Settings;
 use steps::first::known_from;
 use steps::first::nothing_known;
+use line::line::lay_line;
 use steps::step::Resumed;
 use table::entries::write_entry;
 ghost use Prim.Native.Nat.{_*_, _≤_};
@@ -13,7 +13,7 @@ ghost use mathlib.Core.Path.{_≡_};
 ghost use lib.ListN.{length};
 ghost use Rattle.meaning.specs.Table.{ofEntry, ofAll, written};
 ghost use Rattle.steps.specs.Unrolled.{nothingResumed};
-ghost use Rattle.layout.specs.RowsFrom.{TextReady, entriesOf, isLast};
+ghost use Rattle.rows.specs.RowsFrom.{TextReady, entriesOf, isLast};
 
 // Nothing is resumed at the text's start.
 pub fn nothing() -> Resumed

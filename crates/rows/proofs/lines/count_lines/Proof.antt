@@ -7,10 +7,10 @@ use native.Mathlib.Omega.{arith}
 use lib.ListN.{length}
 use borrow.Author.Needs.{needs}
 use Rattle.steps.specs.Knowing.{KnownFits, nothing-fits}
-use Rattle.layout.specs.RowsFrom.{isLast}
-use Rattle.layout.specs.Turns.{Counted, count-start, count-last, count-more, further, stays}
-use Rattle.layout.proofs.lines.count_lines.Statement.{statement}
-use Rattle.layout.proofs.lines.count_lines.Tie as tie
+use Rattle.rows.specs.RowsFrom.{isLast}
+use Rattle.rows.specs.Turns.{Counted, count-start, count-last, count-more, further, stays}
+use Rattle.rows.proofs.lines.count_lines.Statement.{statement}
+use Rattle.rows.proofs.lines.count_lines.Tie as tie
 
 abbrev Inv-loop : tie.InvT-loop
 Inv-loop text s n₀ at₀ rest₀ known₀ n at rest known = Counted s text n at rest × KnownFits text known

@@ -20,8 +20,8 @@ use Rattle.line.specs.LineFrom.{lineFrom}
 use Rattle.line.specs.LineLaws.{next-within, next-further, next-rest}
 use Rattle.steps.specs.declared.step.Resumed.{Resumed}
 use Rattle.line.specs.declared.line.LineAt.{LineAt}
-use Rattle.layout.specs.RowsFrom.{TextReady, entriesOf, entriesFrom, isLast, all-entries, last-is, not-last, one-left, more-left, some-left}
-use Rattle.layout.specs.Writing.{drop-more, write-more}
+use Rattle.rows.specs.RowsFrom.{TextReady, entriesOf, entriesFrom, isLast, all-entries, last-is, not-last, one-left, more-left, some-left}
+use Rattle.rows.specs.Writing.{drop-more, write-more}
 
 -- ---- counting
 

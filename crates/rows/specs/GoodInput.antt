@@ -24,7 +24,7 @@ use Rattle.parser.specs.GoodText.{good-length}
 use Rattle.steps.specs.Fine.{FineSettings}
 use Rattle.steps.specs.Lexed.{chars-within}
 use Rattle.laws.specs.GoodLines.{good-both}
-use Rattle.layout.specs.RowsFrom.{TextReady, entriesOf}
+use Rattle.rows.specs.RowsFrom.{TextReady, entriesOf}
 
 module _ (s : Settings) (h : checkSettings s ≡ Good) where
   judged : (inRange s ≡ true) × (knownAlignment (s .alignment) ≡ true)

@@ -1,0 +1,4 @@
+pub mod RowsFrom
+pub mod Writing
+pub mod Turns
+pub mod GoodInput

@@ -1,0 +1,2 @@
+// The lines of a text, one after the other.
+pub mod lines;
