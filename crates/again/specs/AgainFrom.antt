@@ -1,170 +1,138 @@
--- Laying again from an offset of the lent part on, and how one line comes off the front of it.
+-- Laying again from a stand on is a walk over the lines from there on, as far as no old line is met.
 -- Assumes nothing.
-use Prim.Native.Nat.{ℕ, zero, suc, _+_, _≤_, _<_}
-use native.Mathlib.Nat.{not-suc-le-zero}
+use Prim.Native.Nat.{ℕ, zero, suc, _+_, _≤_}
+use native.Mathlib.Nat.{add-zero}
 use native.Mathlib.Omega.{arith}
-use mathlib.Core.Path.{_≡_, refl, ap, _∙_}
+use mathlib.Core.Path.{_≡_, refl, sym, ap, _∙_}
+use mathlib.Core.Bool.{true, false}
 use mathlib.Core.List.{List, [], _∷_, map}
-use lib.ListN.{length, take, drop}
+use lib.ListN.{length, take, drop, length-map}
 use Rattle.unicode.specs.Encoding.{size}
 use Rattle.meaning.specs.LineIter.{Held}
-use Rattle.meaning.specs.Line.{Line, layLine, restOf}
-use Rattle.meaning.specs.Layout.{rowAt}
+use Rattle.meaning.specs.Line.{layLine, restOf, entryAt}
+use Rattle.meaning.specs.Layout.{Row, rowAt, unlessEnded, rowsBy, entryOfRow}
 use Rattle.meaning.specs.Edit.{movedEntry, keptFrom, Again, againUnlessEnded, oneMore, unlessKept, againBy}
 use Rattle.meaning.specs.declared.settings.Settings.{Settings}
 use Rattle.meaning.specs.declared.edit.Edit.{Edit}
 use Rattle.meaning.specs.declared.line.LineEnd.{LineEnd}
 use Rattle.meaning.specs.declared.line.LineEnd.the-variants.{NewLine, CarriageReturn, EndOfText, LineBreak}
 use Rattle.meaning.specs.declared.line.Entry.{Entry}
-use Rattle.laws.specs.LineBounds.{line-held, line-rest}
-use Rattle.laws.specs.Stands.{next-fewer}
-use Rattle.laws.specs.TokenLaws.{length-size}
 use Rattle.parser.specs.Lexing.{charsFrom}
-use Rattle.steps.specs.Lexed.{chars-within}
-use Rattle.line.specs.LineFrom.{heldIn, lineAtOf, lineFrom}
-use Rattle.line.specs.LineLaws.{next-start, next-held, next-chars}
-use Rattle.steps.specs.Pending.{RestFits}
+use Rattle.line.specs.LineFrom.{heldIn}
 use Rattle.steps.specs.declared.step.Resumed.{Resumed}
-use Rattle.again.specs.Behind.{behind, entry-behind, restBehind, rest-behind}
+use Rattle.rows.specs.Standing.{atFront, StandReady, Step}
+use Rattle.rows.specs.RowsFrom.{rowsFrom, rowHere, first-row, few-rows, last-row, more-rows, entriesFrom}
+use Rattle.rows.specs.declared.stand.Stand.{Stand}
+use Rattle.rows.specs.declared.stand.LaidRow.{LaidRow}
+use Rattle.again.specs.Behind.{restBehind, rest-behind}
 
--- ---- any count of lines above the number of characters gives the same
+-- Before each line the old lines are looked at.
+unfoldable pub untilKept : Edit → (old : List Entry) → List Row → Again
+untilKept ed old [] = record { laid = []; kept = [] }
+untilKept ed old (r ∷ rs) =
+    let more = oneMore r (untilKept ed old rs) in
+    unlessKept ed (keptFrom ed (r .entry .start .0) (r .entry .rest) old) more
 
--- What follows a line, for two ways to lay it.
-ended-same : (e : LineEnd) (a b : Again) → ((e ≡ EndOfText → ⊥) → a ≡ b) → againUnlessEnded e a ≡ againUnlessEnded e b
-unfolding againUnlessEnded
-ended-same EndOfText a b f = refl
-ended-same NewLine a b f = f (λ e. let z : _≡_ {A = ℕ} 0 1 = cc in omega arith)
-ended-same CarriageReturn a b f = f (λ e. let z : _≡_ {A = ℕ} 0 1 = cc in omega arith)
-ended-same LineBreak a b f = f (λ e. let z : _≡_ {A = ℕ} 0 1 = cc in omega arith)
+-- From a stand on, in a part that stands behind so many bytes.
+abbrev pub againFrom : Settings → (part : List ℕ) → Edit → (old : List Entry) → (base : ℕ) → Stand → Again
+againFrom s t ed old base p = untilKept ed old (rowsFrom s t base p)
 
-not-ended : (e : LineEnd) (a : Again) → (e ≡ EndOfText → ⊥) → againUnlessEnded e a ≡ a
-unfolding againUnlessEnded
-not-ended EndOfText a d = absurd (d refl)
-not-ended NewLine a d = refl
-not-ended CarriageReturn a d = refl
-not-ended LineBreak a d = refl
+-- ---- the definition is that walk
 
-again-fuel : (m n : ℕ) (s : Settings) (ed : Edit) (old : List Entry) (start : ℕ) (h : Held) (cs : List ℕ)
-    → h .chars ≤ length cs → h .count ≤ h .chars → length cs < m → length cs < n
-    → againBy m s ed old start h cs ≡ againBy n s ed old start h cs
-unfolding againBy
-again-fuel zero n s ed old start h cs k c a b = absurd (not-suc-le-zero a)
-again-fuel (suc m) zero s ed old start h cs k c a b = absurd (not-suc-le-zero b)
-again-fuel (suc m) (suc n) s ed old start h cs k c a b =
+until-ended : (ed : Edit) (old : List Entry) (e : LineEnd) (rs : List Row) → untilKept ed old (unlessEnded e rs) ≡ againUnlessEnded e (untilKept ed old rs)
+unfolding untilKept unlessEnded againUnlessEnded
+until-ended ed old EndOfText rs = refl
+until-ended ed old NewLine rs = refl
+until-ended ed old CarriageReturn rs = refl
+until-ended ed old LineBreak rs = refl
+
+by-rows : (n : ℕ) (s : Settings) (ed : Edit) (old : List Entry) (start : ℕ) (h : Held) (cs : List ℕ)
+    → againBy n s ed old start h cs ≡ untilKept ed old (rowsBy n s start h cs)
+unfolding againBy rowsBy untilKept rowAt entryAt
+by-rows zero s ed old start h cs = refl
+by-rows (suc n) s ed old start h cs =
     let l = layLine s h cs in
     let next = start + size (take (l .chars) cs) in
-    let from : ℕ → Again = λ f. againBy f s ed old next (l .held) (drop (l .chars) cs) in
+    let more = drop (l .chars) cs in
     ap (λ (x : Again). unlessKept ed (keptFrom ed start (restOf start h cs) old) (oneMore (rowAt start h cs l) x))
-    (ended-same (l .ended) (from m) (from n)
-    (λ d. again-fuel m n s ed old next (l .held) (drop (l .chars) cs) (line-rest s h cs k c) (line-held s h cs k c)
-    (next-fewer s h cs k c d m a) (next-fewer s h cs k c d n b)))
+    (ap (againUnlessEnded (l .ended)) (by-rows n s ed old next (l .held) more)
+    ∙ sym (until-ended ed old (l .ended) (rowsBy n s next (l .held) more)))
 
--- ---- not more lines are laid than so many
-
-few-ended : (n : ℕ) (e : LineEnd) (a : Again) → length (a .laid) ≤ n → length (againUnlessEnded e a .laid) ≤ n
-unfolding againUnlessEnded
-few-ended n EndOfText a b = omega arith
-few-ended n NewLine a b = b
-few-ended n CarriageReturn a b = b
-few-ended n LineBreak a b = b
-
-few-kept : (n : ℕ) (ed : Edit) (es : List Entry) (a : Again) → length (a .laid) ≤ n → length (unlessKept ed es a .laid) ≤ n
-unfolding unlessKept
-few-kept n ed [] a b = b
-few-kept n ed (e ∷ es) a b = omega arith
-
-few-by : (n : ℕ) (s : Settings) (ed : Edit) (old : List Entry) (start : ℕ) (h : Held) (cs : List ℕ)
-    → length (againBy n s ed old start h cs .laid) ≤ n
-unfolding againBy
-few-by zero s ed old start h cs = omega arith
-few-by (suc n) s ed old start h cs =
-    let l = layLine s h cs in
-    let next = start + size (take (l .chars) cs) in
-    let more = againBy n s ed old next (l .held) (drop (l .chars) cs) in
-    few-kept (suc n) ed (keptFrom ed start (restOf start h cs) old) (oneMore (rowAt start h cs l) (againUnlessEnded (l .ended) more))
-    (omega (arith, few-ended n (l .ended) more (few-by n s ed old next (l .held) (drop (l .chars) cs))))
-
--- ---- from an offset of the part on
-
--- The part stands behind so many bytes, and a rest is resumed at the offset.
-unfoldable pub againFrom : Settings → (part : List ℕ) → Edit → (old : List Entry) → (base at : ℕ) → Resumed → Again
-againFrom s t ed old base at r = againBy (suc (length (charsFrom t at))) s ed old (base + at) (heldIn r) (charsFrom t at)
-
-pub few-laid : (s : Settings) (t : List ℕ) (ed : Edit) (old : List Entry) (base : ℕ) (r : Resumed)
-    → length (againFrom s t ed old base 0 r .laid) ≤ length t + 1
-unfolding againFrom
-few-laid s t ed old base r =
+pub again-front : (s : Settings) (t : List ℕ) (ed : Edit) (old : List Entry) (base : ℕ) (r : Resumed)
+    → againBy (suc (length (charsFrom t 0))) s ed old base (heldIn r) (charsFrom t 0) ≡ againFrom s t ed old base (atFront r)
+unfolding rowsFrom
+again-front s t ed old base r =
     let cs = charsFrom t 0 in
-    omega (arith, few-by (suc (length cs)) s ed old (base + 0) (heldIn r) cs, length-size cs, chars-within t 0)
+    by-rows (suc (length cs)) s ed old base (heldIn r) cs
+    ∙ ap (λ (n : ℕ). untilKept ed old (rowsBy (suc (length cs)) s n (heldIn r) cs)) (sym (add-zero base))
 
-module _ (s : Settings) (t : List ℕ) (ed : Edit) (old : List Entry) (base at : ℕ) (r : Resumed) (f : RestFits t at r) where
-  abbrev line : Line
-  line = layLine s (heldIn r) (charsFrom t at)
+-- ---- what is laid are the first of the lines
 
-  abbrev next : Again
-  next = againFrom s t ed old base (lineFrom s t at r .next .0) (lineFrom s t at r .rest)
-
-  -- Laying goes on from where the line ended.
-  next-is : (line .ended ≡ EndOfText → ⊥)
-      → againBy (length (charsFrom t at)) s ed old (base + at + size (take (line .chars) (charsFrom t at))) (line .held)
-      (drop (line .chars) (charsFrom t at))
-      ≡ next
-  unfolding againFrom
-  next-is d =
-      let cs = charsFrom t at in
-      let h = heldIn r in
-      let after = drop (line .chars) cs in
-      let e : base + lineFrom s t at r .next .0 ≡ base + at + size (take (line .chars) cs) = omega (arith, next-start s t at r) in
-      rw (e, next-chars s t at r, next-held s t at r)
-      (again-fuel (length cs) (suc (length after)) s ed old (base + at + size (take (line .chars) cs)) (line .held) after
-      (line-rest s h cs (f .within) (f .counts)) (line-held s h cs (f .within) (f .counts))
-      (next-fewer s h cs (f .within) (f .counts) d (length cs) (omega arith)) (omega arith))
-
-  off-front : againFrom s t ed old base at r
-      ≡ unlessKept ed (keptFrom ed (base + at) (restOf (base + at) (heldIn r) (charsFrom t at)) old)
-      (oneMore (rowAt (base + at) (heldIn r) (charsFrom t at) line)
-      (againUnlessEnded (line .ended)
-      (againBy (length (charsFrom t at)) s ed old (base + at + size (take (line .chars) (charsFrom t at))) (line .held)
-      (drop (line .chars) (charsFrom t at)))))
-  unfolding againFrom againBy
-  off-front = refl
-
-  -- Before the line the old lines are looked at.
-  step : againFrom s t ed old base at r
-      ≡ unlessKept ed (keptFrom ed (base + at) (restBehind base r) old)
-      (oneMore (rowAt (base + at) (heldIn r) (charsFrom t at) line) (againUnlessEnded (line .ended) next))
-  step =
-      let cs = charsFrom t at in
-      let row = rowAt (base + at) (heldIn r) cs line in
-      off-front
-      ∙ ap (λ (x : Again). unlessKept ed (keptFrom ed (base + at) (restOf (base + at) (heldIn r) cs) old) (oneMore row x))
-      (ended-same (line .ended) _ _ next-is)
-      ∙ rw (rest-behind t base at r f)
-
-  -- Old lines follow: nothing is laid.
-  pub again-stop : (e : Entry) (es : List Entry) → keptFrom ed (base + at) (restBehind base r) old ≡ e ∷ es
-      → againFrom s t ed old base at r ≡ record { laid = []; kept = map (movedEntry ed) (e ∷ es) }
+module _ (ed : Edit) where
+  first-kept : (es : List Entry) (r : Row) (rs : List Row) (a : Again) → map entryOfRow (a .laid) ≡ take (length (a .laid)) (map entryOfRow rs)
+      → map entryOfRow (unlessKept ed es (oneMore r a) .laid) ≡ take (length (unlessKept ed es (oneMore r a) .laid)) (map entryOfRow (r ∷ rs))
   unfolding unlessKept
-  again-stop e es k = step ∙ rw k
+  first-kept [] r rs a h = ap (λ (es : List Entry). r .entry ∷ es) h
+  first-kept (e ∷ es) r rs a h = refl
 
-  module _ (none : keptFrom ed (base + at) (restBehind base r) old ≡ []) where
-    go-on : againFrom s t ed old base at r
-        ≡ oneMore (rowAt (base + at) (heldIn r) (charsFrom t at) line) (againUnlessEnded (line .ended) next)
+  few-kept : (es : List Entry) (n : ℕ) (a : Again) → length (a .laid) ≤ n → length (unlessKept ed es a .laid) ≤ n
+  unfolding unlessKept
+  few-kept [] n a h = h
+  few-kept (e ∷ es) n a h = omega arith
+
+  until-first : (old : List Entry) (rs : List Row)
+      → map entryOfRow (untilKept ed old rs .laid) ≡ take (length (untilKept ed old rs .laid)) (map entryOfRow rs)
+  unfolding untilKept
+  until-first old [] = refl
+  until-first old (r ∷ rs) =
+      first-kept (keptFrom ed (r .entry .start .0) (r .entry .rest) old) r rs (untilKept ed old rs) (until-first old rs)
+
+  until-few : (old : List Entry) (rs : List Row) → length (untilKept ed old rs .laid) ≤ length rs
+  unfolding untilKept
+  until-few old [] = omega arith
+  until-few old (r ∷ rs) =
+      few-kept (keptFrom ed (r .entry .start .0) (r .entry .rest) old) (suc (length rs)) (oneMore r (untilKept ed old rs))
+      (omega (arith, until-few old rs))
+
+module _ (s : Settings) (t : List ℕ) (ed : Edit) (old : List Entry) (base : ℕ) (p : Stand) where
+  pub laid-first : map entryOfRow (againFrom s t ed old base p .laid) ≡ take (length (againFrom s t ed old base p .laid)) (entriesFrom s t base p)
+  unfolding entriesFrom
+  laid-first = until-first ed old (rowsFrom s t base p)
+
+  pub laid-within : length (againFrom s t ed old base p .laid) ≤ length (entriesFrom s t base p)
+  unfolding entriesFrom
+  laid-within = rw length-map (until-few ed old (rowsFrom s t base p))
+
+  pub few-laid : length (againFrom s t ed old base p .laid) ≤ length t + 1
+  few-laid = omega (arith, until-few ed old (rowsFrom s t base p), few-rows s t base p)
+
+  -- ---- one line
+
+  module _ (ready : StandReady s t p) where
+    -- Before the line the old lines are looked at.
+    looked : (rs : List Row)
+        → untilKept ed old (rowHere s t base p ∷ rs)
+        ≡ unlessKept ed (keptFrom ed (base + p .at .0) (restBehind base (p .rest)) old) (oneMore (rowHere s t base p) (untilKept ed old rs))
+    unfolding untilKept rowHere rowAt entryAt
+    looked rs = rw (rest-behind t base (p .at .0) (p .rest) (ready .line .rest))
+
+    -- Old lines follow: nothing is laid.
+    pub again-stop : (e : Entry) (es : List Entry) → keptFrom ed (base + p .at .0) (restBehind base (p .rest)) old ≡ e ∷ es
+        → againFrom s t ed old base p ≡ record { laid = []; kept = map (movedEntry ed) (e ∷ es) }
     unfolding unlessKept
-    go-on = step ∙ rw none
+    again-stop e es k =
+        first-row s t base p (λ rs. untilKept ed old rs ≡ record { laid = []; kept = map (movedEntry ed) (e ∷ es) }) (λ rs. looked rs ∙ rw k)
 
-    pub entry-is : rowAt (base + at) (heldIn r) (charsFrom t at) line .entry ≡ movedEntry (behind base) (lineFrom s t at r .entry)
-    unfolding rowAt lineFrom lineAtOf
-    entry-is = entry-behind base at (heldIn r) (charsFrom t at) line (f .within)
+    module _ (none : keptFrom ed (base + p .at .0) (restBehind base (p .rest)) old ≡ []) (x : LaidRow) (z : Step s t p x) where
+      go-on : (rs : List Row) → untilKept ed old (rowHere s t base p ∷ rs) ≡ oneMore (rowHere s t base p) (untilKept ed old rs)
+      unfolding unlessKept
+      go-on rs = looked rs ∙ rw none
 
-    -- The line that ends the text.
-    pub again-last : lineFrom s t at r .ended ≡ EndOfText
-        → againFrom s t ed old base at r ≡ record { laid = rowAt (base + at) (heldIn r) (charsFrom t at) line ∷ []; kept = [] }
-    unfolding lineFrom lineAtOf againUnlessEnded
-    again-last e = go-on ∙ rw e
+      -- The line that ends the text.
+      pub again-last : x .last ≡ true → againFrom s t ed old base p ≡ record { laid = rowHere s t base p ∷ []; kept = [] }
+      unfolding untilKept
+      again-last h = ap (untilKept ed old) (last-row s t base p x z h) ∙ go-on []
 
-    -- Any other, and what follows it.
-    pub again-more : (lineFrom s t at r .ended ≡ EndOfText → ⊥)
-        → againFrom s t ed old base at r ≡ oneMore (rowAt (base + at) (heldIn r) (charsFrom t at) line) next
-    unfolding lineFrom lineAtOf
-    again-more d = go-on ∙ ap (oneMore (rowAt (base + at) (heldIn r) (charsFrom t at) line)) (not-ended (line .ended) next d)
+      -- Any other, and what follows it.
+      pub again-more : x .last ≡ false → againFrom s t ed old base p ≡ oneMore (rowHere s t base p) (againFrom s t ed old base (x .next))
+      again-more h = ap (untilKept ed old) (more-rows s t base p x z h) ∙ go-on (rowsFrom s t base (x .next))

@@ -2,7 +2,7 @@
 -- Assumes nothing.
 use Prim.Native.Nat.{ℕ, _+_, _≤_}
 use native.Mathlib.Omega.{arith}
-use mathlib.Core.Path.{_≡_}
+use mathlib.Core.Path.{_≡_, sym, ap, _∙_}
 use mathlib.Core.List.{List}
 use lib.Dec.{eqb}
 use lib.ListN.{length, take}
@@ -11,16 +11,22 @@ use Rattle.basis.specs.Choice.{pick}
 use Rattle.basis.specs.Order.{by-eq}
 use Rattle.unicode.specs.Encoding.{size}
 use Rattle.meaning.specs.LineIter.{Held}
-use Rattle.meaning.specs.Line.{Line, restOf, entryAt}
+use Rattle.meaning.specs.Line.{Line, layLine, restOf, entryAt}
+use Rattle.meaning.specs.Layout.{rowAt}
 use Rattle.meaning.specs.Edit.{moved, movedEntry}
+use Rattle.meaning.specs.declared.settings.Settings.{Settings}
 use Rattle.meaning.specs.declared.edit.Edit.{Edit}
 use Rattle.meaning.specs.declared.line.Rest.{Rest}
 use Rattle.laws.specs.Moved.{entry-moved}
 use Rattle.laws.specs.Rests.{rest-none, rest-some}
 use Rattle.parser.specs.Lexing.{charsFrom}
-use Rattle.line.specs.LineFrom.{heldIn}
+use Rattle.line.specs.LineFrom.{heldIn, lineAtOf, lineFrom}
 use Rattle.steps.specs.Pending.{RestFits}
 use Rattle.steps.specs.declared.step.Resumed.{Resumed}
+use Rattle.rows.specs.Standing.{Step, entry-is}
+use Rattle.rows.specs.RowsFrom.{rowHere}
+use Rattle.rows.specs.declared.stand.Stand.{Stand}
+use Rattle.rows.specs.declared.stand.LaidRow.{LaidRow}
 
 -- Bytes put in front of everything.
 abbrev pub behind : ℕ → Edit
@@ -31,9 +37,19 @@ unfolding moved
 moved-behind base at = omega arith
 
 -- The line that is laid at an offset of the part, as a line of the whole.
-pub entry-behind : (base at : ℕ) (h : Held) (cs : List ℕ) (l : Line) → h .chars ≤ length cs
+entry-behind : (base at : ℕ) (h : Held) (cs : List ℕ) (l : Line) → h .chars ≤ length cs
     → entryAt (base + at) h cs l ≡ movedEntry (behind base) (entryAt at h cs l)
 entry-behind base at h cs l k = rw (moved-behind base at) at (entry-moved (behind base) at h cs l (omega arith) k)
+
+-- Such a line is the first of those from its stand on.
+pub row-behind : (s : Settings) (t : List ℕ) (base : ℕ) (p : Stand) (x : LaidRow) → Step s t p x
+    → movedEntry (behind base) (x .entry) ≡ rowHere s t base p .entry
+unfolding rowHere rowAt lineFrom lineAtOf
+row-behind s t base p x z =
+    let h = heldIn (p .rest) in
+    let cs = charsFrom t (p .at .0) in
+    ap (movedEntry (behind base)) (entry-is s t p x z)
+    ∙ sym (entry-behind base (p .at .0) h cs (layLine s h cs) (z .ready .line .rest .within))
 
 -- What is held before such a line, as an entry of the whole says it.
 unfoldable pub restBehind : (base : ℕ) → Resumed → Rest

@@ -1,7 +1,6 @@
 -- What refusals 1 to 6 say where none of them is given: the first affected line and its rest, and that nothing wraps.
 -- Assumes nothing.
 use Prim.Native.Nat.{ℕ, _+_, _-_, _*_, _≤_, _<_}
-use native.Mathlib.Nat.{add-zero}
 use native.Mathlib.Omega.{arith}
 use mathlib.Core.Path.{_≡_, refl, sym, ap, subst, _∙_}
 use mathlib.Core.Bool.{true, _&&_}
@@ -26,17 +25,18 @@ use Rattle.meaning.specs.declared.refusals.Checked.{Checked}
 use Rattle.meaning.specs.declared.refusals.Checked.the-variants.{Good, Refused}
 use Rattle.laws.specs.Calls3.{refuse-good}
 use Rattle.parser.specs.Lexing.{charsFrom}
-use Rattle.line.specs.Laying.{LineReady}
-use Rattle.steps.specs.declared.step.Resumed.{Resumed}
+use Rattle.steps.specs.Knowing.{nothingKnown, nothing-fits}
 use Rattle.table.specs.LinesFrom.{linesFrom, lines-more}
 use Rattle.table.specs.GoodTable.{table-room, table-text, table-lines}
 use Rattle.table.specs.Moving.{AllMovable}
 use Rattle.table.specs.MovableLines.{table-movable}
+use Rattle.rows.specs.Standing.{atFront, StandReady}
 use Rattle.rows.specs.GoodInput.{fine-settings}
+use Rattle.rows.specs.declared.stand.Stand.{Stand}
 use Rattle.again.specs.Behind.{behind}
 use Rattle.again.specs.HeldRest.{resumedOf, resumed-held, resumed-fits}
 use Rattle.again.specs.OldLines.{rises, affected-drop, kept-affected}
-use Rattle.again.specs.AgainFrom.{againFrom}
+use Rattle.again.specs.AgainFrom.{againFrom, again-front}
 use Rattle.again.specs.Seeking.{PassedBy, FindReady}
 use Rattle.again.specs.Checking.{checkFirst, checkLent, checkBefore, few-before, first-affected, no-line, bad-rest, bad-edit}
 
@@ -145,34 +145,39 @@ module _ (s : Settings) (part table : List ℕ) (lines : ℕ) (ed : Edit) (g : A
           (λ none. omega (arith, ap length (sym some ∙ none)))
           ∙ ap (keptFrom ed later rest) (affected-drop a old ∙ ap (λ (n : ℕ). drop n old) (sym k-is))
 
-      module _ (r : Resumed) (r-is : r ≡ resumedOf e cs) where
-        pub line-ready : LineReady s part 0 r
-        line-ready =
-            record {
-              settings = fine-settings s (g .settings);
-              short = short-part;
-              inside = omega arith;
-              rest = rw r-is (resumed-fits part e (g .utf8) rest-good);
-            }
+      -- Laying starts with it, at the part's front.
+      module _ (p : Stand) (p-is : p ≡ atFront (resumedOf e cs)) where
+        pub stand-ready : StandReady s part p
+        stand-ready =
+            rw p-is
+            (record {
+              line =
+                  record {
+                    settings = fine-settings s (g .settings);
+                    short = short-part;
+                    inside = omega arith;
+                    rest = resumed-fits part e (g .utf8) rest-good;
+                  };
+              known = nothing-fits part nothingKnown refl;
+            })
 
-        pub find-ready : FindReady s part table lines k (e .start .0) ed r
+        pub find-ready : FindReady s part table lines k (e .start .0) ed p
         find-ready =
             record {
-              line = line-ready;
+              stand = stand-ready;
               room = table-room lines table (g .table-is);
               low = start-low;
               first = few-before table lines ed k k-is;
               rising = rises (textLength old) 0 nothing old (table-lines lines table (g .table-is));
-              passed = passed;
+              passed = λ later rest h. passed later rest (omega arith);
             }
 
-        -- Laying again starts with it.
-        pub again-is : again s ed old (affected (ed .from .0) old) cs ≡ againFrom s part ed old (e .start .0) 0 r
-        unfolding again againFrom charsFrom
+        pub again-is : again s ed old (affected (ed .from .0) old) cs ≡ againFrom s part ed old (e .start .0) p
+        unfolding again charsFrom
         again-is =
             rw (
               first-affected table lines ed k k-is is-affected ∙ ap (λ (x : Entry). x ∷ linesFrom table lines (k + 1)) (sym e-is),
-              r-is,
-              resumed-held e cs,
-              add-zero (e .start .0),
+              ← resumed-held e cs,
+              p-is,
             )
+            (again-front s part ed old (e .start .0) (resumedOf e cs))

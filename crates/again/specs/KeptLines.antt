@@ -9,21 +9,15 @@ use borrow.Author.Tests.{leb-true}
 use lib.Dec.{leb, eqb}
 use lib.ListN.{length, take, drop, length-drop, length-map, drop-of-length-le}
 use Rattle.basis.specs.Choice.{pick, by-test, and-true}
-use Rattle.unicode.specs.Encoding.{size}
-use Rattle.meaning.specs.LineIter.{Held}
-use Rattle.meaning.specs.Line.{layLine, restOf}
-use Rattle.meaning.specs.Layout.{rowAt}
-use Rattle.meaning.specs.Edit.{moved, movedRest, movedEntry, meets, keptFrom, Again, againUnlessEnded, oneMore, unlessKept, againBy}
+use Rattle.meaning.specs.Layout.{Row}
+use Rattle.meaning.specs.Edit.{moved, movedRest, movedEntry, meets, keptFrom, Again, oneMore, unlessKept}
 use Rattle.meaning.specs.declared.settings.Settings.{Settings}
 use Rattle.meaning.specs.declared.edit.Edit.{Edit}
-use Rattle.meaning.specs.declared.line.LineEnd.{LineEnd}
-use Rattle.meaning.specs.declared.line.LineEnd.the-variants.{NewLine, CarriageReturn, EndOfText, LineBreak}
 use Rattle.meaning.specs.declared.line.Rest.{Rest}
 use Rattle.meaning.specs.declared.line.Entry.{Entry}
-use Rattle.parser.specs.Lexing.{charsFrom}
-use Rattle.line.specs.LineFrom.{heldIn}
-use Rattle.steps.specs.declared.step.Resumed.{Resumed}
-use Rattle.again.specs.AgainFrom.{againFrom}
+use Rattle.rows.specs.RowsFrom.{rowsFrom}
+use Rattle.rows.specs.declared.stand.Stand.{Stand}
+use Rattle.again.specs.AgainFrom.{untilKept, againFrom}
 
 -- The first of some lines, if there is one, starts behind the replaced bytes.
 abbrev pub StartsBehind : Edit → List Entry → Type 0
@@ -67,41 +61,30 @@ module _ (ed : Edit) where
     pub last : Last ed old lines
     pub is : a .kept ≡ map (movedEntry ed) lines
 
-  ended-last : (old : List Entry) (e : LineEnd) (a : Again) → KeptLast old a → KeptLast old (againUnlessEnded e a)
-  unfolding againUnlessEnded
-  ended-last old EndOfText a k = record { lines = []; last = no-lines old; is = refl }
-  ended-last old NewLine a k = k
-  ended-last old CarriageReturn a k = k
-  ended-last old LineBreak a k = k
-
   stopped-last : (old : List Entry) (es : List Entry) (a : Again) → Last ed old es → KeptLast old a → KeptLast old (unlessKept ed es a)
   unfolding unlessKept
   stopped-last old [] a l k = k
   stopped-last old (e ∷ es) a l k = record { lines = e ∷ es; last = l; is = refl }
 
-  keeps-last : (old : List Entry) (n : ℕ) (s : Settings) (start : ℕ) (h : Held) (cs : List ℕ) → KeptLast old (againBy n s ed old start h cs)
-  unfolding againBy
-  keeps-last old zero s start h cs = record { lines = []; last = no-lines old; is = refl }
-  keeps-last old (suc n) s start h cs =
-      let l = layLine s h cs in
-      let next = start + size (take (l .chars) cs) in
-      let rest = againBy n s ed old next (l .held) (drop (l .chars) cs) in
-      let k = ended-last old (l .ended) rest (keeps-last old n s next (l .held) (drop (l .chars) cs)) in
-      stopped-last old (keptFrom ed start (restOf start h cs) old) (oneMore (rowAt start h cs l) (againUnlessEnded (l .ended) rest))
-      (kept-last start (restOf start h cs) old) (record { lines = k .lines; last = k .last; is = k .is })
+  keeps-last : (old : List Entry) (rs : List Row) → KeptLast old (untilKept ed old rs)
+  unfolding untilKept
+  keeps-last old [] = record { lines = []; last = no-lines old; is = refl }
+  keeps-last old (r ∷ rs) =
+      let k = keeps-last old rs in
+      stopped-last old (keptFrom ed (r .entry .start .0) (r .entry .rest) old) (oneMore r (untilKept ed old rs))
+      (kept-last (r .entry .start .0) (r .entry .rest) old) (record { lines = k .lines; last = k .last; is = k .is })
 
 -- ---- by their count
 
-module _ (s : Settings) (t : List ℕ) (ed : Edit) (old : List Entry) (base : ℕ) (r : Resumed) where
+module _ (s : Settings) (t : List ℕ) (ed : Edit) (old : List Entry) (base : ℕ) (p : Stand) where
   abbrev a : Again
-  a = againFrom s t ed old base 0 r
+  a = againFrom s t ed old base p
 
   abbrev first : ℕ
   first = length old - length (a .kept)
 
   lasts : KeptLast ed old a
-  unfolding againFrom
-  lasts = keeps-last ed old (suc (length (charsFrom t 0))) s (base + 0) (heldIn r) (charsFrom t 0)
+  lasts = keeps-last ed old (rowsFrom s t base p)
 
   counted : lasts .last .from ≡ first
   counted =

@@ -3,7 +3,6 @@ pub mod Pointer
 pub mod AgainFrom
 pub mod OldLines
 pub mod Seeking
-pub mod Laid
 pub mod Writing
 pub mod PartChars
 pub mod HeldRest

@@ -19,40 +19,43 @@ use Rattle.meaning.specs.declared.refusals.Checked.the-variants.{Good}
 use Rattle.meaning.specs.declared.answers.Relaid.the-variants as relaid
 use Rattle.laws.specs.Affected.{unaffected-old}
 use Rattle.laws.specs.TableLaws.{entries-length, entries-first}
-use Rattle.steps.specs.declared.step.Resumed.{Resumed}
 use Rattle.table.specs.LinesFrom.{linesFrom, lines-more, lines-end}
 use Rattle.table.specs.GoodTable.{table-room, table-count}
 use Rattle.table.specs.Moving.{linesMoved, AllMovable, Movable}
 use Rattle.table.specs.MovableLines.{table-movable}
+use Rattle.rows.specs.Standing.{atFront}
+use Rattle.rows.specs.RowsFrom.{entriesFrom}
+use Rattle.rows.specs.Writing.{linesPut}
+use Rattle.rows.specs.declared.stand.Stand.{Stand}
 use Rattle.again.specs.HeldRest.{resumedOf}
 use Rattle.again.specs.OldLines.{lines-drop}
-use Rattle.again.specs.AgainFrom.{againFrom, few-laid}
+use Rattle.again.specs.AgainFrom.{againFrom, few-laid, laid-first, laid-within}
 use Rattle.again.specs.Seeking.{foundIn}
 use Rattle.again.specs.KeptLines.{StartsBehind, kept-few, kept-are, kept-behind}
-use Rattle.again.specs.Laid.{laidFrom, laid-are}
-use Rattle.again.specs.Writing.{WriteReady, linesPut}
+use Rattle.again.specs.Writing.{WriteReady}
 use Rattle.again.specs.Written.{put-written, put-both}
 use Rattle.again.specs.Checking.{checkBefore, few-before}
-use Rattle.again.specs.GoodRelay.{AllGood, all-good, short-part, order, few-inserted, start-low, line-ready, again-is}
+use Rattle.again.specs.GoodRelay.{AllGood, all-good, short-part, order, few-inserted, start-low, stand-ready, again-is}
 use Rattle.again.specs.Answering.{Answers, too-small, laid-again}
 use Rattle.again.specs.declared.stop.Found.{Found}
 
--- The tests are passed, the first affected line is line k, with the entry e, and resumes r, and laying from it on finds so many lines.
-pub record Sought (s : Settings) (part table : List ℕ) (lines : ℕ) (ed : Edit) (k : ℕ) (e : Entry) (r : Resumed) (found : Found) : Type 0 where
+-- The tests are passed, the first affected line is line k, with the entry e and laid from the stand p, and laying on from there finds
+-- so many lines.
+pub record Sought (s : Settings) (part table : List ℕ) (lines : ℕ) (ed : Edit) (k : ℕ) (e : Entry) (p : Stand) (found : Found) : Type 0 where
   pub good : checkBefore s part table lines ed ≡ Good
   pub first : k ≡ length (unaffected (ed .from .0) (entriesIn lines table))
   pub entry : e ≡ entryIn (drop (10 * k) table)
-  pub resumes : r ≡ resumedOf e (decodeAll part)
-  pub finds : found ≡ foundIn lines (againFrom s part ed (entriesIn lines table) (e .start .0) 0 r)
+  pub stand : p ≡ atFront (resumedOf e (decodeAll part))
+  pub finds : found ≡ foundIn lines (againFrom s part ed (entriesIn lines table) (e .start .0) p)
 
-module _ (s : Settings) (part table : List ℕ) (lines : ℕ) (ed : Edit) (k : ℕ) (e : Entry) (r : Resumed) (found : Found)
-    (q : Sought s part table lines ed k e r found)
+module _ (s : Settings) (part table : List ℕ) (lines : ℕ) (ed : Edit) (k : ℕ) (e : Entry) (p : Stand) (found : Found)
+    (q : Sought s part table lines ed k e p found)
   where
     abbrev old : List Entry
     old = entriesIn lines table
 
     abbrev a : Again
-    a = againFrom s part ed old (e .start .0) 0 r
+    a = againFrom s part ed old (e .start .0) p
 
     g : AllGood s part table lines ed
     g = all-good s part table lines ed (q .good)
@@ -68,7 +71,7 @@ module _ (s : Settings) (part table : List ℕ) (lines : ℕ) (ed : Edit) (k : �
     kept-is = ap (λ (f : Found). f .kept) (q .finds)
 
     kept-left : length (a .kept) ≡ lines - found .kept
-    kept-left = omega (arith, kept-is, kept-few s part ed old (e .start .0) r, entries-length lines table)
+    kept-left = omega (arith, kept-is, kept-few s part ed old (e .start .0) p, entries-length lines table)
 
     pub kept-within : found .kept ≤ lines
     kept-within = omega (arith, kept-is)
@@ -78,19 +81,19 @@ module _ (s : Settings) (part table : List ℕ) (lines : ℕ) (ed : Edit) (k : �
     counts-low =
         let n = table-count lines table (g .table-is) in (
           omega (arith, few-before table lines ed k (q .first)),
-          omega (arith, laid-is, few-laid s part ed old (e .start .0) r, short-part s part table lines ed g k (q .first)),
+          omega (arith, laid-is, few-laid s part ed old (e .start .0) p, short-part s part table lines ed g k (q .first)),
           n,
         )
 
     rows-are : linesLaid s part table lines ed ≡ a .laid
     unfolding linesLaid
-    rows-are = ap (λ (x : Again). x .laid) (again-is s part table lines ed g k (q .first) e (q .entry) r (q .resumes))
+    rows-are = ap (λ (x : Again). x .laid) (again-is s part table lines ed g k (q .first) e (q .entry) p (q .stand))
 
     after-is : linesAfter s part table lines ed ≡ unaffected (ed .from .0) old ++ (map entryOfRow (a .laid) ++ a .kept)
     unfolding linesAfter linesAgain
     after-is =
         ap (λ (x : Again). unaffected (ed .from .0) old ++ (map entryOfRow (x .laid) ++ x .kept))
-        (again-is s part table lines ed g k (q .first) e (q .entry) r (q .resumes))
+        (again-is s part table lines ed g k (q .first) e (q .entry) p (q .stand))
 
     needed-is : k + found .laid + (lines - found .kept) ≡ length (linesAfter s part table lines ed)
     needed-is =
@@ -126,13 +129,13 @@ module _ (s : Settings) (part table : List ℕ) (lines : ℕ) (ed : Edit) (k : �
       left-behind =
           let n = entries-length lines table in
           subst (StartsBehind ed) (sym left-is)
-          (subst (λ (m : ℕ). StartsBehind ed (drop (m - length (a .kept)) old)) n (kept-behind s part ed old (e .start .0) r))
+          (subst (λ (m : ℕ). StartsBehind ed (drop (m - length (a .kept)) old)) n (kept-behind s part ed old (e .start .0) p))
 
       kept-lines : map (movedEntry ed) left ≡ a .kept
       kept-lines =
           let n = entries-length lines table in
           ap (map (movedEntry ed)) left-is
-          ∙ sym (subst (λ (m : ℕ). a .kept ≡ map (movedEntry ed) (drop (m - length (a .kept)) old)) n (kept-are s part ed old (e .start .0) r))
+          ∙ sym (subst (λ (m : ℕ). a .kept ≡ map (movedEntry ed) (drop (m - length (a .kept)) old)) n (kept-are s part ed old (e .start .0) p))
 
       all-movable : AllMovable ed left
       unfolding linesFrom
@@ -160,19 +163,19 @@ module _ (s : Settings) (part table : List ℕ) (lines : ℕ) (ed : Edit) (k : �
       -- ---- the lines laid
 
       module _ (u : List ℕ) (u-is : u ≡ linesMoved table (found .kept) (k + found .laid) (lines - found .kept) ed) (same : length u ≡ length table) where
-        pub write-ready : WriteReady s part u (e .start .0) k (found .laid) r
+        pub write-ready : WriteReady s part u (e .start .0) k (found .laid) p
         write-ready =
             record {
-              line = line-ready s part table lines ed g k (q .first) e (q .entry) r (q .resumes);
+              stand = stand-ready s part table lines ed g k (q .first) e (q .entry) p (q .stand);
               low = start-low s part table lines ed g k (q .first) e (q .entry);
+              enough = omega (arith, laid-is, laid-within s part ed old (e .start .0) p);
               room = omega arith;
             }
 
-        module _ (v : List ℕ) (v-is : v ≡ linesPut u k (laidFrom (found .laid) s part (e .start .0) 0 r)) where
-          laid-lines : laidFrom (found .laid) s part (e .start .0) 0 r ≡ map entryOfRow (a .laid)
+        module _ (v : List ℕ) (v-is : v ≡ linesPut u k (take (found .laid) (entriesFrom s part (e .start .0) p))) where
+          laid-lines : take (found .laid) (entriesFrom s part (e .start .0) p) ≡ map entryOfRow (a .laid)
           laid-lines =
-              ap (λ (n : ℕ). laidFrom n s part (e .start .0) 0 r) laid-is
-              ∙ sym (laid-are s part ed old (e .start .0) (a .laid) 0 r (line-ready s part table lines ed g k (q .first) e (q .entry) r (q .resumes) .rest) refl)
+              ap (λ (n : ℕ). take n (entriesFrom s part (e .start .0) p)) laid-is ∙ sym (laid-first s part ed old (e .start .0) p)
 
           first-lines : entriesIn k table ≡ unaffected (ed .from .0) old
           first-lines =

@@ -17,16 +17,13 @@ use Rattle.laws.specs.TableLaws.{entries-length}
 use Rattle.laws.specs.PassBounds.{size-take}
 use Rattle.parser.specs.Lexing.{charsFrom}
 use Rattle.steps.specs.Lexed.{chars-within}
-use Rattle.line.specs.Laying.{LineReady}
-use Rattle.line.specs.LineFrom.{lineFrom}
-use Rattle.steps.specs.declared.step.Resumed.{Resumed}
-use Rattle.line.specs.declared.line.LineAt.{LineAt}
 use Rattle.table.specs.LinesFrom.{linesFrom}
-use Rattle.rows.specs.RowsFrom.{isLast, last-is, not-last}
-use Rattle.rows.specs.Turns.{ready-next, further}
+use Rattle.rows.specs.Standing.{StandReady, Step, ready-next, further}
+use Rattle.rows.specs.declared.stand.Stand.{Stand}
+use Rattle.rows.specs.declared.stand.LaidRow.{LaidRow}
 use Rattle.again.specs.Behind.{restBehind, RestLow}
 use Rattle.again.specs.Pointer.{Rising, Past, passing, meetsFirst, rising-drop, kept-after, passing-few, past-passing, met-first, none-met}
-use Rattle.again.specs.AgainFrom.{againFrom, again-stop, again-last, again-more}
+use Rattle.again.specs.AgainFrom.{againFrom, few-laid, again-stop, again-last, again-more}
 use Rattle.again.specs.OldLines.{lines-drop}
 use Rattle.again.specs.declared.stop.Found.{Found}
 
@@ -38,81 +35,77 @@ foundIn lines a = record { laid = length (a .laid); kept = lines - length (a .ke
 abbrev pub PassedBy : Edit → (old : List Entry) → (start k : ℕ) → Type 0
 PassedBy ed old start k = (later : ℕ) (rest : Rest) → start ≤ later → keptFrom ed later rest old ≡ keptFrom ed later rest (drop k old)
 
--- What the call has checked: the first affected line is line k, at base, and resumes a rest.
-pub record FindReady (s : Settings) (part table : List ℕ) (lines k base : ℕ) (ed : Edit) (r : Resumed) : Type 0 where
-  pub line : LineReady s part 0 r
+-- What the call has checked: the first affected line is line k, and laying starts from a stand of a part that stands behind base bytes.
+pub record FindReady (s : Settings) (part table : List ℕ) (lines k base : ℕ) (ed : Edit) (p : Stand) : Type 0 where
+  pub stand : StandReady s part p
   pub room : 10 * lines ≤ length table
   pub low : base ≤ 65536
   pub first : k ≤ lines
   pub rising : Rising (entriesIn lines table)
-  pub passed : PassedBy ed (entriesIn lines table) base k
+  pub passed : PassedBy ed (entriesIn lines table) (base + p .at .0) k
 
--- n lines are laid, old lines before line j are passed, and the next line starts at an offset and resumes r.
-pub record Seeking (s : Settings) (part table : List ℕ) (lines base : ℕ) (ed : Edit) (r₀ : Resumed) (n j at : ℕ) (r : Resumed) : Type 0 where
-  pub ready : LineReady s part at r
-  pub few : n ≤ at
+-- n lines are laid, old lines before line j are passed, and the next line is laid from a stand.
+pub record Seeking (s : Settings) (part table : List ℕ) (lines base : ℕ) (ed : Edit) (p₀ : Stand) (n j : ℕ) (p : Stand) : Type 0 where
+  pub ready : StandReady s part p
   pub inside : j ≤ lines
-  pub passed : PassedBy ed (entriesIn lines table) (base + at) j
-  pub count : n + length (againFrom s part ed (entriesIn lines table) base at r .laid)
-      ≡ length (againFrom s part ed (entriesIn lines table) base 0 r₀ .laid)
-  pub kept : againFrom s part ed (entriesIn lines table) base at r .kept ≡ againFrom s part ed (entriesIn lines table) base 0 r₀ .kept
+  pub passed : PassedBy ed (entriesIn lines table) (base + p .at .0) j
+  pub count : n + length (againFrom s part ed (entriesIn lines table) base p .laid)
+      ≡ length (againFrom s part ed (entriesIn lines table) base p₀ .laid)
+  pub kept : againFrom s part ed (entriesIn lines table) base p .kept ≡ againFrom s part ed (entriesIn lines table) base p₀ .kept
 
 -- A rest that is resumed ends within the part.
-pub rest-low : (s : Settings) (part : List ℕ) (base at : ℕ) (r : Resumed) → LineReady s part at r → base ≤ 65536 → RestLow base r
-rest-low s part base at r c b d =
-    let cs = charsFrom part at in
-    omega (arith, c .rest .ends d, size-take (r .chars .0) cs, chars-within part at, c .inside, c .short)
+pub rest-low : (s : Settings) (part : List ℕ) (base : ℕ) (p : Stand) → StandReady s part p → base ≤ 65536 → RestLow base (p .rest)
+rest-low s part base p c b d =
+    let cs = charsFrom part (p .at .0) in
+    let l = c .line in
+    omega (arith, l .rest .ends d, size-take (p .rest .chars .0) cs, chars-within part (p .at .0), l .inside, l .short)
 
-module _ (s : Settings) (part table : List ℕ) (lines base : ℕ) (ed : Edit) (r₀ : Resumed) where
+module _ (s : Settings) (part table : List ℕ) (lines base : ℕ) (ed : Edit) (p₀ : Stand) where
   abbrev old : List Entry
   old = entriesIn lines table
 
   abbrev whole : Again
-  whole = againFrom s part ed old base 0 r₀
+  whole = againFrom s part ed old base p₀
 
-  pub seek-start : (k : ℕ) → FindReady s part table lines k base ed r₀ → Seeking s part table lines base ed r₀ 0 k 0 r₀
-  seek-start k h =
-      record {
-        ready = h .line;
-        few = omega arith;
-        inside = h .first;
-        passed = λ later rest b. h .passed later rest (omega arith);
-        count = omega arith;
-        kept = refl;
-      }
+  pub seek-start : (k : ℕ) → FindReady s part table lines k base ed p₀ → Seeking s part table lines base ed p₀ 0 k p₀
+  seek-start k h = record { ready = h .stand; inside = h .first; passed = h .passed; count = omega arith; kept = refl }
+
+  -- No count of lines wraps.
+  pub seek-low : (n j : ℕ) (p : Stand) → Seeking s part table lines base ed p₀ n j p → n ≤ 65536
+  seek-low n j p c = omega (arith, c .count, few-laid s part ed old base p₀, c .ready .line .short)
 
   -- The pointer goes on to line i.
-  module _ (n j at i : ℕ) (r : Resumed) (c : Seeking s part table lines base ed r₀ n j at r)
-      (i-is : i ≡ j + passing ed (base + at) (linesFrom table lines j))
+  module _ (n j i : ℕ) (p : Stand) (c : Seeking s part table lines base ed p₀ n j p)
+      (i-is : i ≡ j + passing ed (base + p .at .0) (linesFrom table lines j))
     where
       abbrev left : List Entry
       left = drop j old
 
-      skipped : drop i old ≡ drop (passing ed (base + at) left) left
-      skipped = rw (i-is, lines-drop j lines table) (sym (drop-drop (passing ed (base + at) left) j old))
+      skipped : drop i old ≡ drop (passing ed (base + p .at .0) left) left
+      skipped = rw (i-is, lines-drop j lines table) (sym (drop-drop (passing ed (base + p .at .0) left) j old))
 
       pub still-inside : i ≤ lines
       still-inside =
           omega
-          (arith, rw (lines-drop j lines table) at i-is, passing-few ed (base + at) left, length-drop j old, entries-length lines table, c .inside)
+          (arith, rw (lines-drop j lines table) at i-is, passing-few ed (base + p .at .0) left, length-drop j old, entries-length lines table, c .inside)
 
-      passed-on : PassedBy ed old (base + at) i
-      passed-on later rest b = c .passed later rest b ∙ kept-after ed (base + at) later rest b left ∙ rw skipped
+      passed-on : PassedBy ed old (base + p .at .0) i
+      passed-on later rest b = c .passed later rest b ∙ kept-after ed (base + p .at .0) later rest b left ∙ rw skipped
 
-      past : Past ed (base + at) (drop i old)
-      past = rw skipped (past-passing ed (base + at) left)
+      past : Past ed (base + p .at .0) (drop i old)
+      past = rw skipped (past-passing ed (base + p .at .0) left)
 
       -- Old line i is met: laying stops there.
-      stop-by : (es : List Entry) → drop i old ≡ es → meetsFirst ed (base + at) (restBehind base r) es ≡ true
-          → againFrom s part ed old base at r ≡ record { laid = []; kept = map (movedEntry ed) es }
+      stop-by : (es : List Entry) → drop i old ≡ es → meetsFirst ed (base + p .at .0) (restBehind base (p .rest)) es ≡ true
+          → againFrom s part ed old base p ≡ record { laid = []; kept = map (movedEntry ed) es }
       unfolding meetsFirst
       stop-by [] e m = absurd (false≢true m)
       stop-by (x ∷ es) e m =
-          again-stop s part ed old base at r (c .ready .rest) x es
-          (passed-on (base + at) (restBehind base r) (omega arith) ∙ rw e (met-first ed (base + at) (restBehind base r) (x ∷ es) m))
+          again-stop s part ed old base p (c .ready) x es
+          (passed-on (base + p .at .0) (restBehind base (p .rest)) (omega arith) ∙ rw e (met-first ed (base + p .at .0) (restBehind base (p .rest)) (x ∷ es) m))
 
-      module _ (rest : Rest) (rest-is : rest ≡ restBehind base r) where
-        pub stops : meetsFirst ed (base + at) rest (linesFrom table lines i) ≡ true → record { laid = n; kept = i } ≡ foundIn lines whole
+      module _ (rest : Rest) (rest-is : rest ≡ restBehind base (p .rest)) where
+        pub stops : meetsFirst ed (base + p .at .0) rest (linesFrom table lines i) ≡ true → record { laid = n; kept = i } ≡ foundIn lines whole
         unfolding foundIn
         stops m =
             let a = stop-by (drop i old) refl (rw (rest-is, lines-drop i lines table) at m) in
@@ -123,35 +116,32 @@ module _ (s : Settings) (part table : List ℕ) (lines base : ℕ) (ed : Edit) (
             λ k. record { laid = laid k; kept = kept k }
 
         -- It is not: nothing is kept yet, and a line is laid.
-        module _ (m : meetsFirst ed (base + at) rest (linesFrom table lines i) ≡ false) (rising : Rising old) (l : LineAt)
-            (e : l ≡ lineFrom s part at r)
-          where
-            none : keptFrom ed (base + at) (restBehind base r) old ≡ []
-            none =
-                passed-on (base + at) (restBehind base r) (omega arith)
-                ∙ none-met ed (base + at) (restBehind base r) (drop i old) (rising-drop i old rising) past
-                (rw (rest-is, lines-drop i lines table) at m)
+        module _ (m : meetsFirst ed (base + p .at .0) rest (linesFrom table lines i) ≡ false) (rising : Rising old) (x : LaidRow) (z : Step s part p x) where
+          none : keptFrom ed (base + p .at .0) (restBehind base (p .rest)) old ≡ []
+          none =
+              passed-on (base + p .at .0) (restBehind base (p .rest)) (omega arith)
+              ∙ none-met ed (base + p .at .0) (restBehind base (p .rest)) (drop i old) (rising-drop i old rising) past
+              (rw (rest-is, lines-drop i lines table) at m)
 
-            -- The line that ends the text.
-            pub finds-last : isLast (l .ended) ≡ true → record { laid = n + 1; kept = lines } ≡ foundIn lines whole
-            unfolding foundIn
-            finds-last h =
-                let a = again-last s part ed old base at r (c .ready .rest) none (last-is (lineFrom s part at r .ended) (rw e at h)) in
-                let laid : n + 1 ≡ length (whole .laid) = omega (arith, c .count, ap (λ (x : Again). length (x .laid)) a) in
-                let left = ap length (sym (c .kept) ∙ ap (λ (x : Again). x .kept) a) in
-                let kept : lines ≡ lines - length (whole .kept) = omega (arith, left) in
-                λ k. record { laid = laid k; kept = kept k }
+          -- The line that ends the text.
+          pub finds-last : x .last ≡ true → record { laid = n + 1; kept = lines } ≡ foundIn lines whole
+          unfolding foundIn
+          finds-last h =
+              let a = again-last s part ed old base p (c .ready) none x z h in
+              let laid : n + 1 ≡ length (whole .laid) = omega (arith, c .count, ap (λ (y : Again). length (y .laid)) a) in
+              let left = ap length (sym (c .kept) ∙ ap (λ (y : Again). y .kept) a) in
+              let kept : lines ≡ lines - length (whole .kept) = omega (arith, left) in
+              λ k. record { laid = laid k; kept = kept k }
 
-            -- Any other.
-            pub seeks-on : isLast (l .ended) ≡ false → Seeking s part table lines base ed r₀ (n + 1) i (l .next .0) (l .rest)
-            seeks-on h =
-                let a = again-more s part ed old base at r (c .ready .rest) none (not-last (lineFrom s part at r .ended) (rw e at h)) in
-                let f = further s part n at r l e (c .ready) h in
-                record {
-                  ready = ready-next s part n at r l e (c .ready);
-                  few = omega (arith, c .few);
-                  inside = still-inside;
-                  passed = λ later rest b. passed-on later rest (omega arith);
-                  count = rw e (omega (arith, c .count, ap (λ (x : Again). length (x .laid)) a));
-                  kept = rw e (sym (ap (λ (x : Again). x .kept) a) ∙ c .kept);
-                }
+          -- Any other.
+          pub seeks-on : x .last ≡ false → Seeking s part table lines base ed p₀ (n + 1) i (x .next)
+          seeks-on h =
+              let a = again-more s part ed old base p (c .ready) none x z h in
+              let f = further s part p x z h in
+              record {
+                ready = ready-next s part p x z;
+                inside = still-inside;
+                passed = λ later rest b. passed-on later rest (omega arith);
+                count = omega (arith, c .count, ap (λ (y : Again). length (y .laid)) a);
+                kept = sym (ap (λ (y : Again). y .kept) a) ∙ c .kept;
+              }

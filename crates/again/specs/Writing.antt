@@ -4,95 +4,103 @@ use Prim.Native.Nat.{ℕ, suc, _+_, _-_, _*_, _≤_, _<_}
 use native.Mathlib.Omega.{arith}
 use mathlib.Core.Path.{_≡_, refl, sym, ap, _∙_}
 use mathlib.Core.List.{List, _∷_}
-use lib.ListN.{length}
-use Rattle.meaning.specs.Table.{ofEntry, ofAll}
+use lib.ListN.{length, take}
+use Rattle.basis.specs.Choice.{by-test}
+use Rattle.meaning.specs.Table.{ofEntry}
 use Rattle.meaning.specs.Edit.{movedEntry}
 use Rattle.meaning.specs.declared.settings.Settings.{Settings}
 use Rattle.meaning.specs.declared.line.Entry.{Entry}
-use Rattle.laws.specs.TableLaws.{entry-numbers}
-use Rattle.line.specs.Laying.{LineReady}
-use Rattle.line.specs.LineFrom.{lineFrom}
 use Rattle.line.specs.LineLaws.{entry-small}
-use Rattle.steps.specs.declared.step.Resumed.{Resumed}
-use Rattle.line.specs.declared.line.LineAt.{LineAt}
 use Rattle.table.specs.Numbers.{putNumbers}
-use Rattle.table.specs.Stretches.{join-behind, put-none}
 use Rattle.table.specs.Moving.{MovableEntry}
-use Rattle.rows.specs.Turns.{ready-next}
-use Rattle.again.specs.Behind.{behind}
-use Rattle.again.specs.Laid.{laidFrom}
+use Rattle.rows.specs.Standing.{StandReady, lineAt, Step, entry-is, ready-next}
+use Rattle.rows.specs.RowsFrom.{rowHere, entriesFrom, last-entry, more-entries}
+use Rattle.rows.specs.Writing.{linesPut, none-put, first-put}
+use Rattle.rows.specs.declared.stand.Stand.{Stand}
+use Rattle.rows.specs.declared.stand.LaidRow.{LaidRow}
+use Rattle.again.specs.Behind.{behind, row-behind}
 
--- The table has room for so many lines from line k on.
-pub record WriteReady (s : Settings) (part table : List ℕ) (base k laid : ℕ) (r : Resumed) : Type 0 where
-  pub line : LineReady s part 0 r
+-- There are so many lines from a stand on, and the table has room for them from line k on.
+pub record WriteReady (s : Settings) (part table : List ℕ) (base k laid : ℕ) (p : Stand) : Type 0 where
+  pub stand : StandReady s part p
   pub low : base ≤ 65536
+  pub enough : laid ≤ length (entriesFrom s part base p)
   pub room : 10 * (k + laid) ≤ length table
 
--- A table t with these lines written from line k on.
-abbrev pub linesPut : List ℕ → (k : ℕ) → List Entry → List ℕ
-linesPut t k es = putNumbers t (10 * k) (ofAll ofEntry es)
-
--- n of the lines are written to the table t, which is u now, and the next one starts at an offset and resumes r: what is still to
--- be written to u makes what was to be written to t.
-pub record Wrote (s : Settings) (part t u : List ℕ) (base k laid : ℕ) (r₀ : Resumed) (n at : ℕ) (r : Resumed) : Type 0 where
-  pub ready : LineReady s part at r
+-- n of the lines are written to the table t, which is u now: what is still to be written to u makes what was to be written to t.
+pub record Wrote (s : Settings) (part t u : List ℕ) (base k laid : ℕ) (p₀ : Stand) (n : ℕ) (p : Stand) : Type 0 where
+  pub ready : StandReady s part p
   pub some : n ≤ laid
+  pub enough : laid - n ≤ length (entriesFrom s part base p)
   pub same : length u ≡ length t
-  pub left : linesPut t k (laidFrom laid s part base 0 r₀) ≡ linesPut u (k + n) (laidFrom (laid - n) s part base at r)
+  pub left : linesPut u (k + n) (take (laid - n) (entriesFrom s part base p)) ≡ linesPut t k (take laid (entriesFrom s part base p₀))
 
-module _ (s : Settings) (part t : List ℕ) (base k laid : ℕ) (r₀ : Resumed) where
-  pub write-start : WriteReady s part t base k laid r₀ → Wrote s part t t base k laid r₀ 0 0 r₀
+module _ (s : Settings) (part t : List ℕ) (base k laid : ℕ) (p₀ : Stand) where
+  pub write-start : WriteReady s part t base k laid p₀ → Wrote s part t t base k laid p₀ 0 p₀
   write-start h =
       let e : k + 0 ≡ k = omega arith in
       let f : laid - 0 ≡ laid = omega arith in
-      record { ready = h .line; some = omega arith; same = refl; left = rw (e, f) }
+      record { ready = h .stand; some = omega arith; enough = omega (arith, h .enough); same = refl; left = rw (e, f) }
 
-  module _ (u : List ℕ) (n at : ℕ) (r : Resumed) (c : Wrote s part t u base k laid r₀ n at r) where
+  module _ (u : List ℕ) (n : ℕ) (p : Stand) (c : Wrote s part t u base k laid p₀ n p) where
     -- All of them are written.
-    pub write-end : laid ≤ n → u ≡ linesPut t k (laidFrom laid s part base 0 r₀)
-    unfolding laidFrom ofAll
+    pub write-end : laid ≤ n → u ≡ linesPut t k (take laid (entriesFrom s part base p₀))
     write-end h =
         let e : laid - n ≡ 0 = omega arith in
-        sym (c .left ∙ rw e (put-none u (10 * (k + n))))
+        sym (none-put u (k + n)) ∙ rw e at (c .left)
 
-    module _ (l : LineAt) (is : l ≡ lineFrom s part at r) where
+    module _ (x : LaidRow) (z : Step s part p x) where
       -- No number of the line's entry is large, so that it can be moved.
-      pub line-movable : MovableEntry (behind base) (l .entry)
+      pub line-movable : MovableEntry (behind base) (x .entry)
       line-movable =
-          let a = entry-small s part at r (c .ready .rest) (c .ready .settings) (c .ready .short) (c .ready .inside) in
-          rw is
+          let r = c .ready .line in
+          let a = entry-small s part (p .at .0) (p .rest) (r .rest) (r .settings) (r .short) (r .inside) in
+          rw (entry-is s part p x z)
           (record {
-            start = (omega arith, omega (arith, a .start, c .ready .short));
-            rest = λ some. (omega arith, omega (arith, a .end, c .ready .short));
-            reach = (omega arith, omega (arith, a .reach, c .ready .short));
+            start = (omega arith, omega (arith, a .start, r .short));
+            rest = λ some. (omega arith, omega (arith, a .end, r .short));
+            reach = (omega arith, omega (arith, a .reach, r .short));
           })
 
       -- One more is written.
-      module _ (more : n < laid) (room : 10 * (k + n) + 10 ≤ length u) (e : Entry) (e-is : e ≡ movedEntry (behind base) (l .entry)) (v : List ℕ)
+      module _ (more : n < laid) (room : 10 * (k + n) + 10 ≤ length u) (e : Entry) (e-is : e ≡ movedEntry (behind base) (x .entry)) (v : List ℕ)
           (put : v ≡ putNumbers u (10 * (k + n)) (ofEntry e)) (kept : length v ≡ length u)
         where
-          split : laidFrom (laid - n) s part base at r ≡ e ∷ laidFrom (laid - (n + 1)) s part base (l .next .0) (l .rest)
-          unfolding laidFrom
-          split =
-              let m : laid - n ≡ suc (laid - (n + 1)) = omega arith in
-              rw (e-is, is, m)
+          abbrev onward : ℕ
+          onward = laid - (n + 1)
 
-          joined : linesPut u (k + n) (laidFrom (laid - n) s part base at r)
-              ≡ linesPut v (k + (n + 1)) (laidFrom (laid - (n + 1)) s part base (l .next .0) (l .rest))
-          unfolding ofAll
-          joined =
-              let es = laidFrom (laid - (n + 1)) s part base (l .next .0) (l .rest) in
-              let place : 10 * (k + n) + length (ofEntry e) ≡ 10 * (k + (n + 1)) = omega (arith, entry-numbers e) in
-              ap (linesPut u (k + n)) split
-              ∙ sym (join-behind u (10 * (k + n)) (ofEntry e) (omega arith) (ofAll ofEntry es))
-              ∙ ap (λ (i : ℕ). putNumbers (putNumbers u (10 * (k + n)) (ofEntry e)) i (ofAll ofEntry es)) place
-              ∙ ap (λ (x : List ℕ). linesPut x (k + (n + 1)) es) (sym put)
+          -- The line, and those that are still to be written: none if it ends the text.
+          pub record Rest (onward : ℕ) : Type 0 where
+            pub is : take (suc onward) (entriesFrom s part base p) ≡ e ∷ take onward (entriesFrom s part base (x .next))
+            pub enough : onward ≤ length (entriesFrom s part base (x .next))
 
-          pub write-next : Wrote s part t v base k laid r₀ (n + 1) (l .next .0) (l .rest)
+          here : e ≡ rowHere s part base p .entry
+          here = e-is ∙ row-behind s part base p x z
+
+          rest : Rest onward
+          rest =
+              by-test (x .last)
+              (λ h.
+              let f = last-entry s part base p x z e here h in
+              let none : onward ≡ 0 = omega (arith, c .enough, ap length f) in
+              rw none (record { is = rw f; enough = omega arith }))
+              (λ h.
+              let f = more-entries s part base p x z e here h in
+              record { is = rw f; enough = omega (arith, c .enough, ap length f) })
+
+          pub write-next : Wrote s part t v base k laid p₀ (n + 1) (x .next)
           write-next =
+              let es = take onward (entriesFrom s part base (x .next)) in
+              let m : laid - n ≡ suc onward = omega arith in
+              let i : k + (n + 1) ≡ k + n + 1 = omega arith in
               record {
-                ready = ready-next s part n at r l is (c .ready);
+                ready = ready-next s part p x z;
                 some = omega arith;
+                enough = rest .enough;
                 same = kept ∙ c .same;
-                left = c .left ∙ joined;
+                left = rw i
+                    (ap (λ (y : List ℕ). linesPut y (k + n + 1) es) put
+                    ∙ sym (first-put u (k + n) e es (omega arith))
+                    ∙ ap (linesPut u (k + n)) (sym (rest .is))
+                    ∙ rw m at (c .left));
               }

@@ -11,7 +11,7 @@ use Rattle.meaning.specs.declared.line.Entry.{Entry}
 use Rattle.laws.specs.TableLaws.{entries-numbers, all-append, all-numbers-read}
 use Rattle.table.specs.Numbers.{putNumbers}
 use Rattle.table.specs.Stretches.{join-ahead}
-use Rattle.again.specs.Writing.{linesPut}
+use Rattle.rows.specs.Writing.{linesPut}
 
 module _ (t : List ℕ) (n : ℕ) (us : List Entry) (is : entriesIn n t ≡ us) (room : 10 * n ≤ length t) where
   front-numbers : ofAll ofEntry us ≡ take (10 * n) t

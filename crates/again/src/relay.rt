@@ -8,6 +8,7 @@ use meaning::answers::Relaid;
 use meaning::edit::Edit;
 use meaning::refusals::Refusal;
 use meaning::settings::Settings;
+use rows::stand::at_front;
 use table::entries::read_entry;
 use table::moving::move_lines;
 ghost use mathlib.Core.Path.{_≡_};
@@ -33,18 +34,19 @@ fn lay_lines(
     ensures { λ r. ⌜ now (table .exit) ≡ relayTable s (now (part .entry)) (now (table .entry)) lines edit ⌝ }
 {
     let e = read_entry(table, k);
-    let rest = held_of(part, e);
+    let front = at_front(held_of(part, e));
     let base = e.start;
-    let found = find_stop(part, s, table, lines, k, base, edit, rest);
+    let found = find_stop(part, s, table, lines, k, base, edit, front);
     let kept = found.kept;
     let left = lines - kept;
     let to = k + found.laid;
-    if table.len() / 10 < to + left {
-        return Relaid::Refused(Refusal::TooSmall((to + left) as u64));
+    let after = to + left;
+    if table.len() / 10 < after {
+        return Relaid::Refused(Refusal::TooSmall(after as u64));
     }
     move_lines(table, kept, to, left, edit);
-    write_again(part, s, table, base, k, found.laid, rest);
-    Relaid::Lines((to + left) as u64, found.laid as u64)
+    write_again(part, s, table, base, k, found.laid, front);
+    Relaid::Lines(after as u64, found.laid as u64)
 }
 
 // Refusals 1 to 6 and 8 in this order (7 never arises), of which none writes anything; else the lines laid from the first affected

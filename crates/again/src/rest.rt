@@ -1,9 +1,9 @@
 // The rest that the first affected line resumes: refusal 5 of it, and what it is.
 use crate::meeting::less;
-use rows::lines::nothing;
 use meaning::counts::Chars;
 use meaning::counts::Offset;
 use meaning::line::Entry;
+use steps::ending::nothing_left;
 use steps::step::Resumed;
 use table::one_line::has_no_rest;
 use unicode::text::count_chars;
@@ -55,7 +55,7 @@ pub fn held_of(part: &[u8], e: Entry) -> Resumed
     ensures { λ r. ⌜ r ≡ resumedOf e (decodeAll (now (part .entry))) ⌝ }
 {
     if has_no_rest(e) {
-        return nothing();
+        return nothing_left();
     }
     let end = rest_end(e);
     let chars = chars_before(part, end);

@@ -1,16 +1,14 @@
 // Where laying again stops: at the first line that an old line meets, or at the text's end. Nothing is written.
 use crate::meeting::meets_line;
 use crate::meeting::stands_before;
-use rows::lines::is_last;
 use meaning::counts::Chars;
 use meaning::counts::Offset;
 use meaning::edit::Edit;
 use meaning::line::Rest;
 use meaning::settings::Settings;
-use steps::first::known_from;
-use steps::first::nothing_known;
-use line::line::lay_line;
 use steps::step::Resumed;
+use rows::stand::Stand;
+use rows::stand::lay_row;
 use table::entries::read_entry;
 ghost use Prim.Native.Nat.{_+_, _*_, _≤_};
 ghost use mathlib.Core.Path.{_≡_};
@@ -70,7 +68,7 @@ fn meets_first(table: &[u32], lines: usize, j: usize, edit: Edit, start: Offset,
     meets_line(edit, start, rest, read_entry(table, j))
 }
 
-// Lays lines from the part's front on, before each of which the old lines from line k on are looked at.
+// Lays lines from a stand on, before each of which the old lines from line k on are looked at.
 pub fn find_stop(
     part: &[u8],
     s: Settings,
@@ -79,36 +77,32 @@ pub fn find_stop(
     k: usize,
     base: Offset,
     edit: Edit,
-    rest: Resumed,
+    front: Stand,
 ) -> Found
-    requires { ⌜ FindReady s (now part) (now table) lines k (base .0) edit rest ⌝ }
-    ensures { λ r. ⌜ r ≡ foundIn lines (againFrom s (now (part .entry)) edit (entriesIn lines (now (table .entry))) (base .0) 0 rest) ⌝ }
+    requires { ⌜ FindReady s (now part) (now table) lines k (base .0) edit front ⌝ }
+    ensures { λ r. ⌜ r ≡ foundIn lines (againFrom s (now (part .entry)) edit (entriesIn lines (now (table .entry))) (base .0) front) ⌝ }
 {
     let mut n: usize = 0;
     let mut j: usize = k;
-    let mut at: usize = 0;
-    let mut held = rest;
-    let mut known = nothing_known();
+    let mut stand = front;
     loop {
-        let first = base.0 + at as u32;
+        let first = base.0 + stand.at.0;
         let start = Offset(first);
         j = skip_before(table, lines, j, edit, start);
-        let before = rest_behind(base, held);
-        if meets_first(table, lines, j, edit, start, before) {
+        let held = stand.rest;
+        let rest = rest_behind(base, held);
+        if meets_first(table, lines, j, edit, start, rest) {
             return Found { laid: n, kept: j };
         }
-        known = known_from(part, at, held, known);
-        let line = lay_line(part, s, at, held, known);
+        let row = lay_row(part, s, stand);
         n += 1;
-        let ended = line.ended;
-        if is_last(ended) {
+        if row.last {
             return Found {
                 laid: n,
                 kept: lines,
             };
         }
-        at = line.next.0 as usize;
-        let more = line.rest;
-        held = more;
+        let next = row.next;
+        stand = next;
     }
 }

@@ -3,19 +3,19 @@ use meaning::counts::Offset;
 use meaning::edit::Edit;
 use meaning::line::Entry;
 use meaning::settings::Settings;
-use steps::first::known_from;
-use steps::first::nothing_known;
-use line::line::lay_line;
-use steps::step::Resumed;
+use rows::stand::Stand;
+use rows::stand::lay_row;
 use table::entries::write_entry;
 use table::moving::moved_entry;
 ghost use Prim.Native.Nat.{_≤_};
 ghost use mathlib.Core.Path.{_≡_};
+ghost use lib.ListN.{take};
 ghost use Rattle.meaning.specs.Edit.{movedEntry};
 ghost use Rattle.table.specs.Moving.{MovableEntry};
+ghost use Rattle.rows.specs.RowsFrom.{entriesFrom};
+ghost use Rattle.rows.specs.Writing.{linesPut};
 ghost use Rattle.again.specs.Behind.{behind};
-ghost use Rattle.again.specs.Laid.{laidFrom};
-ghost use Rattle.again.specs.Writing.{WriteReady, linesPut};
+ghost use Rattle.again.specs.Writing.{WriteReady};
 
 // A line of a part that stands behind so many bytes, as a line of the whole.
 fn entry_behind(base: Offset, e: Entry) -> Entry
@@ -30,7 +30,7 @@ fn entry_behind(base: Offset, e: Entry) -> Entry
     moved_entry(e, front)
 }
 
-// Lays the part's first lines once more, and writes them from line k on.
+// Lays so many lines from a stand on once more, and writes them from line k on.
 pub fn write_again(
     part: &[u8],
     s: Settings,
@@ -38,24 +38,20 @@ pub fn write_again(
     base: Offset,
     k: usize,
     laid: usize,
-    rest: Resumed,
+    front: Stand,
 )
-    requires { ⌜ WriteReady s (now part) (now table) (base .0) k laid rest ⌝ }
-    ensures { λ _. ⌜ now (table .exit) ≡ linesPut (now (table .entry)) k (laidFrom laid s (now (part .entry)) (base .0) 0 rest) ⌝ }
+    requires { ⌜ WriteReady s (now part) (now table) (base .0) k laid front ⌝ }
+    ensures { λ _. ⌜ now (table .exit) ≡ linesPut (now (table .entry)) k (take laid (entriesFrom s (now (part .entry)) (base .0) front)) ⌝ }
 {
     let mut n: usize = 0;
-    let mut at: usize = 0;
-    let mut held = rest;
-    let mut known = nothing_known();
+    let mut stand = front;
     while n < laid {
-        known = known_from(part, at, held, known);
-        let line = lay_line(part, s, at, held, known);
-        let entry = line.entry;
+        let row = lay_row(part, s, stand);
+        let entry = row.entry;
         let whole = entry_behind(base, entry);
         write_entry(table, k + n, whole);
         n += 1;
-        at = line.next.0 as usize;
-        let more = line.rest;
-        held = more;
+        let next = row.next;
+        stand = next;
     }
 }

@@ -19,9 +19,8 @@ use Rattle.meaning.specs.declared.answers.LaidWithEvents.{LaidWithEvents}
 use Rattle.meaning.specs.declared.answers.LaidWithEvents.the-variants as drawing
 use Rattle.laws.specs.TestOrder.{first-alone}
 use Rattle.table.specs.Numbers.{putEvents, put-events}
-use Rattle.rows.specs.RowsFrom.{entriesOf}
+use Rattle.rows.specs.RowsFrom.{entriesOf, entries-are}
 use Rattle.layout.specs.EventsFrom.{eventsOf, events-are}
-use Rattle.rows.specs.GoodInput.{entries-are}
 use Rattle.layout.specs.Checking.{long-enough}
 
 -- The lines that were written, as the definitions of the calls speak of them.

@@ -21,9 +21,9 @@ use Rattle.meaning.specs.declared.refusals.Checked.the-variants.{Good, Refused}
 use Rattle.laws.specs.TableLaws.{capacity-is}
 use Rattle.laws.specs.Calls3.{layout-takes, refuse-good}
 use Rattle.laws.specs.TestOrder.{first-alone, first-refused, first-good}
-use Rattle.rows.specs.RowsFrom.{TextReady, entriesOf}
+use Rattle.rows.specs.RowsFrom.{TextReady, entriesOf, entries-are, few-entries}
 use Rattle.layout.specs.EventsFrom.{eventsOf, few-events}
-use Rattle.rows.specs.GoodInput.{text-ready, entries-are, few-entries}
+use Rattle.rows.specs.GoodInput.{text-ready}
 
 -- ---- the room of a buffer (8)
 

@@ -1,9 +1,10 @@
--- The events of a text's lines from an offset on, and how those of one line come off the front of them.
+-- The events of a text's lines from a stand on, and how those of one line come off the front of them.
 -- Assumes nothing.
 use Prim.Native.Nat.{ℕ, suc, _+_, _≤_}
 use native.Mathlib.Omega.{arith}
 use native.Mathlib.Nat.{add-zero, zero-add}
 use mathlib.Core.Path.{_≡_, refl, sym, ap, _∙_}
+use mathlib.Core.Bool.{true, false}
 use mathlib.Core.List.{List, [], _∷_, _++_, append-nil}
 use lib.ListN.{length, take, drop, length-append, take-append-drop}
 use Rattle.unicode.specs.Encoding.{size}
@@ -15,49 +16,52 @@ use Rattle.meaning.specs.Layout.{Row, rowAt, rows, allEvents}
 use Rattle.meaning.specs.Calls.{textRows, textEvents}
 use Rattle.meaning.specs.declared.settings.Settings.{Settings}
 use Rattle.meaning.specs.declared.cursor.Place.{Place}
-use Rattle.meaning.specs.declared.line.LineEnd.the-variants.{EndOfText}
 use Rattle.meaning.specs.declared.line.Entry.{Entry}
 use Rattle.meaning.specs.declared.line.Event.{Event}
 use Rattle.laws.specs.Shift.{pass-events}
 use Rattle.laws.specs.PassBounds.{size-take}
-use Rattle.laws.specs.RowInduction.{FitsIn, unless-cases, each-row}
+use Rattle.laws.specs.RowInduction.{FitsIn, each-row}
 use Rattle.parser.specs.Lexing.{charsFrom}
-use Rattle.steps.specs.Unrolled.{nothingResumed}
 use Rattle.steps.specs.Lexed.{chars-within}
-use Rattle.steps.specs.Pending.{RestFits}
-use Rattle.line.specs.LineFrom.{heldIn, lineAtOf, lineFrom}
-use Rattle.line.specs.LineLaws.{next-start}
-use Rattle.steps.specs.Stepping.{resumedAt}
-use Rattle.steps.specs.declared.step.Resumed.{Resumed}
+use Rattle.steps.specs.Knowing.{KnownFits}
+use Rattle.line.specs.LineFrom.{lineAtOf, lineFrom}
 use Rattle.drawing.specs.Drawn.{drawnFrom, eventsFrom}
 use Rattle.drawing.specs.PassDrawn.{DrawRoom}
 use Rattle.drawing.specs.DrawnBounds.{line-few}
-use Rattle.rows.specs.RowsFrom.{rowsFrom, rows-step}
+use Rattle.rows.specs.Standing.{atStart, Step, entry-is}
+use Rattle.rows.specs.RowsFrom.{rowsFrom, rowHere, last-row, more-rows}
+use Rattle.rows.specs.declared.stand.Stand.{Stand}
+use Rattle.rows.specs.declared.stand.LaidRow.{LaidRow}
 
--- The events of a text, and those of its lines from an offset on.
+-- The events of a text, and those of its lines from a stand on.
 unfoldable pub eventsOf : Settings → List ℕ → List Event
 eventsOf s t = allEvents (rows s (charsFrom t 0))
 
-unfoldable pub eventsAfter : Settings → List ℕ → (at : ℕ) → Resumed → List Event
-eventsAfter s t at r = allEvents (rowsFrom s t at (heldIn r))
+unfoldable pub eventsAfter : Settings → List ℕ → Stand → List Event
+eventsAfter s t p = allEvents (rowsFrom s t 0 p)
 
 -- The events that the definitions of the call speak of.
 pub events-are : (s : Settings) (t : List ℕ) → eventsOf s t ≡ textEvents s t
 unfolding eventsOf textEvents textRows charsFrom
 events-are s t = refl
 
-pub all-events : (s : Settings) (t : List ℕ) → eventsAfter s t 0 nothingResumed ≡ eventsOf s t
+pub all-events : (s : Settings) (t : List ℕ) → eventsAfter s t atStart ≡ eventsOf s t
 unfolding eventsOf eventsAfter rowsFrom rows
 all-events s t = refl
 
 -- ---- one line, from its entry
 
--- Where a line with this entry is drawn from, and its events.
+-- Where a line with this entry is drawn from, and the events of such a line at a stand.
 unfoldable pub placeIn : Settings → Entry → Place
 placeIn s e = startPlace s (e .left .0) (record { width = e .space; extra = e .extra })
 
-unfoldable pub lineEvents : Settings → List ℕ → (at : ℕ) → Resumed → Entry → List Event
-lineEvents s t at r e = eventsFrom s (placeIn s e) t at (r .chars .0) (r .count .0) (e .left .0)
+unfoldable pub lineEvents : Settings → List ℕ → Stand → Entry → List Event
+lineEvents s t p e = eventsFrom s (placeIn s e) t (p .at .0) (p .rest .chars .0) (p .rest .count .0) (e .left .0)
+
+-- What drawing it takes for granted, with so many events before it.
+pub record DrawReady (s : Settings) (t : List ℕ) (p : Stand) (x : LaidRow) (k : ℕ) : Type 0 where
+  pub room : DrawRoom s (placeIn s (x .entry)) t (p .at .0) (p .rest) (x .entry .left .0) k
+  pub known : KnownFits t (x .next .known)
 
 -- A pass that runs at its offset has the events of the pass from the front.
 from-start : (s : Settings) (p : Place) (t : List ℕ) (at chars count x : ℕ)
@@ -74,66 +78,46 @@ events-length at x [] = refl
 events-length at x (d ∷ ds) = omega (arith, events-length at (x + d .width) ds)
 
 -- As the running call draws them, from a place that it made of the entry.
-module _ (s : Settings) (t : List ℕ) (at : ℕ) (r : Resumed) (e : Entry) (start : Place)
+module _ (s : Settings) (t : List ℕ) (p : Stand) (e : Entry) (start : Place)
     (is : start ≡ startPlace s (e .left .0) (record { width = e .space; extra = e .extra }))
   where
-    pub place-room : (k : ℕ) → DrawRoom s (placeIn s e) t at r (e .left .0) k → DrawRoom s start t at r (e .left .0) k
+    pub place-room : (k : ℕ) → DrawRoom s (placeIn s e) t (p .at .0) (p .rest) (e .left .0) k → DrawRoom s start t (p .at .0) (p .rest) (e .left .0) k
     unfolding placeIn
     place-room k h = rw is h
 
-    pub place-events : eventsFrom s start t at (r .chars .0) (r .count .0) (e .left .0) ≡ lineEvents s t at r e
+    pub place-events : eventsFrom s start t (p .at .0) (p .rest .chars .0) (p .rest .count .0) (e .left .0) ≡ lineEvents s t p e
     unfolding lineEvents placeIn
     place-events = rw is
 
-    pub place-length : length (drawnFrom s start t at (r .chars .0) (r .count .0)) ≡ length (lineEvents s t at r e)
+    pub place-length : length (drawnFrom s start t (p .at .0) (p .rest .chars .0) (p .rest .count .0)) ≡ length (lineEvents s t p e)
     unfolding eventsFrom
     place-length =
-        sym (events-length 0 (e .left .0) (drawnFrom s start t at (r .chars .0) (r .count .0))) ∙ ap length place-events
+        sym (events-length 0 (e .left .0) (drawnFrom s start t (p .at .0) (p .rest .chars .0) (p .rest .count .0))) ∙ ap length place-events
 
-module _ (s : Settings) (t : List ℕ) (at : ℕ) (r : Resumed) where
+module _ (s : Settings) (t : List ℕ) (p : Stand) (x : LaidRow) (z : Step s t p x) where
   -- They are those of its row.
-  row-events : lineEvents s t at r (lineFrom s t at r .entry)
-      ≡ rowAt at (heldIn r) (charsFrom t at) (layLine s (heldIn r) (charsFrom t at)) .events
-  unfolding lineEvents placeIn lineFrom lineAtOf entryAt rowAt layLine lineOf lineTokens
+  row-events : lineEvents s t p (x .entry) ≡ rowHere s t 0 p .events
+  unfolding lineEvents placeIn lineFrom lineAtOf entryAt rowHere rowAt layLine lineOf lineTokens
   row-events =
-      let p = placing s (measuring s (heldTokens (r .chars .0) (r .count .0) (charsFrom t at))) in
-      from-start s (startPlace s (p .left .0) (p .spaces)) t at (r .chars .0) (r .count .0) (p .left .0)
+      let at = p .at .0 in
+      let r = p .rest in
+      let q = placing s (measuring s (heldTokens (r .chars .0) (r .count .0) (charsFrom t at))) in
+      let start = startPlace s (q .left .0) (q .spaces) in
+      let ds = process s start 0 (heldTokens (r .chars .0) (r .count .0) (charsFrom t at)) .drawn in
+      ap (lineEvents s t p) (entry-is s t p x z)
+      ∙ from-start s start t at (r .chars .0) (r .count .0) (q .left .0)
+      ∙ ap (λ (n : ℕ). eventsAt n (q .left .0) ds) (sym (zero-add at))
 
-  module _ (f : RestFits t at r) where
-    -- There are no more of them than bytes in the line.
-    pub line-events-few : at + length (lineEvents s t at r (lineFrom s t at r .entry)) ≤ lineFrom s t at r .next .0
-    unfolding rowAt
-    line-events-few =
-        let l = layLine s (heldIn r) (charsFrom t at) in
-        omega (
-          arith,
-          ap length row-events,
-          events-length at (l .placed .left .0) (l .drawn),
-          line-few s (heldIn r) (charsFrom t at) (f .within) (f .counts),
-          next-start s t at r,
-        )
+  -- The last line's events.
+  pub one-drawn : x .last ≡ true → eventsAfter s t p ≡ lineEvents s t p (x .entry)
+  unfolding eventsAfter allEvents
+  one-drawn h = ap allEvents (last-row s t 0 p x z h) ∙ append-nil _ ∙ sym row-events
 
-    -- The last line's events.
-    pub one-drawn : lineFrom s t at r .ended ≡ EndOfText → eventsAfter s t at r ≡ lineEvents s t at r (lineFrom s t at r .entry)
-    unfolding eventsAfter allEvents lineFrom lineAtOf
-    one-drawn e =
-        let h = heldIn r in
-        let l = layLine s h (charsFrom t at) in
-        let more = rowsFrom s t (at + size (take (l .chars) (charsFrom t at))) (l .held) in
-        rw (rows-step s t at h (f .within) (f .counts), unless-cases (λ rs. rs ≡ []) (l .ended) more (λ _. refl) (λ d. absurd (d e)))
-        (append-nil _ ∙ sym row-events)
-
-    -- A line's events, and those of the lines from where it ended on.
-    pub more-drawn : (lineFrom s t at r .ended ≡ EndOfText → ⊥)
-        → eventsAfter s t at r
-        ≡ lineEvents s t at r (lineFrom s t at r .entry) ++ eventsAfter s t (lineFrom s t at r .next .0) (lineFrom s t at r .rest)
-    unfolding eventsAfter allEvents lineFrom lineAtOf resumedAt
-    more-drawn d =
-        let h = heldIn r in
-        let l = layLine s h (charsFrom t at) in
-        let more = rowsFrom s t (at + size (take (l .chars) (charsFrom t at))) (l .held) in
-        rw (rows-step s t at h (f .within) (f .counts), unless-cases (λ rs. rs ≡ more) (l .ended) more (λ e. absurd (d e)) (λ _. refl))
-        (ap (λ (es : List Event). es ++ allEvents more) (sym row-events))
+  -- A line's events, and those of the lines from the next stand on.
+  pub more-drawn : x .last ≡ false → eventsAfter s t p ≡ lineEvents s t p (x .entry) ++ eventsAfter s t (x .next)
+  unfolding eventsAfter allEvents
+  more-drawn h =
+      ap allEvents (more-rows s t 0 p x z h) ∙ ap (λ (es : List Event). es ++ allEvents (rowsFrom s t 0 (x .next))) (sym row-events)
 
 -- ---- all lines
 

@@ -1,11 +1,11 @@
 // The tests of a fresh layout, in their order. None of them writes anything.
 use crate::events::count_events;
-use rows::lines::count_lines;
 use checks::settings::check_settings;
 use checks::text::check_text;
 use meaning::refusals::Checked;
 use meaning::refusals::Refusal;
 use meaning::settings::Settings;
+use rows::lines::count_lines;
 ghost use mathlib.Core.Path.{_≡_};
 ghost use lib.ListN.{length};
 ghost use Rattle.meaning.specs.Checks.{checkRoom};

@@ -1,51 +1,45 @@
 // The events of a text's lines, one line after the other: counted, and drawn as each line is written.
-use rows::lines::is_last;
-use rows::lines::nothing;
 use drawing::pass::draw_pass;
 use meaning::cursor::Spaces;
-use meaning::line::Entry;
 use meaning::settings::Settings;
-use steps::first::Known;
-use steps::first::known_from;
-use steps::first::nothing_known;
-use line::line::lay_line;
 use steps::place::start_place;
-use steps::step::Resumed;
+use rows::stand::LaidRow;
+use rows::stand::Stand;
+use rows::stand::at_start;
+use rows::stand::lay_row;
 use table::entries::write_entry;
 ghost use Prim.Native.Nat.{_+_, _*_, _≤_};
 ghost use mathlib.Core.Path.{_≡_};
 ghost use lib.ListN.{length};
 ghost use Rattle.meaning.specs.Table.{ofEntry, ofAll, written};
-ghost use Rattle.steps.specs.Knowing.{KnownFits};
 ghost use Rattle.table.specs.Numbers.{putEvents};
-ghost use Rattle.drawing.specs.PassDrawn.{DrawRoom};
 ghost use Rattle.rows.specs.RowsFrom.{TextReady, entriesOf};
-ghost use Rattle.layout.specs.EventsFrom.{eventsOf, placeIn, lineEvents};
+ghost use Rattle.layout.specs.EventsFrom.{eventsOf, lineEvents, DrawReady};
 
-// The events of the line at an offset, after a rest that it resumes, where a word may be known, from its entry: events number k and
-// on. How many there are with those before.
+// The events of the line at a stand, from the row that was laid there: events number k and on. How many there are with those before.
 fn draw_line(
     text: &[u8],
     s: Settings,
-    at: usize,
-    rest: Resumed,
-    known: Known,
-    e: Entry,
+    stand: Stand,
+    row: LaidRow,
     events: &mut [u32],
     k: usize,
 ) -> usize
-    requires { ⌜ DrawRoom s (placeIn s e) (now text) at rest (e .left .0) k × KnownFits (now text) known ⌝ }
-    ensures { λ r. ⌜ now (events .exit) ≡ putEvents (now (events .entry)) k (lineEvents s (now (text .entry)) at rest e) ⌝ }
-    ensures { λ r. ⌜ r ≡ k + length (lineEvents s (now (text .entry)) at rest e) ⌝ }
+    requires { ⌜ DrawReady s (now text) stand row k ⌝ }
+    ensures { λ r. ⌜ now (events .exit) ≡ putEvents (now (events .entry)) k (lineEvents s (now (text .entry)) stand (row .entry)) ⌝ }
+    ensures { λ r. ⌜ r ≡ k + length (lineEvents s (now (text .entry)) stand (row .entry)) ⌝ }
 {
-    let left = e.left;
-    let space = e.space;
-    let extra = e.extra;
+    let left = row.entry.left;
+    let space = row.entry.space;
+    let extra = row.entry.extra;
     let spaces = Spaces {
         width: space,
         extra,
     };
     let start = start_place(s, left, spaces);
+    let at = stand.at.0 as usize;
+    let rest = stand.rest;
+    let known = row.next.known;
     draw_pass(text, s, start, at, rest, known, left.0, events, k)
 }
 
@@ -56,21 +50,15 @@ pub fn draw_lines(text: &[u8], s: Settings, events: &mut [u32]) -> usize
     ensures { λ r. ⌜ now (events .exit) ≡ putEvents (now (events .entry)) 0 (eventsOf s (now (text .entry))) ⌝ }
 {
     let mut k: usize = 0;
-    let mut at: usize = 0;
-    let mut rest = nothing();
-    let mut known = nothing_known();
+    let mut stand = at_start();
     loop {
-        known = known_from(text, at, rest, known);
-        let line = lay_line(text, s, at, rest, known);
-        let entry = line.entry;
-        k = draw_line(text, s, at, rest, known, entry, events, k);
-        let ended = line.ended;
-        if is_last(ended) {
+        let row = lay_row(text, s, stand);
+        k = draw_line(text, s, stand, row, events, k);
+        if row.last {
             return k;
         }
-        at = line.next.0 as usize;
-        let held = line.rest;
-        rest = held;
+        let next = row.next;
+        stand = next;
     }
 }
 
@@ -101,25 +89,20 @@ pub fn write_and_draw(text: &[u8], s: Settings, table: &mut [u32], events: &mut 
 {
     let mut lines: usize = 0;
     let mut drawn: usize = 0;
-    let mut at: usize = 0;
-    let mut rest = nothing();
-    let mut known = nothing_known();
+    let mut stand = at_start();
     loop {
-        known = known_from(text, at, rest, known);
-        let line = lay_line(text, s, at, rest, known);
-        let entry = line.entry;
+        let row = lay_row(text, s, stand);
+        let entry = row.entry;
         write_entry(table, lines, entry);
         lines += 1;
-        drawn = draw_line(text, s, at, rest, known, entry, events, drawn);
-        let ended = line.ended;
-        if is_last(ended) {
+        drawn = draw_line(text, s, stand, row, events, drawn);
+        if row.last {
             return Both {
                 lines,
                 events: drawn,
             };
         }
-        at = line.next.0 as usize;
-        let held = line.rest;
-        rest = held;
+        let next = row.next;
+        stand = next;
     }
 }

@@ -1,9 +1,9 @@
 // The fresh layout of a text: a public call.
 use crate::checked::check_layout;
-use rows::lines::write_lines;
 use meaning::answers::Laid;
 use meaning::refusals::Checked;
 use meaning::settings::Settings;
+use rows::lines::write_lines;
 ghost use mathlib.Core.Path.{_≡_};
 ghost use Rattle.meaning.specs.Calls.{layoutAnswer, layoutTable};
 

@@ -1,30 +1,22 @@
--- What the checks of settings and text say for the lines: no sum wraps, and there are few of them.
+-- What the checks of settings and text say for the lines: no sum wraps.
 -- Assumes nothing.
-use Prim.Native.Nat.{ℕ, suc, _+_, _≤_}
-use native.Mathlib.Omega.{arith}
-use mathlib.Core.Path.{_≡_, refl}
+use Prim.Native.Nat.{ℕ}
+use mathlib.Core.Path.{_≡_}
 use mathlib.Core.Bool.{true, _&&_}
-use mathlib.Core.List.{List, map}
+use mathlib.Core.List.{List}
 use borrow.Author.Tests.{leb-true}
 use lib.Dec.{leb}
-use lib.ListN.{length, length-map}
 use Rattle.basis.specs.Choice.{pick, and-true}
 use Rattle.basis.specs.Order.{within, within-true}
 use Rattle.meaning.specs.Settings.{topInRange, sizesInRange, inRange, isSwitch, knownAlignment, knownVertical}
 use Rattle.meaning.specs.Checks.{checkSettings, checkText}
-use Rattle.meaning.specs.Layout.{rows, entryOfRow}
-use Rattle.meaning.specs.Calls.{textRows, textEntries}
 use Rattle.meaning.specs.declared.settings.Settings.{Settings}
 use Rattle.meaning.specs.declared.refusals.Refusal.the-variants.{SettingOutOfRange, UnknownAlignment}
 use Rattle.meaning.specs.declared.refusals.Checked.the-variants.{Good, Refused}
-use Rattle.laws.specs.LayoutBounds.{few-lines}
-use Rattle.laws.specs.TokenLaws.{length-size}
-use Rattle.parser.specs.Lexing.{charsFrom}
 use Rattle.parser.specs.GoodText.{good-length}
 use Rattle.steps.specs.Fine.{FineSettings}
-use Rattle.steps.specs.Lexed.{chars-within}
 use Rattle.laws.specs.GoodLines.{good-both}
-use Rattle.rows.specs.RowsFrom.{TextReady, entriesOf}
+use Rattle.rows.specs.RowsFrom.{TextReady}
 
 module _ (s : Settings) (h : checkSettings s ≡ Good) where
   judged : (inRange s ≡ true) × (knownAlignment (s .alignment) ≡ true)
@@ -67,15 +59,3 @@ module _ (s : Settings) (h : checkSettings s ≡ Good) where
 
   pub text-ready : (t : List ℕ) → checkText t ≡ Good → TextReady s t
   text-ready t e = record { settings = fine-settings; short = good-length t e }
-
--- The entries that the definitions of the call speak of.
-pub entries-are : (s : Settings) (t : List ℕ) → entriesOf s t ≡ textEntries s t
-unfolding entriesOf textEntries textRows charsFrom
-entries-are s t = refl
-
--- At most one line more than bytes.
-pub few-entries : (s : Settings) (t : List ℕ) → length (entriesOf s t) ≤ length t + 1
-unfolding entriesOf
-few-entries s t =
-    let cs = charsFrom t 0 in
-    rw length-map (omega (arith, few-lines s cs, length-size cs, chars-within t 0))

@@ -1,3 +1,4 @@
+pub mod Standing
 pub mod RowsFrom
 pub mod Writing
 pub mod Turns

@@ -1,114 +1,165 @@
--- The lines of a text from an offset on, and how one line comes off the front of them.
+-- The lines that are left to lay from a stand on: a step takes one line off their front.
 -- Assumes nothing.
-use Prim.Native.Nat.{ℕ, zero, suc, _+_, _≤_, _<_}
+use Prim.Native.Nat.{ℕ, suc, _+_, _≤_}
+use native.Mathlib.Nat.{zero-add}
 use native.Mathlib.Omega.{arith}
-use mathlib.Core.Path.{_≡_, refl, sym, ap, _∙_}
-use mathlib.Core.Bool.{Bool, true, false, false≢true}
+use mathlib.Core.Path.{_≡_, refl, sym, ap, subst, _∙_}
+use mathlib.Core.Bool.{true, false}
 use mathlib.Core.List.{List, [], _∷_, map}
-use lib.ListN.{length, take, drop, length-drop, take-append-drop}
+use lib.ListN.{length, take, drop, length-map}
 use Rattle.unicode.specs.Encoding.{size}
-use Rattle.meaning.specs.LineIter.{Held, nothingHeld}
-use Rattle.meaning.specs.Line.{Line, layLine}
+use Rattle.meaning.specs.Line.{Line, layLine, entryAt}
 use Rattle.meaning.specs.Layout.{Row, rowAt, unlessEnded, rowsBy, rows, entryOfRow}
+use Rattle.meaning.specs.Calls.{textRows, textEntries}
 use Rattle.meaning.specs.declared.settings.Settings.{Settings}
-use Rattle.meaning.specs.declared.line.LineEnd.{LineEnd}
-use Rattle.meaning.specs.declared.line.LineEnd.the-variants.{NewLine, CarriageReturn, EndOfText, LineBreak}
+use Rattle.meaning.specs.declared.line.LineEnd.the-variants.{EndOfText}
 use Rattle.meaning.specs.declared.line.Entry.{Entry}
-use Rattle.laws.specs.LineBounds.{line-chars, line-rest, line-held, line-takes}
+use Rattle.laws.specs.LineBounds.{line-rest, line-held}
+use Rattle.laws.specs.LayoutBounds.{rows-length}
 use Rattle.laws.specs.Fuel.{rows-fuel}
-use Rattle.laws.specs.Stands.{unless-both}
+use Rattle.laws.specs.Stands.{unless-both, next-fewer}
 use Rattle.laws.specs.RowInduction.{unless-cases}
+use Rattle.laws.specs.TokenLaws.{length-size}
 use Rattle.parser.specs.Lexing.{charsFrom}
-use Rattle.parser.specs.NextLaws.{chars-after}
 use Rattle.steps.specs.Fine.{FineSettings}
-use Rattle.steps.specs.Stepping.{resumedAt}
-use Rattle.steps.specs.Unrolled.{nothingResumed}
+use Rattle.steps.specs.Lexed.{chars-within}
 use Rattle.steps.specs.Pending.{RestFits}
 use Rattle.line.specs.LineFrom.{heldIn, lineAtOf, lineFrom}
-use Rattle.steps.specs.declared.step.Resumed.{Resumed}
+use Rattle.line.specs.LineLaws.{next-start, next-held, next-chars}
+use Rattle.rows.specs.Standing.{atStart, Step, ends, goes-on, entry-is, next-at, next-rest-is}
+use Rattle.rows.specs.declared.stand.Stand.{Stand}
+use Rattle.rows.specs.declared.stand.LaidRow.{LaidRow}
 
--- The lines that are laid from an offset on, before which a rest was held.
-unfoldable pub rowsFrom : Settings → List ℕ → (at : ℕ) → Held → List Row
-rowsFrom s t at h = rowsBy (suc (length (charsFrom t at))) s at h (charsFrom t at)
+-- The lines from a stand on, in a text that stands behind so many bytes of a whole.
+unfoldable pub rowsFrom : Settings → List ℕ → (base : ℕ) → Stand → List Row
+rowsFrom s t base p =
+    let cs = charsFrom t (p .at .0) in
+    rowsBy (suc (length cs)) s (base + p .at .0) (heldIn (p .rest)) cs
 
-pub rows-start : (s : Settings) (t : List ℕ) → rows s (charsFrom t 0) ≡ rowsFrom s t 0 nothingHeld
-unfolding rows rowsFrom
-rows-start s t = refl
+-- The first of them.
+unfoldable pub rowHere : Settings → List ℕ → (base : ℕ) → Stand → Row
+rowHere s t base p =
+    let h = heldIn (p .rest) in
+    let cs = charsFrom t (p .at .0) in
+    rowAt (base + p .at .0) h cs (layLine s h cs)
 
--- The characters after the first k.
-chars-drop : (t : List ℕ) (at k : ℕ) → charsFrom t (at + size (take k (charsFrom t at))) ≡ drop k (charsFrom t at)
-chars-drop t at k =
-    let cs = charsFrom t at in
-    chars-after t (take k cs) (drop k cs) at (sym (take-append-drop k cs))
+-- ---- one line off the front
 
-module _ (s : Settings) (t : List ℕ) (at : ℕ) (h : Held) (f : h .chars ≤ length (charsFrom t at)) (g : h .count ≤ h .chars) where
+module _ (s : Settings) (t : List ℕ) (base : ℕ) (p : Stand) where
+  abbrev cs : List ℕ
+  cs = charsFrom t (p .at .0)
+
   abbrev line : Line
-  line = layLine s h (charsFrom t at)
+  line = layLine s (heldIn (p .rest)) cs
 
-  -- The lines after the first are those from where it ended on.
-  pub rows-step : rowsFrom s t at h
-      ≡ rowAt at h (charsFrom t at) line ∷ unlessEnded (line .ended) (rowsFrom s t (at + size (take (line .chars) (charsFrom t at))) (line .held))
-  unfolding rowsFrom rowsBy
-  rows-step =
-      let cs = charsFrom t at in
-      let k = line .chars in
-      ap (λ (rs : List Row). rowAt at h cs line ∷ rs)
-      (unless-both _≡_ (line .ended) _ _ (λ e. refl) (λ d.
-      rw (chars-drop t at k)
-      (rows-fuel (length cs) (suc (length (drop k cs))) s (at + size (take k cs)) (line .held) (drop k cs)
-      (line-rest s h cs f g) (line-held s h cs f g)
-      (simp length-drop (omega (arith, line-takes s h cs f g d, line-chars s h cs f g))) (omega arith))))
+  off-front : rowsFrom s t base p
+      ≡ rowHere s t base p
+      ∷ unlessEnded (line .ended) (rowsBy (length cs) s (base + p .at .0 + size (take (line .chars) cs)) (line .held) (drop (line .chars) cs))
+  unfolding rowsFrom rowHere rowsBy
+  off-front = refl
 
--- ---- as the running calls lay them
+  -- There is a line: what holds of it before any others holds of them all.
+  pub first-row : (P : List Row → Type 0) → ((rs : List Row) → P (rowHere s t base p ∷ rs)) → P (rowsFrom s t base p)
+  first-row P f = subst P (sym off-front) (f _)
+
+  some-rows : 1 ≤ length (rowsFrom s t base p)
+  some-rows = first-row (λ rs. 1 ≤ length rs) (λ rs. omega arith)
+
+  -- At most one more than bytes.
+  pub few-rows : length (rowsFrom s t base p) ≤ length t + 1
+  unfolding rowsFrom
+  few-rows =
+      omega (arith, rows-length (suc (length cs)) s (base + p .at .0) (heldIn (p .rest)) cs, length-size cs, chars-within t (p .at .0))
+
+  module _ (x : LaidRow) (z : Step s t p x) where
+    abbrev ready-rest : RestFits t (p .at .0) (p .rest)
+    ready-rest = z .ready .line .rest
+
+    -- What is left when the line is laid.
+    after-line : (line .ended ≡ EndOfText → ⊥)
+        → rowsBy (length cs) s (base + p .at .0 + size (take (line .chars) cs)) (line .held) (drop (line .chars) cs) ≡ rowsFrom s t base (x .next)
+    unfolding rowsFrom
+    after-line d =
+        let at = p .at .0 in
+        let h = heldIn (p .rest) in
+        let more = drop (line .chars) cs in
+        let start : base + x .next .at .0 ≡ base + at + size (take (line .chars) cs) =
+        omega (arith, next-at s t p x z, next-start s t at (p .rest)) in
+        let chars : charsFrom t (x .next .at .0) ≡ more = ap (charsFrom t) (next-at s t p x z) ∙ next-chars s t at (p .rest) in
+        let held : heldIn (x .next .rest) ≡ line .held = ap heldIn (next-rest-is s t p x z) ∙ next-held s t at (p .rest) in
+        rw (start, chars, held)
+        (rows-fuel (length cs) (suc (length more)) s (base + at + size (take (line .chars) cs)) (line .held) more
+        (line-rest s h cs (ready-rest .within) (ready-rest .counts)) (line-held s h cs (ready-rest .within) (ready-rest .counts))
+        (next-fewer s h cs (ready-rest .within) (ready-rest .counts) d (length cs) (omega arith)) (omega arith))
+
+    rows-step : rowsFrom s t base p ≡ rowHere s t base p ∷ unlessEnded (line .ended) (rowsFrom s t base (x .next))
+    rows-step = off-front ∙ ap (λ (rs : List Row). rowHere s t base p ∷ rs) (unless-both _≡_ (line .ended) _ _ (λ _. refl) after-line)
+
+    -- The line that ends the text is the last of them.
+    pub last-row : x .last ≡ true → rowsFrom s t base p ≡ rowHere s t base p ∷ []
+    unfolding lineFrom lineAtOf
+    last-row h =
+        rows-step
+        ∙ ap (λ (rs : List Row). rowHere s t base p ∷ rs)
+        (unless-cases (λ rs. rs ≡ []) (line .ended) _ (λ _. refl) (λ d. absurd (d (ends s t p x z h))))
+
+    -- Any other is followed by those from the next stand on.
+    pub more-rows : x .last ≡ false → rowsFrom s t base p ≡ rowHere s t base p ∷ rowsFrom s t base (x .next)
+    unfolding lineFrom lineAtOf
+    more-rows h =
+        rows-step
+        ∙ ap (λ (rs : List Row). rowHere s t base p ∷ rs)
+        (unless-cases (λ rs. rs ≡ rowsFrom s t base (x .next)) (line .ended) _ (λ e. absurd (goes-on s t p x z h e)) (λ _. refl))
+
+-- Where nothing stands before the text, the first of them is the line that the step answers.
+pub entry-here : (s : Settings) (t : List ℕ) (p : Stand) (x : LaidRow) → Step s t p x → x .entry ≡ rowHere s t 0 p .entry
+unfolding rowHere rowAt lineFrom lineAtOf
+entry-here s t p x z =
+    let h = heldIn (p .rest) in
+    let cs = charsFrom t (p .at .0) in
+    entry-is s t p x z ∙ ap (λ (n : ℕ). entryAt n h cs (layLine s h cs)) (sym (zero-add (p .at .0)))
+
+-- ---- their entries
 
 -- What the public call has checked.
 pub record TextReady (s : Settings) (t : List ℕ) : Type 0 where
   pub settings : FineSettings s
   pub short : length t ≤ 65535
 
--- The entries of a text, and those from an offset on.
+-- The entries of a text, and those from a stand on.
 unfoldable pub entriesOf : Settings → List ℕ → List Entry
 entriesOf s t = map entryOfRow (rows s (charsFrom t 0))
 
-unfoldable pub entriesFrom : Settings → List ℕ → (at : ℕ) → Resumed → List Entry
-entriesFrom s t at r = map entryOfRow (rowsFrom s t at (heldIn r))
+unfoldable pub entriesFrom : Settings → List ℕ → (base : ℕ) → Stand → List Entry
+entriesFrom s t base p = map entryOfRow (rowsFrom s t base p)
 
-abbrev pub isLast : LineEnd → Bool
-isLast EndOfText = true
-isLast NewLine = false
-isLast CarriageReturn = false
-isLast LineBreak = false
-
-pub all-entries : (s : Settings) (t : List ℕ) → entriesFrom s t 0 nothingResumed ≡ entriesOf s t
+pub all-entries : (s : Settings) (t : List ℕ) → entriesFrom s t 0 atStart ≡ entriesOf s t
 unfolding entriesOf entriesFrom rowsFrom rows
 all-entries s t = refl
 
-pub last-is : (e : LineEnd) → isLast e ≡ true → e ≡ EndOfText
-last-is EndOfText h = refl
-last-is NewLine h = absurd (false≢true h)
-last-is CarriageReturn h = absurd (false≢true h)
-last-is LineBreak h = absurd (false≢true h)
+-- The entries that the definitions of the call speak of.
+pub entries-are : (s : Settings) (t : List ℕ) → entriesOf s t ≡ textEntries s t
+unfolding entriesOf textEntries textRows charsFrom
+entries-are s t = refl
 
-pub not-last : (e : LineEnd) → isLast e ≡ false → e ≡ EndOfText → ⊥
-not-last e h q = false≢true (sym h ∙ ap isLast q)
-
-module _ (s : Settings) (t : List ℕ) (at : ℕ) (r : Resumed) (f : RestFits t at r) where
-  -- There is a line.
-  pub some-left : 1 ≤ length (entriesFrom s t at r)
+module _ (s : Settings) (t : List ℕ) (base : ℕ) (p : Stand) where
+  pub some-entries : 1 ≤ length (entriesFrom s t base p)
   unfolding entriesFrom
-  some-left = rw (rows-step s t at (heldIn r) (f .within) (f .counts)) (omega arith)
+  some-entries = rw length-map (some-rows s t base p)
 
-  -- The last line.
-  pub one-left : lineFrom s t at r .ended ≡ EndOfText → entriesFrom s t at r ≡ lineFrom s t at r .entry ∷ []
-  unfolding entriesFrom lineFrom lineAtOf rowAt unlessEnded
-  one-left e = rw (rows-step s t at (heldIn r) (f .within) (f .counts), e)
+  pub few-from : length (entriesFrom s t base p) ≤ length t + 1
+  unfolding entriesFrom
+  few-from = rw length-map (few-rows s t base p)
 
-  -- A line, and those from where it ended on.
-  pub more-left : (lineFrom s t at r .ended ≡ EndOfText → ⊥)
-      → entriesFrom s t at r ≡ lineFrom s t at r .entry ∷ entriesFrom s t (lineFrom s t at r .next .0) (lineFrom s t at r .rest)
-  unfolding entriesFrom lineFrom lineAtOf rowAt resumedAt
-  more-left d =
-      let h = heldIn r in
-      let l = layLine s h (charsFrom t at) in
-      let more = rowsFrom s t (at + size (take (l .chars) (charsFrom t at))) (l .held) in
-      rw (rows-step s t at h (f .within) (f .counts), unless-cases (λ rs. rs ≡ more) (l .ended) more (λ e. absurd (d e)) (λ _. refl))
+  module _ (x : LaidRow) (z : Step s t p x) (e : Entry) (is : e ≡ rowHere s t base p .entry) where
+    pub last-entry : x .last ≡ true → entriesFrom s t base p ≡ e ∷ []
+    unfolding entriesFrom
+    last-entry h = rw is (ap (map entryOfRow) (last-row s t base p x z h))
+
+    pub more-entries : x .last ≡ false → entriesFrom s t base p ≡ e ∷ entriesFrom s t base (x .next)
+    unfolding entriesFrom
+    more-entries h = rw is (ap (map entryOfRow) (more-rows s t base p x z h))
+
+-- At most one line more than bytes.
+pub few-entries : (s : Settings) (t : List ℕ) → length (entriesOf s t) ≤ length t + 1
+few-entries s t = omega (arith, ap length (all-entries s t), few-from s t 0 atStart)

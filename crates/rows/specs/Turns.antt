@@ -1,115 +1,96 @@
 -- One turn of the loops that count lines and write them.
 -- Assumes nothing.
-use Prim.Native.Nat.{ℕ, suc, _+_, _*_, _≤_, _<_}
+use Prim.Native.Nat.{ℕ, _+_, _*_, _≤_}
 use native.Mathlib.Omega.{arith}
-use native.Mathlib.Numerals.{add-one}
-use mathlib.Core.Path.{_≡_, refl, sym, ap, subst, _∙_}
+use mathlib.Core.Path.{_≡_, refl, sym, ap, _∙_}
 use mathlib.Core.Bool.{true, false}
 use mathlib.Core.List.{List, [], _∷_}
-use lib.ListN.{length, take, drop}
-use lib.Seq.{take-length}
+use lib.ListN.{length}
 use Rattle.meaning.specs.Table.{ofEntry, ofAll, written}
 use Rattle.meaning.specs.declared.settings.Settings.{Settings}
-use Rattle.meaning.specs.declared.line.LineEnd.the-variants.{EndOfText}
 use Rattle.meaning.specs.declared.line.Entry.{Entry}
-use Rattle.table.specs.Numbers.{putNumbers, nothing-written}
+use Rattle.table.specs.Numbers.{putNumbers}
 use Rattle.steps.specs.Unrolled.{nothingResumed}
 use Rattle.steps.specs.Running.{none-fits}
-use Rattle.line.specs.Laying.{LineReady}
-use Rattle.line.specs.LineFrom.{lineFrom}
-use Rattle.line.specs.LineLaws.{next-within, next-further, next-rest}
-use Rattle.steps.specs.declared.step.Resumed.{Resumed}
-use Rattle.line.specs.declared.line.LineAt.{LineAt}
-use Rattle.rows.specs.RowsFrom.{TextReady, entriesOf, entriesFrom, isLast, all-entries, last-is, not-last, one-left, more-left, some-left}
-use Rattle.rows.specs.Writing.{drop-more, write-more}
+use Rattle.steps.specs.Knowing.{nothingKnown, nothing-fits}
+use Rattle.rows.specs.Standing.{atStart, StandReady, Step, ready-next}
+use Rattle.rows.specs.RowsFrom.{TextReady, entriesOf, entriesFrom, all-entries, entry-here, some-entries, few-entries, last-entry, more-entries}
+use Rattle.rows.specs.Writing.{linesPut, none-put, first-put, all-put}
+use Rattle.rows.specs.declared.stand.Stand.{Stand}
+use Rattle.rows.specs.declared.stand.LaidRow.{LaidRow}
 
 -- ---- counting
 
--- n lines are passed, and the next one starts at an offset and resumes r.
-pub record Counted (s : Settings) (t : List ℕ) (n at : ℕ) (r : Resumed) : Type 0 where
-  pub ready : LineReady s t at r
-  pub left : n + length (entriesFrom s t at r) ≡ length (entriesOf s t)
-  pub few : n ≤ at
+-- n lines are passed, and the others are laid from a stand on.
+pub record Counted (s : Settings) (t : List ℕ) (n : ℕ) (p : Stand) : Type 0 where
+  pub ready : StandReady s t p
+  pub left : n + length (entriesFrom s t 0 p) ≡ length (entriesOf s t)
 
-pub start-ready : (s : Settings) (t : List ℕ) (r : Resumed) → TextReady s t → r ≡ nothingResumed → LineReady s t 0 r
-start-ready s t r h e = record { settings = h .settings; short = h .short; inside = omega arith; rest = none-fits t 0 r e }
+pub start-ready : (s : Settings) (t : List ℕ) (p : Stand) → TextReady s t → p ≡ atStart → StandReady s t p
+start-ready s t p h e =
+    rw e
+    (record {
+      line = record { settings = h .settings; short = h .short; inside = omega arith; rest = none-fits t 0 nothingResumed refl };
+      known = nothing-fits t nothingKnown refl;
+    })
 
-pub count-start : (s : Settings) (t : List ℕ) (r : Resumed) → TextReady s t → r ≡ nothingResumed → Counted s t 0 0 r
-count-start s t r h e =
-    record {
-      ready = start-ready s t r h e;
-      left = rw e (omega (arith, ap length (all-entries s t)));
-      few = omega arith;
-    }
+pub count-start : (s : Settings) (t : List ℕ) (p : Stand) → TextReady s t → p ≡ atStart → Counted s t 0 p
+count-start s t p h e =
+    record { ready = start-ready s t p h e; left = rw e (omega (arith, ap length (all-entries s t))) }
 
-module _ (s : Settings) (t : List ℕ) (n at : ℕ) (r : Resumed) (l : LineAt) (e : l ≡ lineFrom s t at r) where
-  -- The line that ends the text is the last of them.
-  alone : LineReady s t at r → isLast (l .ended) ≡ true → entriesFrom s t at r ≡ l .entry ∷ []
-  alone c h = rw e (one-left s t at r (c .rest) (last-is (lineFrom s t at r .ended) (rw e at h)))
+module _ (s : Settings) (t : List ℕ) (n : ℕ) (p : Stand) (c : Counted s t n p) where
+  -- There is a next line.
+  pub one-left : n + 1 ≤ length (entriesOf s t)
+  one-left = omega (arith, c .left, some-entries s t 0 p)
 
-  -- Any other is followed by those from its end on.
-  followed : LineReady s t at r → isLast (l .ended) ≡ false → entriesFrom s t at r ≡ l .entry ∷ entriesFrom s t (l .next .0) (l .rest)
-  followed c h = rw e (more-left s t at r (c .rest) (not-last (lineFrom s t at r .ended) (rw e at h)))
+  -- No count of lines wraps.
+  pub count-low : n ≤ 65535
+  count-low = omega (arith, one-left, few-entries s t, c .ready .line .short)
 
-  pub further : LineReady s t at r → isLast (l .ended) ≡ false → at < l .next .0
-  further c h = rw e (next-further s t at r (c .rest) (not-last (lineFrom s t at r .ended) (rw e at h)))
+  module _ (x : LaidRow) (z : Step s t p x) where
+    pub count-last : x .last ≡ true → n + 1 ≡ length (entriesOf s t)
+    count-last h = omega (arith, c .left, ap length (last-entry s t 0 p x z (x .entry) (entry-here s t p x z) h))
 
-  pub stays : LineReady s t at r → l .next .0 ≤ length t
-  stays c = rw e (next-within s t at r (c .inside))
-
-  pub ready-next : LineReady s t at r → LineReady s t (l .next .0) (l .rest)
-  ready-next c =
-      rw e
-      (record { settings = c .settings; short = c .short; inside = next-within s t at r (c .inside); rest = next-rest s t at r (c .rest) })
-
-  pub count-last : Counted s t n at r → isLast (l .ended) ≡ true → n + 1 ≡ length (entriesOf s t)
-  count-last c h = omega (arith, c .left, ap length (alone (c .ready) h))
-
-  pub count-more : Counted s t n at r → isLast (l .ended) ≡ false → Counted s t (n + 1) (l .next .0) (l .rest)
-  count-more c h =
-      record {
-        ready = ready-next (c .ready);
-        left = omega (arith, c .left, ap length (followed (c .ready) h));
-        few = omega (arith, c .few, further (c .ready) h);
-      }
+    pub count-more : x .last ≡ false → Counted s t (n + 1) (x .next)
+    count-more h =
+        record {
+          ready = ready-next s t p x z;
+          left = omega (arith, c .left, ap length (more-entries s t 0 p x z (x .entry) (entry-here s t p x z) h));
+        }
 
 -- ---- writing
 
--- The first n lines are written to the table t₀, which is u now.
-pub record Wrote (s : Settings) (t t₀ u : List ℕ) (n at : ℕ) (r : Resumed) : Type 0 where
-  pub counted : Counted s t n at r
-  pub next : drop n (entriesOf s t) ≡ entriesFrom s t at r
-  pub is : u ≡ written t₀ (ofAll ofEntry (take n (entriesOf s t)))
+-- n lines are written to the table t₀, which is u now: what is still to be written to u makes what was to be written to t₀.
+pub record Wrote (s : Settings) (t t₀ u : List ℕ) (n : ℕ) (p : Stand) : Type 0 where
+  pub counted : Counted s t n p
+  pub same : length u ≡ length t₀
+  pub left : linesPut u n (entriesFrom s t 0 p) ≡ written t₀ (ofAll ofEntry (entriesOf s t))
 
-pub write-start : (s : Settings) (t t₀ : List ℕ) (r : Resumed) → TextReady s t → r ≡ nothingResumed → Wrote s t t₀ t₀ 0 0 r
-unfolding ofAll
-write-start s t t₀ r h e =
-    record { counted = count-start s t r h e; next = rw e (sym (all-entries s t)); is = sym (nothing-written t₀) }
+pub write-start : (s : Settings) (t t₀ : List ℕ) (p : Stand) → TextReady s t → p ≡ atStart → Wrote s t t₀ t₀ 0 p
+write-start s t t₀ p h e =
+    record { counted = count-start s t p h e; same = refl; left = rw (e, all-entries s t) (all-put t₀ (entriesOf s t)) }
 
-module _ (s : Settings) (t t₀ u v : List ℕ) (n at : ℕ) (r : Resumed) (l : LineAt) (e : l ≡ lineFrom s t at r)
-    (put : v ≡ putNumbers u (10 * n) (ofEntry (l .entry)))
-  where
-    wrote-one : (es : List Entry) → Wrote s t t₀ u n at r → entriesFrom s t at r ≡ l .entry ∷ es
-        → v ≡ written t₀ (ofAll ofEntry (take (n + 1) (entriesOf s t)))
-    wrote-one es w f =
-        rw add-one
-        (put ∙ ap (λ (x : List ℕ). putNumbers x (10 * n) (ofEntry (l .entry))) (w .is) ∙ write-more t₀ n (entriesOf s t) (l .entry) es (w .next ∙ f))
+module _ (s : Settings) (t t₀ u : List ℕ) (n : ℕ) (p : Stand) (w : Wrote s t t₀ u n p) (room : 10 * length (entriesOf s t) ≤ length t₀) where
+  -- There is a next line, so the table has room for it.
+  pub room-left : 10 * n + 10 ≤ length u
+  room-left = omega (arith, w .same, one-left s t n p (w .counted))
 
-    pub write-last : Wrote s t t₀ u n at r → isLast (l .ended) ≡ true → v ≡ written t₀ (ofAll ofEntry (entriesOf s t))
-    write-last w h =
-        let k = count-last s t n at r l e (w .counted) h in
-        wrote-one [] w (alone s t n at r l e (w .counted .ready) h)
-        ∙ ap (λ (es : List Entry). written t₀ (ofAll ofEntry es)) (ap (λ (m : ℕ). take m (entriesOf s t)) k ∙ take-length (entriesOf s t))
+  -- It is laid, and written too.
+  module _ (x : LaidRow) (z : Step s t p x) (v : List ℕ) (put : v ≡ putNumbers u (10 * n) (ofEntry (x .entry))) (kept : length v ≡ length u) where
+    one-put : (es : List Entry) → entriesFrom s t 0 p ≡ x .entry ∷ es → linesPut v (n + 1) es ≡ written t₀ (ofAll ofEntry (entriesOf s t))
+    one-put es f =
+        ap (λ (y : List ℕ). linesPut y (n + 1) es) put
+        ∙ sym (first-put u n (x .entry) es (omega (arith, room-left)))
+        ∙ ap (linesPut u n) (sym f)
+        ∙ w .left
 
-    pub write-next : Wrote s t t₀ u n at r → isLast (l .ended) ≡ false → Wrote s t t₀ v (n + 1) (l .next .0) (l .rest)
-    write-next w h =
-        let f = followed s t n at r l e (w .counted .ready) h in
+    pub write-last : x .last ≡ true → v ≡ written t₀ (ofAll ofEntry (entriesOf s t))
+    write-last h = sym (none-put v (n + 1)) ∙ one-put [] (last-entry s t 0 p x z (x .entry) (entry-here s t p x z) h)
+
+    pub write-next : x .last ≡ false → Wrote s t t₀ v (n + 1) (x .next)
+    write-next h =
         record {
-          counted = count-more s t n at r l e (w .counted) h;
-          next = rw add-one (drop-more n (entriesOf s t) (l .entry) _ (w .next ∙ f));
-          is = wrote-one _ w f;
+          counted = count-more s t n p (w .counted) x z h;
+          same = kept ∙ w .same;
+          left = one-put (entriesFrom s t 0 (x .next)) (more-entries s t 0 p x z (x .entry) (entry-here s t p x z) h);
         }
-
--- There is a next line, so the table has room for it.
-pub room-left : (s : Settings) (t t₀ u : List ℕ) (n at : ℕ) (r : Resumed) → Wrote s t t₀ u n at r → n + 1 ≤ length (entriesOf s t)
-room-left s t t₀ u n at r w = omega (arith, w .counted .left, some-left s t at r (w .counted .ready .rest))

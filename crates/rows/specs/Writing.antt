@@ -1,34 +1,35 @@
--- Lines written to a table one after the other: the entries written so far are the first n of all of them.
+-- Lines written to a table from a line on, one after the other.
 -- Assumes nothing.
-use Prim.Native.Nat.{ℕ, zero, suc, _+_, _*_, _≤_, _<_}
+use Prim.Native.Nat.{ℕ, _+_, _*_, _≤_}
+use native.Mathlib.Nat.{zero-add}
 use native.Mathlib.Omega.{arith}
-use native.Mathlib.Nat.{not-suc-le-zero}
-use mathlib.Core.Path.{_≡_, refl, sym, ap, _∙_}
-use mathlib.Core.List.{List, [], _∷_, _++_}
-use lib.ListN.{length, take, drop, length-take, length-drop}
+use mathlib.Core.Path.{_≡_, sym, ap, _∙_}
+use mathlib.Core.List.{List, [], _∷_}
+use lib.ListN.{length}
 use Rattle.meaning.specs.Table.{ofEntry, ofAll, written}
 use Rattle.meaning.specs.declared.line.Entry.{Entry}
-use Rattle.table.specs.Numbers.{putNumbers, put-next-entry}
+use Rattle.laws.specs.TableLaws.{entry-numbers}
+use Rattle.table.specs.Numbers.{putNumbers}
+use Rattle.table.specs.Stretches.{join-behind, put-none}
 
--- The element at n comes to those before it.
-take-more : (n : ℕ) (l : List Entry) (e : Entry) (es : List Entry) → drop n l ≡ e ∷ es → take (suc n) l ≡ take n l ++ (e ∷ [])
-take-more zero (x ∷ l) e es h = cc
-take-more (suc n) (x ∷ l) e es h = ap (λ (r : List Entry). x ∷ r) (take-more n l e es h)
-take-more zero [] e es h = cc
-take-more (suc n) [] e es h = cc
+-- A table with these lines written from line k on.
+abbrev pub linesPut : List ℕ → (k : ℕ) → List Entry → List ℕ
+linesPut t k es = putNumbers t (10 * k) (ofAll ofEntry es)
 
-pub drop-more : (n : ℕ) (l : List Entry) (e : Entry) (es : List Entry) → drop n l ≡ e ∷ es → drop (suc n) l ≡ es
-drop-more zero (x ∷ l) e es h = cc
-drop-more (suc n) (x ∷ l) e es h = drop-more n l e es h
-drop-more zero [] e es h = cc
-drop-more (suc n) [] e es h = cc
+pub none-put : (t : List ℕ) (k : ℕ) → linesPut t k [] ≡ t
+unfolding ofAll
+none-put t k = put-none t (10 * k)
 
-pub more-left : (n : ℕ) (l : List Entry) (e : Entry) (es : List Entry) → drop n l ≡ e ∷ es → n < length l
-more-left n l e es h = omega (arith, length-drop n l, ap length h)
+-- One line is written, and then the others.
+pub first-put : (t : List ℕ) (k : ℕ) (e : Entry) (es : List Entry) → 10 * k ≤ length t
+    → linesPut t k (e ∷ es) ≡ linesPut (putNumbers t (10 * k) (ofEntry e)) (k + 1) es
+unfolding ofAll
+first-put t k e es h =
+    let place : 10 * k + length (ofEntry e) ≡ 10 * (k + 1) = omega (arith, entry-numbers e) in
+    sym (join-behind t (10 * k) (ofEntry e) h (ofAll ofEntry es))
+    ∙ ap (λ (i : ℕ). putNumbers (putNumbers t (10 * k) (ofEntry e)) i (ofAll ofEntry es)) place
 
--- One entry more is written.
-pub write-more : (t : List ℕ) (n : ℕ) (l : List Entry) (e : Entry) (es : List Entry) → drop n l ≡ e ∷ es
-    → putNumbers (written t (ofAll ofEntry (take n l))) (10 * n) (ofEntry e) ≡ written t (ofAll ofEntry (take (suc n) l))
-write-more t n l e es h =
-    let k : length (take n l) ≡ n = simp length-take (omega (arith, more-left n l e es h)) in
-    rw (take-more n l e es h) (rw k at (put-next-entry t (take n l) e))
+-- From the first line on.
+pub all-put : (t : List ℕ) (es : List Entry) → linesPut t 0 es ≡ written t (ofAll ofEntry es)
+unfolding putNumbers written
+all-put t es = rw (zero-add (length (ofAll ofEntry es)))

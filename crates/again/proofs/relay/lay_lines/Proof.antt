@@ -1,7 +1,9 @@
--- `lay_lines` meets its contract.
+-- `again::relay::lay_lines` meets its contract.
 -- Assumes nothing.
 use Rattle.again.specs.Relaying.{Sought, kept-within, counts-low, no-room, movable, write-ready, relaid-whole}
 use native.Mathlib.Omega.{arith}
+use mathlib.Core.Path.{ap, _∙_}
+use Rattle.rows.specs.Standing.{atFront}
 use Rattle.table.specs.GoodTable.{table-room}
 use Rattle.again.specs.GoodRelay.{all-good, is-affected, short-part, rest-good, find-ready}
 use borrow.Author.Needs.{needs}
@@ -21,29 +23,35 @@ held-of-requires c κs =
     let first = start .pre .1 in
     (g .utf8, rest-good _ _ _ _ _ g _ first _ (c .read-entry .ensures), short-part _ _ _ _ _ g _ first)
 
+at-front-requires : tie.Need-at-front-requires
+at-front-requires c κs = search needs
+
 find-stop-requires : tie.Need-find-stop-requires
 find-stop-requires c κs =
-    let h = c .before .before in
+    let f = c .before .before in
+    let h = f .before in
     let e = h .before in
     let start = e .before .before .before .before in
-    find-ready _ _ _ _ _ (all-good _ _ _ _ _ (start .pre .0)) _ (start .pre .1) _ (e .read-entry .ensures) _ (h .held-of .ensures)
+    find-ready _ _ _ _ _ (all-good _ _ _ _ _ (start .pre .0)) _ (start .pre .1) _ (e .read-entry .ensures) _
+    (f .at-front .ensures ∙ ap atFront (h .held-of .ensures))
 
 -- What is known once laying has found where it stops.
 sought : (f : tie.After-find-stop) →
-    let h = f .before .before .before in
-    let e = h .before in
+    let p = f .before .before .before in
+    let e = p .before .before in
     let a = e .before .before .before .before .args in
-    Sought (a .s) (a .part .now) (a .table .now) (a .lines) (a .edit) (a .k) (e .read-entry .result) (h .held-of .result)
+    Sought (a .s) (a .part .now) (a .table .now) (a .lines) (a .edit) (a .k) (e .read-entry .result) (p .at-front .result)
     (f .find-stop .result)
 sought f =
-    let h = f .before .before .before in
+    let p = f .before .before .before in
+    let h = p .before in
     let e = h .before in
     let start = e .before .before .before .before in
     record {
       good = start .pre .0;
       first = start .pre .1;
       entry = e .read-entry .ensures;
-      resumes = h .held-of .ensures;
+      stand = p .at-front .ensures ∙ ap atFront (h .held-of .ensures);
       finds = f .find-stop .ensures;
     }
 
@@ -53,11 +61,8 @@ sub-left c = omega (arith, kept-within _ _ _ _ _ _ _ _ _ (sought c))
 add-to : tie.Need-add-to
 add-to c = omega (arith, counts-low _ _ _ _ _ _ _ _ _ (sought (c .before)))
 
-add-if1 : tie.Need-add-if1
-add-if1 c = omega (arith, counts-low _ _ _ _ _ _ _ _ _ (sought (c .before)))
-
-add-t22 : tie.Need-add-t22
-add-t22 c = omega (arith, counts-low _ _ _ _ _ _ _ _ _ (sought (c .before .before)))
+add-after : tie.Need-add-after
+add-after c = omega (arith, counts-low _ _ _ _ _ _ _ _ _ (sought (c .before)))
 
 same-length : tie.Need-same-length
 same-length c = search needs
@@ -73,9 +78,6 @@ write-again-requires c κs =
     let m = c .before .before .before in
     let room = m .before .before in
     write-ready _ _ _ _ _ _ _ _ _ (sought (room .before .before)) (room .if1 .left) _ (m .move-lines .ensures) (m .move-lines .kept .0)
-
-add-t18 : tie.Need-add-t18
-add-t18 c = omega (arith, counts-low _ _ _ _ _ _ _ _ _ (sought (c .before .before .before .before .before .before .before .before .before .before)))
 
 same-length-2 : tie.Need-same-length-2
 same-length-2 c = search needs
@@ -94,15 +96,14 @@ lay-lines-spec =
     (tie.spec
     read-entry-requires
     held-of-requires
+    at-front-requires
     find-stop-requires
     sub-left
     add-to
-    add-if1
-    add-t22
+    add-after
     same-length
     returns
     move-lines-requires
     write-again-requires
-    add-t18
     same-length-2
     returns-2)

@@ -1,4 +1,4 @@
--- `held_of` meets its contract.
+-- `again::rest::held_of` meets its contract.
 -- Assumes nothing.
 use mathlib.Core.Path.{sym, _∙_}
 use native.Mathlib.Omega.{arith}
@@ -10,13 +10,13 @@ use Rattle.again.proofs.rest.held_of.Tie as tie
 has-no-rest-requires : tie.Need-has-no-rest-requires
 has-no-rest-requires c κs = search needs
 
-nothing-requires : tie.Need-nothing-requires
-nothing-requires c κs = search needs
+nothing-left-requires : tie.Need-nothing-left-requires
+nothing-left-requires c κs = search needs
 
 returns : tie.Need-returns
 returns c =
     let none = c .before in
-    resumed-none _ _ (sym (none .before .has-no-rest .ensures) ∙ none .if1 .taken) _ (c .nothing .ensures)
+    resumed-none _ _ (sym (none .before .has-no-rest .ensures) ∙ none .if1 .taken) _ (c .nothing-left .ensures)
 
 rest-end-requires : tie.Need-rest-end-requires
 rest-end-requires c κs = search needs
@@ -56,7 +56,7 @@ held-of-spec =
     tie.close
     (tie.spec
     has-no-rest-requires
-    nothing-requires
+    nothing-left-requires
     returns
     rest-end-requires
     chars-before-requires

@@ -1,108 +1,89 @@
--- `find_stop` meets its contract.
+-- `again::stop::find_stop` meets its contract.
 -- Assumes nothing.
 use Prim.Native.Nat.{_-_}
-use mathlib.Core.Path.{sym, _∙_}
 use native.Mathlib.Omega.{arith}
+use mathlib.Core.Path.{sym, _∙_}
 use lib.ListN.{length}
-use Rattle.steps.specs.Knowing.{KnownFits, nothing-fits}
-use Rattle.rows.specs.Turns.{further, stays}
-use Rattle.again.specs.Seeking.{Seeking, rest-low, seek-start, stops, finds-last, seeks-on}
+use Rattle.rows.specs.Standing.{stepped, further, stays}
+use Rattle.again.specs.Seeking.{Seeking, rest-low, seek-start, seek-low, stops, finds-last, seeks-on}
 use borrow.Author.Needs.{needs}
 use Rattle.again.proofs.stop.find_stop.Statement.{statement}
 use Rattle.again.proofs.stop.find_stop.Tie as tie
 
 abbrev Inv-loop : tie.InvT-loop
-Inv-loop part s table lines k base edit n₀ j₀ at₀ held₀ known₀ n j at held known =
-    Seeking s part table lines (base .0) edit held₀ n j at held × KnownFits part known
+Inv-loop part s table lines k base edit n₀ j₀ stand₀ n j stand = Seeking s part table lines (base .0) edit stand₀ n j stand
 
 abbrev μ-loop : tie.MeasureT-loop
-μ-loop part s table lines k base edit n₀ j₀ at₀ held₀ known₀ n j at held known = length part - at
-
-nothing-known-requires : tie.Need-nothing-known-requires Inv-loop μ-loop
-nothing-known-requires c κs = search needs
+μ-loop part s table lines k base edit n₀ j₀ stand₀ n j stand = length part - stand .at .0
 
 loop-holds : tie.Need-loop-holds Inv-loop μ-loop
-loop-holds c =
-    let start = c .before .before .before in
-    (seek-start _ _ _ _ _ _ _ _ (start .pre), nothing-fits _ _ (c .nothing-known .ensures))
+loop-holds c = seek-start _ _ _ _ _ _ _ _ (c .before .before .pre)
 
-cast-first : tie.Need-cast-first Inv-loop μ-loop
-cast-first c = let i = c .loop .inv .0 .ready in omega (arith, i .inside, i .short)
+-- From the old lines passed back to the turn's start, and from the line that was laid back to there.
+abbrev turn : tie.After-skip-before Inv-loop μ-loop → tie.At-loop Inv-loop μ-loop
+turn c = c .before .before .before
+
+abbrev passed : tie.After-meets-first Inv-loop μ-loop → tie.After-skip-before Inv-loop μ-loop
+passed c = c .before .before .before
 
 add-first : tie.Need-add-first Inv-loop μ-loop
-add-first c = let l = c .before in omega (arith, l .loop .inv .0 .ready .inside, l .loop .inv .0 .ready .short, l .before .before .before .before .pre .low)
+add-first c =
+    let l = c .before .before in
+    let r = l .loop .inv .ready .line in
+    omega (arith, r .inside, r .short, l .before .before .before .pre .low)
 
 skip-before-requires : tie.Need-skip-before-requires Inv-loop μ-loop
-skip-before-requires c κs = let l = c .before in (l .before .before .before .before .pre .room, l .loop .inv .0 .inside)
+skip-before-requires c κs = let l = c .before .before in (l .before .before .before .pre .room, l .loop .inv .inside)
 
 rest-behind-requires : tie.Need-rest-behind-requires Inv-loop μ-loop
-rest-behind-requires c κs = let l = c .before .before in rest-low _ _ _ _ _ (l .loop .inv .0 .ready) (l .before .before .before .before .pre .low)
+rest-behind-requires c κs = let l = turn (c .before) in rest-low _ _ _ _ (l .loop .inv .ready) (l .before .before .before .pre .low)
 
 meets-first-requires : tie.Need-meets-first-requires Inv-loop μ-loop
-meets-first-requires c κs = c .before .before .before .before .before .before .before .pre .room
+meets-first-requires c κs = turn (c .before .before) .before .before .before .pre .room
 
 returns : tie.Need-returns Inv-loop μ-loop
 returns c =
     let m = c .before in
-    let rest = m .before in
-    let skip = rest .before in
-    let l = skip .before .before in
-    stops _ _ _ _ _ _ _ _ _ _ _ _ (l .loop .inv .0) (skip .skip-before .ensures) _ (rest .rest-behind .ensures)
+    let k = passed m in
+    stops _ _ _ _ _ _ _ _ _ _ _ (turn k .loop .inv) (k .skip-before .ensures) _ (m .before .rest-behind .ensures)
     (sym (m .meets-first .ensures) ∙ c .if1 .taken)
 
-known-from-requires : tie.Need-known-from-requires Inv-loop μ-loop
-known-from-requires c κs = let i = c .before .before .before .before .before .loop .inv in (i .0 .ready .short, i .0 .ready .inside, i .1)
-
-lay-line-requires : tie.Need-lay-line-requires Inv-loop μ-loop
-lay-line-requires c κs = (c .before .before .before .before .before .before .loop .inv .0 .ready, c .known-from .ensures)
+lay-row-requires : tie.Need-lay-row-requires Inv-loop μ-loop
+lay-row-requires c κs = turn (passed (c .before)) .loop .inv .ready
 
 add-n : tie.Need-add-n Inv-loop μ-loop
-add-n c = let i = c .before .before .before .before .before .before .before .loop .inv .0 in omega (arith, i .few, i .ready .inside, i .ready .short)
-
-is-last-requires : tie.Need-is-last-requires Inv-loop μ-loop
-is-last-requires c κs = search needs
+add-n c = omega (arith, seek-low _ _ _ _ _ _ _ _ _ _ (turn (passed (c .before .before)) .loop .inv))
 
 returns-2 : tie.Need-returns-2 Inv-loop μ-loop
 returns-2 c =
-    let last = c .before in
-    let line = last .before in
-    let word = line .before in
-    let none = word .before in
-    let m = none .before in
-    let rest = m .before in
-    let skip = rest .before in
-    let l = skip .before .before in
-    finds-last _ _ _ _ _ _ _ _ _ _ _ _ (l .loop .inv .0) (skip .skip-before .ensures) _ (rest .rest-behind .ensures)
-    (sym (m .meets-first .ensures) ∙ none .if1 .left) (l .before .before .before .before .pre .rising) _ (line .lay-line .ensures)
-    (sym (last .is-last .ensures) ∙ c .if2 .taken)
-
-cast-at : tie.Need-cast-at Inv-loop μ-loop
-cast-at c = search needs
+    let r = c .before in
+    let e = r .before in
+    let m = e .before in
+    let k = passed m in
+    let l = turn k in
+    let i = l .loop .inv in
+    finds-last _ _ _ _ _ _ _ _ _ _ _ i (k .skip-before .ensures) _ (m .before .rest-behind .ensures)
+    (sym (m .meets-first .ensures) ∙ e .if1 .left) (l .before .before .before .pre .rising) _ (stepped _ _ _ _ (i .ready) (r .lay-row .ensures))
+    (c .if2 .taken)
 
 loop-less : tie.Need-loop-less Inv-loop μ-loop
 loop-less c =
-    let e = c .before .before in
-    let line = e .before .before in
-    let i = line .before .before .before .before .before .before .before .loop .inv .0 .ready in
-    omega
-    (arith, further _ _ 0 _ _ _ (line .lay-line .ensures) i (sym (e .before .is-last .ensures) ∙ e .if2 .left), stays _ _ 0 _ _ _ (line .lay-line .ensures) i)
+    let r = c .before .before in
+    let z = stepped _ _ _ _ (turn (passed (r .before .before)) .loop .inv .ready) (r .lay-row .ensures) in
+    omega (arith, further _ _ _ _ z (c .before .if2 .left), stays _ _ _ _ z)
 
 loop-again : tie.Need-loop-again Inv-loop μ-loop
 loop-again c =
-    let on = c .before .before in
-    let last = on .before in
-    let line = last .before in
-    let word = line .before in
-    let none = word .before in
-    let m = none .before in
-    let rest = m .before in
-    let skip = rest .before in
-    let l = skip .before .before in (
-      seeks-on _ _ _ _ _ _ _ _ _ _ _ _ (l .loop .inv .0) (skip .skip-before .ensures) _ (rest .rest-behind .ensures)
-          (sym (m .meets-first .ensures) ∙ none .if1 .left) (l .before .before .before .before .pre .rising) _ (line .lay-line .ensures)
-          (sym (last .is-last .ensures) ∙ on .if2 .left),
-      word .known-from .ensures,
-    )
+    let on = c .before in
+    let r = on .before in
+    let e = r .before in
+    let m = e .before in
+    let k = passed m in
+    let l = turn k in
+    let i = l .loop .inv in
+    seeks-on _ _ _ _ _ _ _ _ _ _ _ i (k .skip-before .ensures) _ (m .before .rest-behind .ensures)
+    (sym (m .meets-first .ensures) ∙ e .if1 .left) (l .before .before .before .pre .rising) _ (stepped _ _ _ _ (i .ready) (r .lay-row .ensures))
+    (on .if2 .left)
 
 pub find-stop-spec : {M : Type 1} → statement M
 find-stop-spec =
@@ -110,19 +91,14 @@ find-stop-spec =
     (tie.spec
     Inv-loop
     μ-loop
-    nothing-known-requires
     loop-holds
-    cast-first
     add-first
     skip-before-requires
     rest-behind-requires
     meets-first-requires
     returns
-    known-from-requires
-    lay-line-requires
+    lay-row-requires
     add-n
-    is-last-requires
     returns-2
-    cast-at
     loop-less
     loop-again)

@@ -1,4 +1,4 @@
--- `draw_line` meets its contract.
+-- `layout::events::draw_line` meets its contract.
 -- Assumes nothing.
 use Prim.Native.Nat.{ℕ, _+_}
 use mathlib.Core.Path.{ap, _∙_}
@@ -11,10 +11,14 @@ use Rattle.layout.proofs.events.draw_line.Tie as tie
 start-place-requires : tie.Need-start-place-requires
 start-place-requires c κs = search needs
 
+cast-at : tie.Need-cast-at
+cast-at c = search needs
+
 draw-pass-requires : tie.Need-draw-pass-requires
 draw-pass-requires c κs =
-    let a = c .before .before .before .before .before .before .before in
-    (place-room (a .args .s) (a .args .text .now) (a .args .at) (a .args .rest) (a .args .e) _ (c .before .start-place .ensures) (a .args .k) (a .pre .0), a .pre .1)
+    let p = c .before .before .before .before in
+    let a = p .before .before .before .before .before .before in
+    (place-room (a .args .s) (a .args .text .now) (a .args .stand) (a .args .row .entry) _ (p .start-place .ensures) (a .args .k) (a .pre .room), a .pre .known)
 
 same-length : tie.Need-same-length
 same-length c = search needs
@@ -22,11 +26,11 @@ same-length c = search needs
 returns : tie.Need-returns
 returns c =
     let d = c .before .before in
-    let p = d .before .before in
+    let p = d .before .before .before .before .before in
     let a = p .before .before .before .before .before .before .args in
-    let es = place-events (a .s) (a .text .now) (a .at) (a .rest) (a .e) _ (p .start-place .ensures) in
-    let n = place-length (a .s) (a .text .now) (a .at) (a .rest) (a .e) _ (p .start-place .ensures) in
+    let es = place-events (a .s) (a .text .now) (a .stand) (a .row .entry) _ (p .start-place .ensures) in
+    let n = place-length (a .s) (a .text .now) (a .stand) (a .row .entry) _ (p .start-place .ensures) in
     (d .draw-pass .ensures .0 ∙ ap (putEvents (a .events .now) (a .k)) es, d .draw-pass .ensures .1 ∙ ap (λ (m : ℕ). a .k + m) n)
 
 pub draw-line-spec : {M : Type 1} → statement M
-draw-line-spec = tie.close (tie.spec start-place-requires draw-pass-requires same-length returns)
+draw-line-spec = tie.close (tie.spec start-place-requires cast-at draw-pass-requires same-length returns)

@@ -1,67 +1,51 @@
--- `count_lines` meets its contract. The invariant: the lines passed and those that are left are all lines of the text.
+-- `rows::lines::count_lines` meets its contract. The invariant: the lines passed and those that are left are all lines of the text.
 -- Assumes nothing.
-use mathlib.Core.Path.{_≡_, sym, _∙_}
-use mathlib.Core.Bool.{true, false}
-use Prim.Native.Nat.{_-_, _≤_, _<_}
+use Prim.Native.Nat.{_-_}
 use native.Mathlib.Omega.{arith}
 use lib.ListN.{length}
 use borrow.Author.Needs.{needs}
-use Rattle.steps.specs.Knowing.{KnownFits, nothing-fits}
-use Rattle.rows.specs.RowsFrom.{isLast}
-use Rattle.rows.specs.Turns.{Counted, count-start, count-last, count-more, further, stays}
+use Rattle.rows.specs.Standing.{stepped, further, stays}
+use Rattle.rows.specs.Turns.{Counted, count-start, count-low, count-last, count-more}
 use Rattle.rows.proofs.lines.count_lines.Statement.{statement}
 use Rattle.rows.proofs.lines.count_lines.Tie as tie
 
 abbrev Inv-loop : tie.InvT-loop
-Inv-loop text s n₀ at₀ rest₀ known₀ n at rest known = Counted s text n at rest × KnownFits text known
+Inv-loop text s n₀ stand₀ n stand = Counted s text n stand
 
 abbrev μ-loop : tie.MeasureT-loop
-μ-loop text s n₀ at₀ rest₀ known₀ n at rest known = length text - at
+μ-loop text s n₀ stand₀ n stand = length text - stand .at .0
 
-nothing-requires : tie.Need-nothing-requires Inv-loop μ-loop
-nothing-requires c κs = search needs
-
-nothing-known-requires : tie.Need-nothing-known-requires Inv-loop μ-loop
-nothing-known-requires c κs = search needs
+at-start-requires : tie.Need-at-start-requires Inv-loop μ-loop
+at-start-requires c κs = search needs
 
 loop-holds : tie.Need-loop-holds Inv-loop μ-loop
-loop-holds c =
-    let b = c .before in
-    (count-start _ _ _ (b .before .before .pre) (b .nothing .ensures), nothing-fits _ _ (c .nothing-known .ensures))
+loop-holds c = count-start _ _ _ (c .before .before .pre) (c .at-start .ensures)
 
-known-from-requires : tie.Need-known-from-requires Inv-loop μ-loop
-known-from-requires c κs = let i = c .loop .inv in (i .0 .ready .short, i .0 .ready .inside, i .1)
-
-lay-line-requires : tie.Need-lay-line-requires Inv-loop μ-loop
-lay-line-requires c κs = (c .before .loop .inv .0 .ready, c .known-from .ensures)
+lay-row-requires : tie.Need-lay-row-requires Inv-loop μ-loop
+lay-row-requires c κs = c .loop .inv .ready
 
 add-n : tie.Need-add-n Inv-loop μ-loop
-add-n c = let i = c .before .before .loop .inv .0 in omega (arith, i .few, i .ready .inside, i .ready .short)
-
-is-last-requires : tie.Need-is-last-requires Inv-loop μ-loop
-is-last-requires c κs = search needs
+add-n c = omega (arith, count-low _ _ _ _ (c .before .loop .inv))
 
 returns : tie.Need-returns Inv-loop μ-loop
 returns c =
-    let l = c .before .before in
-    count-last _ _ _ _ _ _ (l .lay-line .ensures) (l .before .before .loop .inv .0) (sym (c .before .is-last .ensures) ∙ c .if1 .taken)
-
-cast-at : tie.Need-cast-at Inv-loop μ-loop
-cast-at c = search needs
+    let r = c .before in
+    let i = r .before .loop .inv in
+    count-last _ _ _ _ i _ (stepped _ _ _ _ (i .ready) (r .lay-row .ensures)) (c .if1 .taken)
 
 loop-less : tie.Need-loop-less Inv-loop μ-loop
 loop-less c =
-    let e = c .before .before in
-    let l = e .before .before in
-    let i = l .before .before .loop .inv .0 .ready in
-    omega (arith, further _ _ 0 _ _ _ (l .lay-line .ensures) i (sym (e .before .is-last .ensures) ∙ e .if1 .left), stays _ _ 0 _ _ _ (l .lay-line .ensures) i)
+    let e = c .before in
+    let r = e .before in
+    let z = stepped _ _ _ _ (r .before .loop .inv .ready) (r .lay-row .ensures) in
+    omega (arith, further _ _ _ _ z (e .if1 .left), stays _ _ _ _ z)
 
 loop-again : tie.Need-loop-again Inv-loop μ-loop
 loop-again c =
-    let e = c .before .before in
-    let l = e .before .before in
-    let k = l .before in
-    (count-more _ _ _ _ _ _ (l .lay-line .ensures) (k .before .loop .inv .0) (sym (e .before .is-last .ensures) ∙ e .if1 .left), k .known-from .ensures)
+    let e = c .before in
+    let r = e .before in
+    let i = r .before .loop .inv in
+    count-more _ _ _ _ i _ (stepped _ _ _ _ (i .ready) (r .lay-row .ensures)) (e .if1 .left)
 
 pub count-lines-spec : {M : Type 1} → statement M
 count-lines-spec =
@@ -69,14 +53,10 @@ count-lines-spec =
     (tie.spec
     Inv-loop
     μ-loop
-    nothing-requires
-    nothing-known-requires
+    at-start-requires
     loop-holds
-    known-from-requires
-    lay-line-requires
+    lay-row-requires
     add-n
-    is-last-requires
     returns
-    cast-at
     loop-less
     loop-again)

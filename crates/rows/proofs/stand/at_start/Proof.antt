@@ -1,0 +1,19 @@
+-- `rows::stand::at_start` meets its contract.
+-- Assumes nothing.
+use mathlib.Core.Path.{ap, _∙_}
+use Rattle.rows.specs.Standing.{atFront}
+use borrow.Author.Needs.{needs}
+use Rattle.rows.proofs.stand.at_start.Statement.{statement}
+use Rattle.rows.proofs.stand.at_start.Tie as tie
+
+nothing-left-requires : tie.Need-nothing-left-requires
+nothing-left-requires c κs = search needs
+
+at-front-requires : tie.Need-at-front-requires
+at-front-requires c κs = search needs
+
+returns : tie.Need-returns
+returns c = c .at-front .ensures ∙ ap atFront (c .before .nothing-left .ensures)
+
+pub at-start-spec : {M : Type 1} → statement M
+at-start-spec = tie.close (tie.spec nothing-left-requires at-front-requires returns)
