@@ -7,5 +7,5 @@ pub mod PrintEvents
 pub mod StrideEvents
 pub mod OnwardEvents
 pub mod TokenEvents
-pub mod PairEvents
+pub mod TakenEvents
 pub mod PassLoop

@@ -29,7 +29,7 @@ use Rattle.drawing.specs.PassDrawn.{DrawRoom, none-drawn, go-drawn, stop
 use Rattle.drawing.specs.DrawnBounds.{tok-few}
 use Rattle.drawing.specs.DrawingOn.{PenReady, Strode}
 use Rattle.drawing.specs.declared.pen.Pen.{Pen}
-use Rattle.drawing.specs.declared.going.Going.{Going}
+use Rattle.drawing.specs.declared.inked.Inked.{Inked}
 use Rattle.drawing.proofs.TokenEvents.{tok-narrow}
 use Rattle.drawing.proofs.OnwardEvents.{pen-rest}
 
@@ -49,7 +49,7 @@ drawing-first t s ev p at r x k h =
 -- ---- strides
 
 module _ {t : List ℕ} {s : Settings} {goal : Sheet} {ev : List ℕ} {p : Place} {at : ℕ} {held : Resumed} {o : Pen} (d : Drawing t s goal ev p at held o)
-    {u : List ℕ} {g : Going} (f : Strode s t held ev p at o u g)
+    {u : List ℕ} {g : Inked} (f : Strode s t held ev p at o u g)
   where
     pub drawing-strode : Drawing t s goal u (g .place) (g .at) held (g .pen)
     drawing-strode = record { draws = f .onward .same ∙ d .draws; ready = f .onward .ready }

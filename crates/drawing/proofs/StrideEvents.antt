@@ -1,20 +1,21 @@
 -- What a pass draws of words that it takes at once, each behind one space, and of one that waits.
 -- Assumes nothing.
-use Prim.Native.Nat.{ℕ, _+_, _-_, _*_, _/_, _≤_, _<_, min}
+use Prim.Native.Nat.{ℕ, _+_, _-_, _*_, _/_, _≤_, _<_}
 use mathlib.Core.Path.{_≡_, refl, sym, ap, subst, _∙_}
 use mathlib.Core.Bool.{true, false}
 use mathlib.Core.List.{List, [], _∷_, _++_}
 use native.Mathlib.Nat.{div-one, div-lt-iff-lt-mul}
 use native.Mathlib.Omega.{arith}
-use borrow.Author.Tests.{leb-false, eq-eqb}
+use borrow.Author.Tests.{leb-false, eq-eqb, eqb-true, eqb-false}
+use lib.Dec.{eqb}
 use lib.ListN.{length}
-use Rattle.basis.specs.Choice.{pick}
+use Rattle.basis.specs.Choice.{pick, pick-cases}
 use Rattle.basis.specs.Order.{by-eq}
-use Rattle.meaning.specs.Cursor.{placedAt, roomOf, fitsIn, advance}
-use Rattle.meaning.specs.SpaceConfig.{spacesWidth, spacesAfter}
+use Rattle.meaning.specs.Cursor.{roomOf, fitsIn}
+use Rattle.meaning.specs.SpaceConfig.{spacesWidth}
 use Rattle.meaning.specs.Tokens.{tokens}
 use Rattle.meaning.specs.Words.{Drawn, drawn, drawnWord}
-use Rattle.meaning.specs.LineIter.{movedOn, usedUp, cutRun, onSpace, onWord, step}
+use Rattle.meaning.specs.LineIter.{usedUp, cutRun, onSpace, onWord, step}
 use Rattle.meaning.specs.Line.{noted}
 use Rattle.meaning.specs.declared.settings.Settings.{Settings}
 use Rattle.meaning.specs.declared.counts.Offset.{Offset}
@@ -34,18 +35,19 @@ use Rattle.steps.specs.Ready.{Ready, stepFrom}
 use Rattle.steps.specs.Runs.{wholeAnswer, cutAnswer}
 use Rattle.steps.specs.Running.{PassReady}
 use Rattle.steps.specs.Stopping.{wordPlace}
-use Rattle.parser.specs.PlainWords.{Stride}
-use Rattle.strides.specs.Strides.{strodePlace, Waits}
+use Rattle.strides.specs.Strides.{Waits}
 use Rattle.steps.specs.declared.look.Look.{Look}
+use Rattle.strides.specs.Trail.{trailOf}
 use Rattle.strides.specs.declared.going.Waiting.{Waiting}
+use Rattle.strides.specs.declared.waiting.Trail.{Trail}
+use Rattle.strides.specs.declared.waiting.Trail.the-variants.{Cut, Shown}
 use Rattle.steps.specs.declared.step.Stepped.the-variants.{Go}
 use Rattle.steps.specs.DrawLaws.{whole-drawn, whole-hidden}
 use Rattle.steps.specs.RunLaws.{run-tok, space-whole, space-cut}
 use Rattle.steps.specs.WordLaws as rendered
 use Rattle.steps.specs.WordLaws.{wordAt, WordAt, word-at, word-goes}
-use Rattle.parser.specs.PlainLaws.{plainWord, plain-pair}
 use Rattle.strides.specs.OnwardLaws.{read-pending, read-ready}
-use Rattle.strides.specs.StrideLaws.{stays, behind, looks-all, looks-word, space-goes, fits-in}
+use Rattle.strides.specs.StrideLaws.{stays, behind, looks-all, looks-word, space-goes}
 use Rattle.strides.specs.WaitLaws.{over-full}
 use Rattle.drawing.specs.Drawn.{drawnFrom}
 use Rattle.drawing.specs.Sheet.{widths}
@@ -118,13 +120,13 @@ module _ {s : Settings} {p : Place} {t : List ℕ} {at : ℕ} {m : Measure} (r :
       after = behind r e w wide is f
 
       -- What is drawn of it, and that the pass can run on from behind it.
-      abbrev pub Shown : ℕ → Type 0
-      Shown shown =
+      abbrev pub SpaceFirst : ℕ → Type 0
+      SpaceFirst shown =
           (drawnFrom s p t at 0 0 ≡ drawn Space at next 1 shown ∷ drawnFrom s after t next 0 0)
           × PassReady s after t next nothingResumed (noted Space (m .pen .0 + shown) (m .spaces .0 + 1) m)
 
       space-first : (l : Look) (shown : ℕ) → l .reach .0 ≤ x .reach .0
-          → Go after (noted Space (m .pen .0 + shown) (m .spaces .0 + 1) m) (l .reach) ≡ wholeAnswer s after t run wide m → Shown shown
+          → Go after (noted Space (m .pen .0 + shown) (m .spaces .0 + 1) m) (l .reach) ≡ wholeAnswer s after t run wide m → SpaceFirst shown
       space-first l shown far a =
           let d = w .space in
           let g = a ∙ space-whole (read-ready r run d) refl wide is (stays r e w) f (usedUp p 1) after refl refl in (
@@ -134,20 +136,20 @@ module _ {s : Settings} {p : Place} {t : List ℕ} {at : ℕ} {m : Measure} (r :
           )
 
       -- With trailing spaces on it is drawn whatever follows.
-      space-trails : s .trailing ≡ 1 → Shown wide
+      space-trails : s .trailing ≡ 1 → SpaceFirst wide
       space-trails h =
           let l = lookAt true 0 in
           space-first l wide (omega arith) (whole-drawn s after t run wide m l (looks-all r e w wide is f h) _ refl refl)
 
       -- The word behind it fits too.
-      pub space-shown : fitsIn (after .cursor) (x .chars .0 * s .glyph .0) ≡ true → Shown wide
+      pub space-shown : fitsIn (after .cursor) (x .chars .0 * s .glyph .0) ≡ true → SpaceFirst wide
       space-shown g =
           let l = lookAt true (x .reach .0) in
           by-eq (s .trailing) 1 space-trails
           (λ h. space-first l wide (omega arith) (whole-drawn s after t run wide m l (looks-word r e w wide is f h true (sym g)) _ refl refl))
 
       -- Else it has no width.
-      space-hidden : (s .trailing ≡ 1 → ⊥) → fitsIn (after .cursor) (x .chars .0 * s .glyph .0) ≡ false → Shown 0
+      space-hidden : (s .trailing ≡ 1 → ⊥) → fitsIn (after .cursor) (x .chars .0 * s .glyph .0) ≡ false → SpaceFirst 0
       space-hidden h g =
           let l = lookAt false (x .reach .0) in
           space-first l 0 (omega arith) (whole-hidden s after t run wide m l (looks-word r e w wide is f h false (sym g)) _ refl refl)
@@ -168,56 +170,40 @@ module _ {s : Settings} {p : Place} {t : List ℕ} {at : ℕ} {m : Measure} (r :
     space-cuts f =
         stop-drawn s p t at 0 0 run m (read-pending t at run (w .space)) _ (sym (space-cut (read-ready r run (w .space)) refl wide is (stays r e w) f)) ∙ cut-none f
 
--- ---- both
-
--- A space and the word behind it take so much, and no more than there is room.
-pub stride-first : {s : Settings} {p : Place} {t : List ℕ} {at : ℕ} {m : Measure} → PassReady s p t at nothingResumed m → p .empty ≡ false → (end : ℕ)
-    → Stride t at end → (one wide : ℕ) → one ≡ min 1 (p .spaces .extra .0) → wide ≡ p .spaces .width .0 + one + (end - (at + 1)) * s .glyph .0
-    → wide ≤ p .cursor .width .0 - p .cursor .position .0
-    → drawnFrom s p t at 0 0
-    ≡ drawn Space at (at + 1) 1 (p .spaces .width .0 + one) ∷ drawn Printed (at + 1) end 0 ((end - (at + 1)) * s .glyph .0)
-    ∷ drawnFrom s (strodePlace p (p .cursor .position .0 + wide) (p .spaces .extra .0 - one)) t end 0 0
-unfolding spacesWidth spacesAfter advance wordPlace
-stride-first {s} {p} {t} {at} {m} r e end w one wide f g h =
-    let k = (end - (at + 1)) * s .glyph .0 in
-    let single = spacesWidth (p .spaces) 1 in
-    let q = movedOn (usedUp p 1) single in
-    let c = r .place .0 .0 in
-    let fits = fits-in (q .cursor) k (omega arith) in
-    let pair = plain-pair t at end w in
-    let there = space-shown r e pair single refl (fits-in (p .cursor) single (omega arith)) fits in
-    let x = plainWord (at + 1) end in
-    let after = drawnFrom s (wordPlace (s .glyph .0) q (end - (at + 1)) 0) t end 0 0 in
-    let v : single ≡ p .spaces .width .0 + one = omega arith in
-    let a : p .cursor .position .0 + single + k ≡ p .cursor .position .0 + wide = omega arith in
-    let b : p .spaces .extra .0 - 1 - 0 ≡ p .spaces .extra .0 - one = omega arith in
-    there .0
-    ∙ ap (λ (ds : List Drawn). drawn Space at (at + 1) 1 single ∷ ds)
-    (word-first (there .1) x (pair .word) refl fits .0
-    ∙ ap (λ (ds : List Drawn). ds ++ after) (one-word t (at + 1) x (here (there .1) x (pair .word) refl) (s .glyph .0) (q .spaces) refl))
-    ∙ (λ i. drawn Space at (at + 1) 1 (v i) ∷ drawn Printed (at + 1) end 0 k ∷ drawnFrom s (record {
-      cursor = placedAt (p .cursor) (a i);
-      spaces = record { width = p .spaces .width; extra = record { 0 = b i } };
-      empty = false;
-    }) t end 0 0)
-
 -- ---- a word that waits
 
 module _ {s : Settings} {p : Place} {t : List ℕ} {at : ℕ} {m : Measure} (r : PassReady s p t at nothingResumed m) (v : Waiting) (w : Waits s p t at v) (wide : ℕ)
     (is : wide ≡ spacesWidth (p .spaces) 1)
   where
     module _ (f : fitsIn (p .cursor) wide ≡ true) where
-      only-space : (shown : ℕ) → Shown r (w .empty) (w .pair) wide is f shown → drawnFrom s p t at 0 0 ≡ drawn Space at (v .next .0) 1 shown ∷ []
+      only-space : (shown : ℕ) → SpaceFirst r (w .empty) (w .pair) wide is f shown → drawnFrom s p t at 0 0 ≡ drawn Space at (v .next .0) 1 shown ∷ []
       only-space shown there =
           there .0
           ∙ ap (λ (ds : List Drawn). drawn Space at (v .next .0) 1 shown ∷ ds)
           (word-left (there .1) (w .word) (w .pair .word) (w .pair .kind) (over-full r v w wide is f) (w .empty))
 
-      pub waits-wide : s .trailing ≡ 1 → drawnFrom s p t at 0 0 ≡ drawn Space at (v .next .0) 1 wide ∷ []
+      waits-wide : s .trailing ≡ 1 → drawnFrom s p t at 0 0 ≡ drawn Space at (v .next .0) 1 wide ∷ []
       waits-wide h = only-space wide (space-trails r (w .empty) (w .pair) wide is f h)
 
-      pub waits-thin : (s .trailing ≡ 1 → ⊥) → drawnFrom s p t at 0 0 ≡ drawn Space at (v .next .0) 1 0 ∷ []
+      waits-thin : (s .trailing ≡ 1 → ⊥) → drawnFrom s p t at 0 0 ≡ drawn Space at (v .next .0) 1 0 ∷ []
       waits-thin h = only-space 0 (space-hidden r (w .empty) (w .pair) wide is f h (over-full r v w wide is f))
 
-    pub waits-cut : fitsIn (p .cursor) wide ≡ false → drawnFrom s p t at 0 0 ≡ []
+    waits-cut : fitsIn (p .cursor) wide ≡ false → drawnFrom s p t at 0 0 ≡ []
     waits-cut f = space-cuts r (w .empty) (w .pair) wide is f
+
+-- What becomes of the space is what is drawn.
+abbrev pub drawnBy : Trail → (at next : ℕ) → List Drawn
+drawnBy Cut at next = []
+drawnBy (Shown wide) at next = drawn Space at next 1 wide ∷ []
+
+pub waits-drawn : {s : Settings} {p : Place} {t : List ℕ} {at : ℕ} {m : Measure} → PassReady s p t at nothingResumed m → (v : Waiting) → Waits s p t at v
+    → drawnFrom s p t at 0 0 ≡ drawnBy (trailOf s p) at (v .next .0)
+unfolding trailOf
+waits-drawn {s} {p} {t} {at} r v w =
+    let wide = spacesWidth (p .spaces) 1 in
+    pick-cases (λ (x : Trail). drawnFrom s p t at 0 0 ≡ drawnBy x at (v .next .0)) (fitsIn (p .cursor) wide)
+    (λ f.
+    pick-cases (λ (k : ℕ). drawnFrom s p t at 0 0 ≡ drawnBy (Shown k) at (v .next .0)) (eqb (s .trailing) 1)
+    (λ h. waits-wide r v w wide refl f (eqb-true (s .trailing) 1 h))
+    (λ h. waits-thin r v w wide refl f (eqb-false (s .trailing) 1 h)))
+    (λ f. waits-cut r v w wide refl f)

@@ -10,7 +10,7 @@ use lib.Dec.{eqb}
 use lib.ListN.{take}
 use Rattle.basis.specs.Choice.{pick, pick-cases}
 use Rattle.unicode.specs.Encoding.{size}
-use Rattle.meaning.specs.Tokens.{Tok, newLine, carriageReturn, softHyphen, space, sizeOf, charsOf, tokens}
+use Rattle.meaning.specs.Tokens.{Tok, newLine, carriageReturn, softHyphen, sizeOf, charsOf, tokens}
 use Rattle.meaning.specs.Cursor.{roomOf, fitsIn}
 use Rattle.meaning.specs.SpaceConfig.{spacesWidth}
 use Rattle.meaning.specs.Lookahead.{Looked}

@@ -13,7 +13,7 @@ use Rattle.steps.specs.declared.step.Resumed.{Resumed}
 use Rattle.drawing.specs.Drawn.{drawnFrom}
 use Rattle.drawing.specs.Sheet.{sheet, drawnOn}
 use Rattle.drawing.specs.declared.pen.Pen.{Pen}
-use Rattle.drawing.specs.declared.going.Going.{Going}
+use Rattle.drawing.specs.declared.inked.Inked.{Inked}
 
 -- What drawing takes for granted between two tokens: the pass can run from there, and the pen has room for all bytes of a text.
 pub record PenReady (s : Settings) (p : Place) (t : List ℕ) (at : ℕ) (r : Resumed) (o : Pen) : Type 0 where
@@ -28,10 +28,10 @@ pub record Drew (s : Settings) (t : List ℕ) (r : Resumed) (ev : List ℕ) (p :
   pub forward : at ≤ to
 
 -- Where it stands, and nothing waits there.
-unfoldable pub standingAt : Place → (at : ℕ) → Pen → Going
-standingAt p at o = record { place = p; at = at; pen = o; waits = waitingAt 0 0 0 }
+unfoldable pub inkedAt : Place → (at : ℕ) → Pen → Inked
+inkedAt p at o = record { place = p; at = at; pen = o; waits = waitingAt 0 0 0 }
 
 -- How far the drawing came, and that a word waits there if one was found.
-pub record Strode (s : Settings) (t : List ℕ) (r : Resumed) (ev : List ℕ) (p : Place) (at : ℕ) (o : Pen) (u : List ℕ) (g : Going) : Type 0 where
+pub record Strode (s : Settings) (t : List ℕ) (r : Resumed) (ev : List ℕ) (p : Place) (at : ℕ) (o : Pen) (u : List ℕ) (g : Inked) : Type 0 where
   pub onward : Drew s t r ev p at o u (g .place) (g .at) (g .pen)
   pub waits : Found (g .waits .next .0) (Waits s (g .place) t (g .at) (g .waits) × (r .chars .0 ≡ 0) × (r .count .0 ≡ 0))

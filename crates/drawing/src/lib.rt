@@ -1,9 +1,10 @@
 // The events of a line, drawn into a lent buffer (rule 13).
-pub mod going;
-pub mod grown;
-pub mod pairs;
+mod grown;
+mod inked;
 pub mod pass;
-pub mod pen;
-pub mod striding;
-pub mod tokens;
-pub mod words;
+mod pen;
+mod striding;
+mod taken;
+mod tokens;
+mod waiting;
+mod words;

@@ -1,15 +1,14 @@
 // The events of a line: the running pass again, token by token or in strides, each drawn (rules 7 to 9, and 13).
 use crate::pen::Pen;
 use crate::striding::draw_unless;
-use crate::striding::draw_waiting;
 use crate::tokens::draw_token;
-use meaning::counts::Chars;
-use meaning::counts::Offset;
+use crate::waiting::draw_waiting;
 use meaning::counts::Pixels;
 use meaning::cursor::Place;
 use meaning::settings::Settings;
 use parser::lexeme::Lexed;
 use steps::ahead::look_after;
+use steps::ending::nothing_left;
 use steps::first::Known;
 use steps::first::first_token;
 use steps::look::Foreseen;
@@ -20,22 +19,10 @@ use steps::token::step_token;
 ghost use Prim.Native.Nat.{_+_};
 ghost use mathlib.Core.Path.{_≡_};
 ghost use lib.ListN.{length};
-ghost use Rattle.steps.specs.Unrolled.{nothingResumed};
 ghost use Rattle.steps.specs.Knowing.{KnownFits};
 ghost use Rattle.table.specs.Numbers.{putEvents};
 ghost use Rattle.drawing.specs.Drawn.{drawnFrom, eventsFrom};
 ghost use Rattle.drawing.specs.PassDrawn.{DrawRoom};
-
-// After the first token a pass has no rest.
-fn no_rest() -> Resumed
-    ensures { λ r. ⌜ r ≡ nothingResumed ⌝ }
-{
-    Resumed {
-        end: Offset(0),
-        chars: Chars(0),
-        count: Chars(0),
-    }
-}
 
 // What a pass draws from a place and an offset on, after a resumed rest, where a word may be known: events number k and on, from
 // the pen at x. How many there are with those before.
@@ -84,7 +71,7 @@ pub fn draw_pass(
         };
         p = q;
         at = t.end.0 as usize;
-        held = no_rest();
+        held = nothing_left();
         seen = ahead;
     }
 }

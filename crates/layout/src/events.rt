@@ -2,11 +2,11 @@
 use drawing::pass::draw_pass;
 use meaning::cursor::Spaces;
 use meaning::settings::Settings;
-use steps::place::start_place;
 use rows::stand::LaidRow;
 use rows::stand::Stand;
 use rows::stand::at_start;
 use rows::stand::lay_row;
+use steps::place::start_place;
 use table::entries::write_entry;
 ghost use Prim.Native.Nat.{_+_, _*_, _≤_};
 ghost use mathlib.Core.Path.{_≡_};

@@ -22,7 +22,7 @@ use strides::going::Waiting;
 use strides::going::nothing_waits;
 use strides::going::stands_at;
 use strides::going::strode;
-use strides::strides::ends_waiting;
+use strides::waiting::ends_waiting;
 ghost use Prim.Native.Nat.{_*_, _≤_, _<_};
 ghost use mathlib.Core.Path.{_≡_};
 ghost use lib.ListN.{length};

@@ -1,4 +1,5 @@
 // The one step that every loop over lines takes: the line where it stands is laid, and it stands on the next.
+use line::line::lay_line;
 use meaning::counts::Offset;
 use meaning::line::Entry;
 use meaning::line::LineEnd;
@@ -7,7 +8,6 @@ use steps::ending::nothing_left;
 use steps::first::Known;
 use steps::first::known_from;
 use steps::first::nothing_known;
-use line::line::lay_line;
 use steps::step::Resumed;
 ghost use mathlib.Core.Path.{_≡_};
 ghost use Rattle.steps.specs.Knowing.{KnownFits};

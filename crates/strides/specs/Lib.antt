@@ -1,6 +1,10 @@
 pub mod Strides
+pub mod First
+pub mod Next
+pub mod Trail
 pub mod OnwardLaws
 pub mod StrideLaws
+pub mod FirstLaws
+pub mod NextLaws
 pub mod WaitLaws
 pub mod GoesLaws
-pub mod PairLaws

@@ -8,7 +8,7 @@ use Rattle.basis.specs.Choice.{pick}
 use Rattle.unicode.specs.Encoding.{bytes, size}
 use Rattle.meaning.specs.Tokens.{Tok, newLine, carriageReturn, tab, softHyphen, space, word, ender, tokens, charsOf, sizeOf, needOf}
 use Rattle.meaning.specs.LineIter.{Step, go, stop, step, Ran, passOn, process}
-use Rattle.meaning.specs.Line.{heldTokens}
+use Rattle.meaning.specs.Line.{heldTokens, unmeasured}
 use Rattle.meaning.specs.declared.settings.Settings.{Settings}
 use Rattle.meaning.specs.declared.cursor.Place.{Place}
 use Rattle.meaning.specs.declared.line.Measure.{Measure}
@@ -107,6 +107,11 @@ module _ {s : Settings} {p : Place} {t : List ℕ} {at : ℕ} {m : Measure} (r :
         pass-stops s p t at 0 0 m 0 x (read-pending t at x e) d (sym g) (x .reach .0) (omega arith) ∙ farther-near 0 (ranFrom s p t at 0 0 m) (omega arith)
 
 -- ---- one after the other
+
+-- Whatever was measured, nothing measured is as good.
+pub unmeasured-ready : {s : Settings} {p : Place} {t : List ℕ} {at : ℕ} {r : Resumed} {m : Measure} → PassReady s p t at r m → PassReady s p t at r unmeasured
+unmeasured-ready h =
+    record { settings = h .settings; place = h .place; short = h .short; inside = h .inside; rest = h .rest; small = omega arith }
 
 module _ {s : Settings} {t : List ℕ} {r : Resumed} where
   pub onward-none : {p : Place} {at : ℕ} {m : Measure} → PassReady s p t at r m → Onward s p t at r m p at m

@@ -1,16 +1,16 @@
--- A space and a word that a pass takes at once.
+-- A word that a pass takes, and a space and a word that it takes at once.
 -- Assumes nothing.
 use mathlib.Core.Path.{_≡_, refl, sym, _∙_}
 use mathlib.Core.Bool.{Bool, true, false}
 use mathlib.Core.List.{List}
-use Prim.Native.Nat.{ℕ, _+_, _-_, _*_, _/_, _≤_, max, min}
+use Prim.Native.Nat.{ℕ, _+_, _-_, _*_, _/_, _≤_, max}
 use native.Mathlib.Nat.{mul-le-mul-right, div-mul-le-self, div-le-self}
 use native.Mathlib.Omega.{arith}
 use borrow.Author.Tests.{le-leb}
 use Rattle.basis.specs.Order.{by-eq}
 use Rattle.meaning.specs.Tokens.{tokens}
-use Rattle.meaning.specs.Cursor.{placedAt, roomOf, fitsIn, advance}
-use Rattle.meaning.specs.SpaceConfig.{spacesWidth, spacesAfter}
+use Rattle.meaning.specs.Cursor.{roomOf, fitsIn, advance}
+use Rattle.meaning.specs.SpaceConfig.{spacesWidth}
 use Rattle.meaning.specs.LineIter.{skips, drawsSpace, movedOn, usedUp}
 use Rattle.meaning.specs.Line.{noted}
 use Rattle.meaning.specs.declared.settings.Settings.{Settings}
@@ -19,7 +19,6 @@ use Rattle.meaning.specs.declared.cursor.LineCursor.{LineCursor}
 use Rattle.meaning.specs.declared.cursor.Place.{Place}
 use Rattle.meaning.specs.declared.line.EventKind.the-variants.{Space}
 use Rattle.meaning.specs.declared.line.Measure.{Measure}
-use Rattle.laws.specs.Measuring.{printedAt}
 use Rattle.parser.specs.Lexing.{charsFrom, lexedAt}
 use Rattle.parser.specs.Pairs.{oneSpace, PairAt}
 use Rattle.parser.specs.declared.lexeme.Lexeme.{Lexeme}
@@ -32,15 +31,15 @@ use Rattle.steps.specs.Unrolled.{nothingResumed}
 use Rattle.steps.specs.Runs.{wholeAnswer}
 use Rattle.steps.specs.Running.{PassReady}
 use Rattle.steps.specs.Stopping.{wordMeasure, wordPlace}
-use Rattle.parser.specs.PlainWords.{PlainWord, Stride}
-use Rattle.strides.specs.Strides.{strodePlace, Onward}
+use Rattle.parser.specs.PlainWords.{PlainWord}
+use Rattle.strides.specs.Strides.{Onward}
 use Rattle.steps.specs.declared.look.Look.{Look}
 use Rattle.steps.specs.declared.step.Stepped.the-variants.{Go}
 use Rattle.steps.specs.DrawLaws.{draws-all, draws-some, whole-drawn}
 use Rattle.steps.specs.FitsLaws.{look-zero, look-word}
 use Rattle.steps.specs.RunLaws.{space-whole}
 use Rattle.steps.specs.WordLaws.{word-at, word-goes}
-use Rattle.parser.specs.PlainLaws.{plainWord, plain-read, plain-pair}
+use Rattle.parser.specs.PlainLaws.{plainWord, plain-read}
 use Rattle.strides.specs.OnwardLaws.{looks-on, looks-over, read-pending, read-ready, goes-onward, onward-on}
 
 -- ---- a word
@@ -134,24 +133,3 @@ module _ {s : Settings} {p : Place} {t : List ℕ} {at : ℕ} {m : Measure} (r :
       let fits = fits-in (movedOn (usedUp p 1) single .cursor) (x .chars .0 * s .glyph .0) (omega arith) in
       let there = space-drawn r e w single refl (fits-in (p .cursor) single (omega arith)) fits in
       onward-on there (word-onward (there .ready) x (w .word) (w .kind) fits q n a b)
-
-  pub stride-goes : (end : ℕ) → Stride t at end → (one wide : ℕ) → one ≡ min 1 (p .spaces .extra .0)
-      → wide ≡ p .spaces .width .0 + one + (end - (at + 1)) * s .glyph .0 → wide ≤ p .cursor .width .0 - p .cursor .position .0
-      → Onward s p t at nothingResumed m (strodePlace p (p .cursor .position .0 + wide) (p .spaces .extra .0 - one)) end (printedAt (m .pen .0 + wide) (m .spaces .0 + 1))
-  unfolding spacesWidth spacesAfter advance wordPlace wordMeasure
-  stride-goes end w one wide f g h =
-      let k = (end - (at + 1)) * s .glyph .0 in
-      let single = spacesWidth (p .spaces) 1 in
-      let q = movedOn (usedUp p 1) single in
-      let a : p .cursor .position .0 + wide ≡ p .cursor .position .0 + single + k = omega arith in
-      let b : p .spaces .extra .0 - one ≡ p .spaces .extra .0 - 1 - 0 = omega arith in
-      let z : end - (at + 1) - 0 ≡ end - (at + 1) = omega arith in
-      let d : m .pen .0 + wide ≡ m .pen .0 + single + (end - (at + 1) - 0) * s .glyph .0 + spacesWidth (q .spaces) 0 = rw z (omega arith) in
-      let v : m .spaces .0 + 1 ≡ m .spaces .0 + 1 + 0 = omega arith in
-      pair-goes (plain-pair t at end w) (omega arith) _ _
-      (λ i. record {
-        cursor = placedAt (p .cursor) (a i);
-        spaces = record { width = p .spaces .width; extra = record { 0 = b i } };
-        empty = false;
-      })
-      (λ i. printedAt (d i) (v i))

@@ -1,11 +1,9 @@
 -- A pass that goes on over words: what is left of it from there is the whole pass.
 -- Assumes nothing.
 use mathlib.Core.Path.{_≡_}
-use mathlib.Core.Bool.{Bool, true, false, _&&_}
+use mathlib.Core.Bool.{false}
 use mathlib.Core.List.{List}
 use Prim.Native.Nat.{ℕ, _+_, _*_, _≤_, _<_}
-use lib.Dec.{eqb}
-use Rattle.basis.specs.Choice.{pick}
 use Rattle.meaning.specs.Cursor.{placedAt}
 use Rattle.meaning.specs.SpaceConfig.{spacesWidth}
 use Rattle.meaning.specs.declared.settings.Settings.{Settings}
@@ -37,13 +35,6 @@ strodePlace p position extra =
       empty = false;
     }
 
--- A word was printed last: width and count are the pen and the spaces.
-abbrev pub printedLast : Measure → Bool
-printedLast m = eqb (m .pen .0) (m .width .0) && eqb (m .spaces .0) (m .count .0)
-
-unfoldable pub justPrinted : Place → Measure → Bool
-justPrinted p m = pick (p .empty) false (printedLast m)
-
 -- From a place at a later offset a pass gives the same.
 pub record Onward (s : Settings) (p : Place) (t : List ℕ) (at : ℕ) (r : Resumed) (m : Measure) (q : Place) (to : ℕ) (n : Measure) : Type 0 where
   pub same : ranFrom s q t to (r .chars .0) (r .count .0) n ≡ ranFrom s p t at (r .chars .0) (r .count .0) m
@@ -62,10 +53,6 @@ pub record Waits (s : Settings) (p : Place) (t : List ℕ) (at : ℕ) (w : Waiti
 pub record Goes (s : Settings) (p : Place) (t : List ℕ) (at : ℕ) (r : Resumed) (m : Measure) (g : Going) : Type 0 where
   pub onward : Onward s p t at r m (g .place) (g .at .0) (g .measure)
   pub waits : Found (g .waits .next .0) (Waits s (g .place) t (g .at .0) (g .waits) × (r .chars .0 ≡ 0) × (r .count .0 ≡ 0))
-
--- What the strides take for granted: a word was printed last.
-abbrev pub StrideReady : Settings → Place → List ℕ → ℕ → Measure → Type 0
-StrideReady s p t at m = PassReady s p t at nothingResumed m × (justPrinted p m ≡ true)
 
 -- What the end before a waiting word takes for granted.
 abbrev pub WaitReady : Settings → List ℕ → Going → Type 0

@@ -6,7 +6,7 @@ use meaning::cursor::Place;
 use meaning::cursor::Spaces;
 use meaning::line::Measure;
 ghost use mathlib.Core.Path.{_≡_};
-ghost use Prim.Native.Nat.{_+_, _≤_};
+ghost use Prim.Native.Nat.{_≤_};
 ghost use Rattle.strides.specs.Strides.{waitingAt, goingAt, strodePlace};
 
 // A word behind one space that does not fit: where it starts, how far the space was looked at, and how far the word was.
@@ -31,18 +31,6 @@ pub fn nothing_waits() -> Waiting
         next: Offset(0),
         looked: Offset(0),
         reach: Offset(0),
-    }
-}
-
-// A plain word waits, which stands from one offset to another.
-pub fn plain_waits(next: usize, end: usize) -> Waiting
-    requires { ⌜ (next ≤ 65535) × (end ≤ 65535) ⌝ }
-    ensures { λ r. ⌜ r ≡ waitingAt next (next + 1) (end + 1) ⌝ }
-{
-    Waiting {
-        next: Offset(next as u32),
-        looked: Offset(next as u32 + 1),
-        reach: Offset(end as u32 + 1),
     }
 }
 

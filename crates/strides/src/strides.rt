@@ -1,78 +1,69 @@
-// Words that fit, taken by a pass in strides of a space and a word.
-use basis::numbers::lesser;
+// Words that fit, measured in strides of a space and a word: how far a pass comes so is decided in next.rt and first.rt, and what
+// is left of the pass from there is the whole pass (`Strides.Onward`).
+use crate::first::First;
+use crate::first::first_taken;
 use crate::going::Going;
 use crate::going::nothing_waits;
-use crate::going::plain_waits;
 use crate::going::stands_at;
-use crate::going::strode;
-use crate::pairs::pair_on;
+use crate::next::Next;
+use crate::next::Taken;
+use crate::next::next_pair;
+use crate::next::next_stride;
 use meaning::counts::Chars;
-use meaning::counts::Offset;
 use meaning::counts::Pixels;
 use meaning::cursor::Place;
-use meaning::line::LineEnd;
 use meaning::line::Measure;
 use meaning::settings::Settings;
-use parser::ascii::plain_at;
-use parser::pair::stride_end;
-use parser::within::word_within;
-use steps::cursor::fits;
-use steps::cursor::room;
-use steps::ending::ends_before;
 use steps::look::Foreseen;
-use steps::measure::noted_space;
 use steps::measure::printed_at;
-use steps::space_config::spaces_width;
-use steps::step::Ended;
 use steps::step::Resumed;
 use steps::words::word_measure;
-use steps::words::word_place;
 ghost use mathlib.Core.Path.{_≡_};
 ghost use mathlib.Core.Bool.{false};
-ghost use Rattle.steps.specs.Stepping.{ranFrom};
 ghost use Rattle.steps.specs.Unrolled.{nothingResumed};
 ghost use Rattle.steps.specs.Running.{PassReady};
 ghost use Rattle.steps.specs.Foreseeing.{ForeseesFrom};
-ghost use Rattle.strides.specs.Strides.{justPrinted, Goes, StrideReady, WaitReady};
+ghost use Rattle.strides.specs.Strides.{Goes};
+ghost use Rattle.strides.specs.Next.{takenMeasure, MeasureReady};
 
-// As many strides as fit, after a print.
+// What is measured after a space and a word.
+fn measure_taken(s: Settings, m: Measure, t: Taken) -> Measure
+    requires { ⌜ MeasureReady s m t ⌝ }
+    ensures { λ r. ⌜ r ≡ takenMeasure s m t ⌝ }
+{
+    let glyph = s.glyph;
+    let left = t.left;
+    let chars = t.word.chars;
+    let glues = t.word.weight;
+    let pen = m.pen.0 + t.space.0;
+    let spaces = m.spaces.0 + 1;
+    let spaced = printed_at(Pixels(pen), Chars(spaces));
+    word_measure(glyph, left, spaced, chars, glues)
+}
+
+// As many plain words as fit, in a line that is not empty.
 fn strides(text: &[u8], s: Settings, p: Place, from: usize, m: Measure) -> Going
-    requires { ⌜ StrideReady s p (now text) from m ⌝ }
+    requires { ⌜ PassReady s p (now text) from nothingResumed m × (p .empty ≡ false) ⌝ }
     ensures { λ r. ⌜ Goes s p (now (text .entry)) from nothingResumed m r ⌝ }
     ensures { λ r. ⌜ r .place .empty ≡ false ⌝ }
 {
-    let edge = p.cursor.width.0;
-    let single = p.spaces.width.0;
+    let mut place = p;
     let mut at = from;
-    let mut position = p.cursor.position.0;
-    let mut extra = p.spaces.extra.0;
-    let mut pen = m.pen.0;
-    let mut spaces = m.spaces.0;
+    let mut sum = m;
     loop {
-        let end = stride_end(text, at);
-        if end == 0 {
-            return stands_at(
-                strode(p, position, extra),
-                printed_at(Pixels(pen), Chars(spaces)),
-                at,
-                nothing_waits(),
-            );
+        match next_stride(text, s, place, at) {
+            Next::Nothing => {
+                return stands_at(place, sum, at, nothing_waits());
+            }
+            Next::TooWide(w) => {
+                return stands_at(place, sum, at, w);
+            }
+            Next::Fits(t) => {
+                sum = measure_taken(s, sum, t);
+                place = t.place;
+                at = t.word.end.0 as usize;
+            }
         }
-        let one = lesser(1, extra);
-        let wide = single + one + (end - (at + 1)) as u32 * s.glyph.0;
-        if edge - position < wide {
-            return stands_at(
-                strode(p, position, extra),
-                printed_at(Pixels(pen), Chars(spaces)),
-                at,
-                plain_waits(at + 1, end),
-            );
-        }
-        position += wide;
-        extra -= one;
-        pen += wide;
-        spaces += 1;
-        at = end;
     }
 }
 
@@ -81,29 +72,17 @@ fn first_word(text: &[u8], s: Settings, p: Place, at: usize, m: Measure) -> Goin
     requires { ⌜ PassReady s p (now text) at nothingResumed m ⌝ }
     ensures { λ r. ⌜ Goes s p (now (text .entry)) at nothingResumed m r ⌝ }
 {
-    if plain_at(text, at) {
-        let glyph = s.glyph.0;
-        let cursor = p.cursor;
-        let end = word_within(text, at, room(cursor) / glyph);
-        if end != 0 {
+    match first_taken(text, s, p, at) {
+        First::None => stands_at(p, m, at, nothing_waits()),
+        First::Word(b) => {
+            let glyph = s.glyph;
             let spaces = p.spaces;
-            let n = (end - at) as u32;
-            let after = word_measure(Pixels(glyph), spaces, m, Chars(n), Chars(0));
-            let q = word_place(Pixels(glyph), p, Chars(n), Chars(0));
-            return stands_at(q, after, end, nothing_waits());
+            let place = b.place;
+            let chars = b.chars;
+            let after = word_measure(glyph, spaces, m, chars, Chars(0));
+            stands_at(place, after, b.end.0 as usize, nothing_waits())
         }
     }
-    stands_at(p, m, at, nothing_waits())
-}
-
-// Was a word printed last.
-fn just_printed(p: Place, m: Measure) -> bool
-    ensures { λ r. ⌜ r ≡ justPrinted p m ⌝ }
-{
-    if p.empty {
-        return false;
-    }
-    (m.pen.0 == m.width.0) & (m.spaces.0 == m.count.0)
 }
 
 // Words as far as they fit: plain ones in strides, others behind one space by themselves.
@@ -112,28 +91,38 @@ fn words_on(text: &[u8], s: Settings, p: Place, at: usize, m: Measure) -> Going
     ensures { λ r. ⌜ Goes s p (now (text .entry)) at nothingResumed m r ⌝ }
 {
     let mut g = first_word(text, s, p, at, m);
+    let first = g.place;
+    if first.empty {
+        return g;
+    }
     loop {
-        let q = g.place;
-        let n = g.measure;
-        if !just_printed(q, n) {
-            return g;
-        }
-        let far = strides(text, s, q, g.at.0 as usize, n);
+        let here = g.place;
+        let so = g.measure;
+        let far = strides(text, s, here, g.at.0 as usize, so);
         if far.waits.next.0 != 0 {
             return far;
         }
-        let v = far.place;
-        let o = far.measure;
-        let here = far.at.0;
-        g = pair_on(text, s, v, here as usize, o);
-        if g.at.0 == here {
-            return g;
+        let there = far.place;
+        let sum = far.measure;
+        let to = far.at.0 as usize;
+        match next_pair(text, s, there, to) {
+            Next::Nothing => {
+                return far;
+            }
+            Next::TooWide(w) => {
+                return stands_at(there, sum, to, w);
+            }
+            Next::Fits(t) => {
+                let place = t.place;
+                let after = measure_taken(s, sum, t);
+                g = stands_at(place, after, t.word.end.0 as usize, nothing_waits());
+            }
         }
     }
 }
 
 // The same of a pass that may have a rest to resume first.
-pub fn strides_on(text: &[u8], s: Settings, p: Place, at: usize, rest: Resumed, m: Measure) -> Going
+fn strides_on(text: &[u8], s: Settings, p: Place, at: usize, rest: Resumed, m: Measure) -> Going
     requires { ⌜ PassReady s p (now text) at rest m ⌝ }
     ensures { λ r. ⌜ Goes s p (now (text .entry)) at rest m r ⌝ }
 {
@@ -161,28 +150,4 @@ pub fn strides_unless(
         return stands_at(p, m, at, nothing_waits());
     }
     strides_on(text, s, p, at, rest, m)
-}
-
-// The line's end before a word that waits: its space is taken too, and drawn only with trailing spaces on.
-pub fn ends_waiting(text: &[u8], s: Settings, g: Going) -> Ended
-    requires { ⌜ WaitReady s (now text) g ⌝ }
-    ensures { λ r. ⌜ r ≡ ranFrom s (g .place) (now (text .entry)) (g .at .0) 0 0 (g .measure) ⌝ }
-{
-    let p = g.place;
-    let m = g.measure;
-    let cursor = p.cursor;
-    let spaces = p.spaces;
-    let next = g.waits.next;
-    let wide = spaces_width(spaces, 1);
-    if !fits(cursor, wide) {
-        let looked = g.waits.looked;
-        return ends_before(LineEnd::LineBreak, m, next, Chars(0), looked);
-    }
-    let far = g.waits.reach;
-    if s.trailing == 1 {
-        let drawn = noted_space(m, Chars(1), Pixels(wide));
-        return ends_before(LineEnd::LineBreak, drawn, next, Chars(0), far);
-    }
-    let hidden = noted_space(m, Chars(1), Pixels(0));
-    ends_before(LineEnd::LineBreak, hidden, next, Chars(0), far)
 }

@@ -175,8 +175,8 @@ returns-3 c =
 cast-at : tie.Need-cast-at Inv-loop μ-loop
 cast-at c = search needs
 
-no-rest-requires : tie.Need-no-rest-requires Inv-loop μ-loop
-no-rest-requires c κs = search needs
+nothing-left-requires : tie.Need-nothing-left-requires Inv-loop μ-loop
+nothing-left-requires c κs = search needs
 
 loop-less : tie.Need-loop-less Inv-loop μ-loop
 loop-less c =
@@ -193,9 +193,9 @@ loop-again c =
     let o = strode (k .before .before) in
     let x = k .token .given .0 .0 in
     let e = sym (d .step-token .ensures) ∙ c .before .before .before .stepped .given .1 in (
-      drawing-goes (stood o) x (pended k) _ (around o .before .nothing-measured .ensures) _ (w .draw-token .result) (w .draw-token .ensures) _ _ _ e _ (c .no-rest .ensures),
+      drawing-goes (stood o) x (pended k) _ (around o .before .nothing-measured .ensures) _ (w .draw-token .result) (w .draw-token .ensures) _ _ _ e _ (c .nothing-left .ensures),
       w .draw-token .kept .1 .1 .1 .1 .1 .1 .1 .1 .1 .0 ∙ kept o,
-      rw (none-held _ (x .end .0) _ (c .no-rest .ensures)) (step-foresees (ready (u .before)) _ _ _ e (u .look-after .result) (u .look-after .ensures)),
+      rw (none-held _ (x .end .0) _ (c .nothing-left .ensures)) (step-foresees (ready (u .before)) _ _ _ e (u .look-after .result) (u .look-after .ensures)),
     )
 
 pub draw-pass-spec : {M : Type 1} → statement M
@@ -223,6 +223,6 @@ draw-pass-spec =
     same-length-3
     returns-3
     cast-at
-    no-rest-requires
+    nothing-left-requires
     loop-less
     loop-again)

@@ -1,6 +1,5 @@
 -- `drawing::striding::draw_on` meets its contract.
 -- Assumes nothing.
-use mathlib.Core.Path.{refl}
 use Rattle.drawing.proofs.OnwardEvents.{drew-none, strode-to, pen-rest, strode-rest}
 use borrow.Author.Needs.{needs}
 use Rattle.drawing.proofs.striding.draw_on.Statement.{statement}
@@ -20,11 +19,11 @@ returns c =
     let i = g .before .before in
     strode-rest (i .before .before .before .before .pre) (i .if1 .taken) (g .draw-words .ensures)
 
-stands-at-requires : tie.Need-stands-at-requires
-stands-at-requires c κs = search needs
+inked-at-requires : tie.Need-inked-at-requires
+inked-at-requires c κs = search needs
 
 returns-2 : tie.Need-returns-2
-returns-2 c = strode-to (c .stands-at .ensures) refl (drew-none (c .before .before .before .before .before .pre))
+returns-2 c = strode-to (c .inked-at .ensures) (drew-none (c .before .before .before .before .before .pre))
 
 pub draw-on-spec : {M : Type 1} → statement M
-draw-on-spec = tie.close (tie.spec draw-words-requires same-length returns stands-at-requires returns-2)
+draw-on-spec = tie.close (tie.spec draw-words-requires same-length returns inked-at-requires returns-2)

@@ -1,6 +1,5 @@
 -- `drawing::striding::draw_unless` meets its contract.
 -- Assumes nothing.
-use mathlib.Core.Path.{refl}
 use Rattle.strides.specs.GoesLaws.{nothing-foreseen}
 use Rattle.drawing.proofs.OnwardEvents.{stays-foreseen, drew-none, strode-to}
 use borrow.Author.Needs.{needs}
@@ -10,14 +9,14 @@ use Rattle.drawing.proofs.striding.draw_unless.Tie as tie
 enum-told : tie.Need-enum-told
 enum-told c = search needs
 
-stands-at-requires : tie.Need-stands-at-requires
-stands-at-requires c κs = search needs
+inked-at-requires : tie.Need-inked-at-requires
+inked-at-requires c κs = search needs
 
 returns : tie.Need-returns
 returns c =
     let b = c .before .before .before .before .before in
     let a = b .args in
-    (strode-to (c .stands-at .ensures) refl (drew-none (b .pre .0)), stays-foreseen (a .s) (a .p) (a .text .now) (a .at) (a .rest) (a .seen) (a .pen) _ (c .stands-at .ensures) (b .pre .1))
+    (strode-to (c .inked-at .ensures) (drew-none (b .pre .0)), stays-foreseen (a .s) (a .p) (a .text .now) (a .at) (a .rest) (a .seen) (a .pen) _ (c .inked-at .ensures) (b .pre .1))
 
 enum-told-2 : tie.Need-enum-told-2
 enum-told-2 c = search needs
@@ -38,4 +37,4 @@ returns-2 c =
 
 pub draw-unless-spec : {M : Type 1} → statement M
 draw-unless-spec =
-    tie.close (tie.spec enum-told stands-at-requires returns enum-told-2 draw-on-requires same-length returns-2)
+    tie.close (tie.spec enum-told inked-at-requires returns enum-told-2 draw-on-requires same-length returns-2)

@@ -1,161 +1,129 @@
-use mathlib.Core.Path.{refl}
-use Prim.Native.Nat.{_+_, _-_, _*_, _≤_}
+-- `strides::strides::strides` meets its contract.
+-- Assumes nothing.
+use mathlib.Core.Path.{_≡_, refl, sym, subst}
+use mathlib.Core.Bool.{false}
+use Prim.Native.Nat.{_-_}
 use native.Mathlib.Omega.{arith}
 use lib.ListN.{length}
 use borrow.Author.Needs.{needs}
-use Rattle.laws.specs.Measuring.{printedAt}
-use Rattle.steps.specs.FineLaws.{times-bound}
+use Rattle.meaning.specs.declared.line.Measure.{Measure}
 use Rattle.steps.specs.Unrolled.{nothingResumed}
-use Rattle.parser.specs.PlainWords.{Stride}
-use Rattle.strides.specs.Strides.{strodePlace, Onward}
-use Rattle.strides.specs.OnwardLaws.{onward-on}
-use Rattle.strides.specs.StrideLaws.{stride-goes}
-use Rattle.strides.specs.GoesLaws.{strides-start, strides-end, none-waits, stride-waits}
+use Rattle.strides.specs.Strides.{Onward, Waits}
+use Rattle.strides.specs.Next.{Decides, Taking}
+use Rattle.strides.specs.OnwardLaws.{unmeasured-ready, onward-none, onward-on}
+use Rattle.strides.specs.NextLaws.{taken-full, taken-numbers, taken-ready, taken-onward}
+use Rattle.strides.specs.GoesLaws.{goes-to, goes-wait, goes-full}
 use Rattle.strides.proofs.strides.strides.Statement.{statement}
 use Rattle.strides.proofs.strides.strides.Tie as tie
 
 abbrev Inv-loop : tie.InvT-loop
-Inv-loop text s p from edge single at₀ position₀ extra₀ pen₀ spaces₀ at position extra pen spaces =
-    Onward s p text from nothingResumed (printedAt pen₀ spaces₀) (strodePlace p position extra) at (printedAt pen spaces)
+Inv-loop text s from place₀ at₀ sum₀ place at sum =
+    Onward s place₀ text at₀ nothingResumed sum₀ place at sum × (place .empty ≡ false)
 
 abbrev μ-loop : tie.MeasureT-loop
-μ-loop text s p from edge single at₀ position₀ extra₀ pen₀ spaces₀ at position extra pen spaces =
-    length text - at
+μ-loop text s from place₀ at₀ sum₀ place at sum = length text - at
 
-abbrev begin : tie.After-stride-end Inv-loop μ-loop → tie.Start Inv-loop μ-loop
+abbrev Asked : Type 0
+Asked = tie.After-next-stride Inv-loop μ-loop
+
+abbrev begin : Asked → tie.Start Inv-loop μ-loop
 begin c = c .before .before .before
 
-found : (c : tie.Else1 Inv-loop μ-loop) → Stride (begin (c .before) .args .text .now) (c .before .before .loop .at) (c .before .stride-end .result)
-found c = c .before .stride-end .ensures (c .if1 .left)
+-- The word that waits, and the pair that is taken.
+waits : (c : tie.After-w Inv-loop μ-loop) →
+    let l = c .before .before .before .loop in
+    let a = begin (c .before .before) .args in
+    Waits (a .s) (l .place) (a .text .now) (l .at) (c .w .given .0 .0)
+waits c =
+    let n = c .before .before in
+    let a = begin n .args in
+    subst (Decides (a .s) (n .before .loop .place) (a .text .now) (n .before .loop .at)) (c .w .given .1) (n .next-stride .ensures)
 
--- The word's width.
-wide : (c : tie.Else1 Inv-loop μ-loop) → (c .before .stride-end .result - (c .before .before .loop .at + 1)) * begin (c .before) .args .s .glyph .0 ≤ 65535 * 64
-wide c =
-    let s = begin (c .before) in
-    let w = found c .word .letters in
-    times-bound {n = 65535} (c .before .stride-end .result - (c .before .before .loop .at + 1)) (s .args .s .glyph .0) (omega (arith, w .inside, s .pre .0 .short)) (s .pre .0 .settings .1)
-
--- Where it waits.
-waiting : (c : tie.After-printed-at2 Inv-loop μ-loop) →
-    let e = c .before .before .before .before .before in
-    (e .before .before .loop .at + 1 ≤ 65535) × (e .before .stride-end .result ≤ 65535)
-waiting c =
-    let e = c .before .before .before .before .before in
-    let w = found e .word .letters in
-    omega (arith, begin (e .before) .pre .0 .short, w .inside, w .forward)
+taking : (c : tie.After-t Inv-loop μ-loop) →
+    let l = c .before .before .before .loop in
+    let a = begin (c .before .before) .args in
+    Taking (a .s) (l .place) (a .text .now) (l .at) (c .t .given .0 .0)
+taking c =
+    let n = c .before .before in
+    let a = begin n .args in
+    subst (Decides (a .s) (n .before .loop .place) (a .text .now) (n .before .loop .at)) (c .t .given .1) (n .next-stride .ensures)
 
 loop-holds : tie.Need-loop-holds Inv-loop μ-loop
-loop-holds c = strides-start (c .before .pre)
+loop-holds c = let s = c .before in (onward-none (s .pre .0), s .pre .1)
 
-stride-end-requires : tie.Need-stride-end-requires Inv-loop μ-loop
-stride-end-requires c κs = search needs
+next-stride-requires : tie.Need-next-stride-requires Inv-loop μ-loop
+next-stride-requires c κs = let i = c .loop .inv in (unmeasured-ready (i .0 .ready), i .1)
 
-strode-requires : tie.Need-strode-requires Inv-loop μ-loop
-strode-requires c κs = search needs
-
-printed-at-requires : tie.Need-printed-at-requires Inv-loop μ-loop
-printed-at-requires c κs = search needs
+enum-told : tie.Need-enum-told Inv-loop μ-loop
+enum-told c = search needs
 
 nothing-waits-requires : tie.Need-nothing-waits-requires Inv-loop μ-loop
 nothing-waits-requires c κs = search needs
 
 stands-at-requires : tie.Need-stands-at-requires Inv-loop μ-loop
 stands-at-requires c κs =
-    let i = c .before .before .before .before .before .loop .inv .ready in
-    omega (arith, i .inside, i .short)
+    let r = c .before .before .before .before .loop .inv .0 .ready in
+    omega (arith, r .inside, r .short)
 
 returns : tie.Need-returns Inv-loop μ-loop
 returns c =
     let w = c .before in
-    let a = w .before in
-    let l = a .before .before .before .before in
-    strides-end (l .before .before .pre) (l .loop .at) (w .nothing-waits .result) (a .before .strode .ensures) (a .printed-at .ensures) (c .stands-at .ensures) (l .loop .inv) refl
-    (none-waits _ (w .nothing-waits .ensures))
+    let i = w .before .before .before .before .loop .inv in
+    (goes-to _ (w .nothing-waits .ensures) (c .stands-at .ensures) (i .0), goes-full _ _ _ _ (c .stands-at .ensures) (i .1))
 
-lesser-requires : tie.Need-lesser-requires Inv-loop μ-loop
-lesser-requires c κs = search needs
-
-add-wide : tie.Need-add-wide Inv-loop μ-loop
-add-wide c = search needs
-
-add-wide-2 : tie.Need-add-wide-2 Inv-loop μ-loop
-add-wide-2 c = search needs
-
-sub-wide : tie.Need-sub-wide Inv-loop μ-loop
-sub-wide c = omega (arith, found (c .before) .word .letters .forward)
-
-cast-wide : tie.Need-cast-wide Inv-loop μ-loop
-cast-wide c =
-    let s = begin (c .before .before) in
-    omega (arith, found (c .before) .word .letters .inside, s .pre .0 .short)
-
-mul-wide : tie.Need-mul-wide Inv-loop μ-loop
-mul-wide c = record { fits = omega (arith, wide (c .before .before)) }
-
-add-wide-3 : tie.Need-add-wide-3 Inv-loop μ-loop
-add-wide-3 c =
-    let l = c .before in
-    let p = begin (l .before .before) .pre .0 .place .1 in
-    record { fits = omega (arith, wide (l .before), l .lesser .ensures, p .1) }
-
-sub-if2 : tie.Need-sub-if2 Inv-loop μ-loop
-sub-if2 c = search needs
-
-strode-requires-2 : tie.Need-strode-requires-2 Inv-loop μ-loop
-strode-requires-2 c κs = search needs
-
-printed-at-requires-2 : tie.Need-printed-at-requires-2 Inv-loop μ-loop
-printed-at-requires-2 c κs = search needs
-
-add-plain-waits : tie.Need-add-plain-waits Inv-loop μ-loop
-add-plain-waits c = omega (arith, waiting c)
-
-plain-waits-requires : tie.Need-plain-waits-requires Inv-loop μ-loop
-plain-waits-requires c κs = waiting c
+enum-known-w : tie.Need-enum-known-w Inv-loop μ-loop
+enum-known-w c = search needs
 
 stands-at-requires-2 : tie.Need-stands-at-requires-2 Inv-loop μ-loop
-stands-at-requires-2 c κs = omega (arith, waiting (c .before))
+stands-at-requires-2 c κs =
+    let r = c .before .before .before .before .loop .inv .0 .ready in
+    omega (arith, r .inside, r .short)
 
 returns-2 : tie.Need-returns-2 Inv-loop μ-loop
 returns-2 c =
-    let w = c .before in
-    let a = w .before in
-    let i = a .before .before in
-    let k = i .before .before in
-    let e = k .before in
-    let l = e .before .before in
-    strides-end (l .before .before .pre) (l .loop .at) (w .plain-waits .result) (a .before .strode2 .ensures) (a .printed-at2 .ensures) (c .stands-at2 .ensures) (l .loop .inv) refl
-    (λ d. stride-waits (l .loop .inv .ready) refl _ (found e) _ _ (k .lesser .ensures) refl (i .if2 .taken) _ (w .plain-waits .ensures))
+    let w = c .before .before in
+    let i = w .before .before .before .loop .inv in
+    (goes-wait _ _ (c .stands-at2 .ensures) (i .0) refl (waits w), goes-full _ _ _ _ (c .stands-at2 .ensures) (i .1))
 
-add-position : tie.Need-add-position Inv-loop μ-loop
-add-position c =
-    let i = c .before .before .before .before .before .loop .inv .ready in
-    record { fits = omega (arith, c .if2 .left, i .place .0) }
+enum-known-t : tie.Need-enum-known-t Inv-loop μ-loop
+enum-known-t c = search needs
 
-sub-extra : tie.Need-sub-extra Inv-loop μ-loop
-sub-extra c = omega (arith, c .before .before .lesser .ensures)
+measure-taken-requires : tie.Need-measure-taken-requires Inv-loop μ-loop
+measure-taken-requires c κs =
+    let t = c .before in
+    taken-ready (taking t) (t .before .before .before .loop .inv .0 .ready)
 
-add-pen : tie.Need-add-pen Inv-loop μ-loop
-add-pen c =
-    let i = c .before .before .before .before .before .loop .inv .ready in
-    record { fits = omega (arith, c .if2 .left, i .place .0, i .small, i .inside, i .short) }
+cast-at : tie.Need-cast-at Inv-loop μ-loop
+cast-at c = search needs
 
-add-spaces : tie.Need-add-spaces Inv-loop μ-loop
-add-spaces c =
-    let i = c .before .before .before .before .before .loop .inv .ready in
-    record { fits = omega (arith, i .small, i .inside, i .short) }
+-- From the place after a pair back to what was found.
+abbrev found : tie.After-struct-known Inv-loop μ-loop → tie.After-t Inv-loop μ-loop
+found c = c .before .before .before .before
+
+-- The pass from there.
+onward : (c : tie.After-struct-known Inv-loop μ-loop) →
+    let t = found c in
+    let l = t .before .before .before .loop in
+    let a = begin (t .before .before) .args in
+    let x = t .t .given .0 .0 in
+    Onward (a .s) (l .place) (a .text .now) (l .at) nothingResumed (l .sum) (x .place) (x .word .end .0) (c .before .before .measure-taken .result)
+onward c =
+    let t = found c in
+    let l = t .before .before .before .loop in
+    let a = begin (t .before .before) .args in
+    let x = t .t .given .0 .0 in
+    subst (λ (n : Measure). Onward (a .s) (l .place) (a .text .now) (l .at) nothingResumed (l .sum) (x .place) (x .word .end .0) n) (sym (c .before .before .measure-taken .ensures))
+    (taken-onward (taking t) (l .inv .0 .ready))
 
 loop-less : tie.Need-loop-less Inv-loop μ-loop
 loop-less c =
-    let w = found (c .before .before .before) .word .letters in
-    omega (arith, w .forward, w .inside)
+    let t = found c in
+    omega (arith, taken-numbers (taking t) (t .before .before .before .loop .inv .0 .ready), onward c .ready .inside)
 
 loop-again : tie.Need-loop-again Inv-loop μ-loop
 loop-again c =
-    let k = c .before .before in
-    let e = k .before in
-    let i = e .before .before .loop .inv in
-    onward-on i (stride-goes (i .ready) refl _ (found e) _ _ (k .lesser .ensures) refl (c .if2 .left))
+    let t = found c in
+    (onward-on (t .before .before .before .loop .inv .0) (onward c), taken-full (taking t))
 
 pub strides-spec : {M : Type 1} → statement M
 strides-spec =
@@ -164,29 +132,16 @@ strides-spec =
     Inv-loop
     μ-loop
     loop-holds
-    stride-end-requires
-    strode-requires
-    printed-at-requires
+    next-stride-requires
+    enum-told
     nothing-waits-requires
     stands-at-requires
     returns
-    lesser-requires
-    add-wide
-    add-wide-2
-    sub-wide
-    cast-wide
-    mul-wide
-    add-wide-3
-    sub-if2
-    strode-requires-2
-    printed-at-requires-2
-    add-plain-waits
-    plain-waits-requires
+    enum-known-w
     stands-at-requires-2
     returns-2
-    add-position
-    sub-extra
-    add-pen
-    add-spaces
+    enum-known-t
+    measure-taken-requires
+    cast-at
     loop-less
     loop-again)
