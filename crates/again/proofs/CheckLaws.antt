@@ -11,7 +11,7 @@ use Rattle.basis.specs.Choice.{pick}
 use Rattle.unicode.specs.Decoding.{decodeAll}
 use Rattle.unicode.specs.Places.{boundaryAt}
 use Rattle.meaning.specs.Checks.{refuseIf, checkLength, checkUtf8}
-use Rattle.meaning.specs.Table.{entryIn, entriesIn}
+use Rattle.meaning.specs.Table.{entryNumbers, entryIn, entriesIn}
 use Rattle.meaning.specs.WellFormed.{textLength}
 use Rattle.meaning.specs.Edit.{unaffected, checkWhole, restFits, partFits}
 use Rattle.meaning.specs.declared.edit.Edit.{Edit}
@@ -22,40 +22,6 @@ use Rattle.meaning.specs.declared.refusals.Checked.{Checked}
 use Rattle.meaning.specs.declared.refusals.Checked.the-variants.{Good, Refused}
 use Rattle.again.specs.PartChars.{part-boundary}
 use Rattle.again.specs.Checking.{wholeOf, whole-is, endsFit, lengthFits, part-fits, checkFirst, bad-edit, good-edit}
-
--- ---- an edit of a text of n bytes
-
-module _ (n : ℕ) (ed : Edit) where
-  pub whole-backward : ed .to .0 < ed .from .0 → Good ≡ wholeOf n ed
-  unfolding wholeOf pick
-  whole-backward h = rw (lt-leb _ _ h)
-
-  pub length-backward : (e : Entry) (len : ℕ) → ed .to .0 < ed .from .0 → false ≡ lengthFits n ed e len
-  unfolding lengthFits
-  length-backward e len h = rw (lt-leb _ _ h)
-
-  module _ (order : ed .from .0 ≤ ed .to .0) where
-    pub whole-past : n < ed .to .0 → Good ≡ wholeOf n ed
-    unfolding wholeOf pick
-    whole-past h = rw (le-leb _ _ order, lt-leb _ _ h)
-
-    pub length-past : (e : Entry) (len : ℕ) → n < ed .to .0 → false ≡ lengthFits n ed e len
-    unfolding lengthFits
-    length-past e len h = rw (le-leb _ _ order, lt-leb _ _ h)
-
-    -- The length of the whole that the code has found.
-    module _ (inside : ed .to .0 ≤ n) (whole : ℕ) (is : whole ≡ n + ed .inserted .0 - (ed .to .0 - ed .from .0)) where
-      pub whole-long : 65535 < whole → Refused (TextTooLong whole) ≡ wholeOf n ed
-      unfolding wholeOf checkLength refuseIf pick
-      whole-long h = rw is (rw (le-leb _ _ order, le-leb _ _ inside, lt-ltb _ _ (rw is at h)))
-
-      pub whole-short : whole ≤ 65535 → Good ≡ wholeOf n ed
-      unfolding wholeOf checkLength refuseIf pick
-      whole-short h = rw (le-leb _ _ order, le-leb _ _ inside, le-ltb _ _ (rw is at h))
-
-      pub length-tested : (e : Entry) (len onward : ℕ) → onward ≡ whole - e .start .0 → eqb len onward ≡ lengthFits n ed e len
-      unfolding lengthFits
-      length-tested e len onward p = rw (le-leb _ _ order, le-leb _ _ inside, p, is)
 
 -- ---- by the table's check
 
@@ -78,7 +44,7 @@ ends-tested t ed e front end u p q = rw (part-boundary t u front, part-boundary 
 -- ---- 6, with the first affected line, whose rest fits
 
 module _ (table : List ℕ) (lines : ℕ) (ed : Edit) (k : ℕ) (k-is : k ≡ length (unaffected (ed .from .0) (entriesIn lines table)))
-    (part : List ℕ) (h : k < lines) (e : Entry) (e-is : e ≡ entryIn (drop (10 * k) table)) (f : restFits e (decodeAll part) ≡ true)
+    (part : List ℕ) (h : k < lines) (e : Entry) (e-is : e ≡ entryIn (drop (entryNumbers * k) table)) (f : restFits e (decodeAll part) ≡ true)
     (n : ℕ) (n-is : n ≡ textLength (entriesIn lines table))
   where
     abbrev old : List Entry

@@ -6,7 +6,7 @@ use mathlib.Core.Bool.{true, false}
 use mathlib.Core.List.{List}
 use lib.ListN.{getD, drop}
 use Rattle.basis.specs.Choice.{pick}
-use Rattle.meaning.specs.Table.{entryIn}
+use Rattle.meaning.specs.Table.{entryNumbers, entryIn}
 use Rattle.meaning.specs.Edit.{meets}
 use Rattle.meaning.specs.declared.edit.Edit.{Edit}
 use Rattle.meaning.specs.declared.line.Rest.{Rest}
@@ -15,12 +15,12 @@ use Rattle.table.specs.LinesFrom.{linesFrom, lines-more, lines-end, start-at}
 use Rattle.again.specs.Pointer.{standsBefore, passing, meetsFirst}
 
 module _ (ed : Edit) (start : ℕ) (t : List ℕ) (lines i : ℕ) where
-  pub skip-past : i < lines → standsBefore ed start (getD t (10 * i) 0) ≡ true
+  pub skip-past : i < lines → standsBefore ed start (getD t (entryNumbers * i) 0) ≡ true
       → passing ed start (linesFrom t lines i) ≡ suc (passing ed start (linesFrom t lines (i + 1)))
   unfolding passing pick
   skip-past h b = rw (lines-more t lines i h, start-at t i, b)
 
-  pub skip-met : i < lines → standsBefore ed start (getD t (10 * i) 0) ≡ false → passing ed start (linesFrom t lines i) ≡ 0
+  pub skip-met : i < lines → standsBefore ed start (getD t (entryNumbers * i) 0) ≡ false → passing ed start (linesFrom t lines i) ≡ 0
   unfolding passing pick
   skip-met h b = rw (lines-more t lines i h, start-at t i, b)
 
@@ -32,7 +32,7 @@ module _ (ed : Edit) (start : ℕ) (t : List ℕ) (lines i : ℕ) where
   unfolding meetsFirst
   met-none rest h = rw (lines-end t lines i h)
 
-  pub met-line : (rest : Rest) (e : Entry) → i < lines → e ≡ entryIn (drop (10 * i) t)
+  pub met-line : (rest : Rest) (e : Entry) → i < lines → e ≡ entryIn (drop (entryNumbers * i) t)
       → meets ed start rest e ≡ meetsFirst ed start rest (linesFrom t lines i)
   unfolding meetsFirst
   met-line rest e h q = ap (meets ed start rest) q ∙ rw (lines-more t lines i h)

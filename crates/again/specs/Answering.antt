@@ -102,12 +102,12 @@ module _ (s : Settings) (part table : List ℕ) (lines : ℕ) (ed : Edit) where
 
     module _ (n : ℕ) (is : n ≡ length (linesAfter s part table lines ed)) where
       -- Refusal 8.
-      pub too-small : capacityOf 10 table < n → Answers s part table lines ed (relaid.Refused (TooSmall n)) table
+      pub too-small : capacityOf entryNumbers table < n → Answers s part table lines ed (relaid.Refused (TooSmall n)) table
       unfolding checkRoom refuseIf pick
       too-small h = refused (TooSmall n) (room-decides ∙ rw (← is, lt-ltb _ _ h))
 
       -- The lines are written.
-      pub laid-again : (laid : ℕ) → laid ≡ length (linesLaid s part table lines ed) → n ≤ capacityOf 10 table
+      pub laid-again : (laid : ℕ) → laid ≡ length (linesLaid s part table lines ed) → n ≤ capacityOf entryNumbers table
           → Answers s part table lines ed (relaid.Lines n laid) (written table (ofAll ofEntry (linesAfter s part table lines ed)))
       unfolding relayAnswer relayTable checkRoom refuseIf pick
       laid-again laid l h =

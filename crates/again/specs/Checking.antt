@@ -8,11 +8,11 @@ use mathlib.Core.List.{List, [], _∷_}
 use borrow.Author.Tests.{lt-ltb}
 use lib.Dec.{leb, eqb}
 use lib.ListN.{length, drop, length-append}
-use Rattle.basis.specs.Choice.{pick}
+use Rattle.basis.specs.Choice.{pick, pick-under, by-test}
 use Rattle.unicode.specs.Decoding.{decodeAll}
 use Rattle.unicode.specs.Places.{boundary}
 use Rattle.meaning.specs.Checks.{refuseIf, firstOf, checkSettings, checkLength, checkUtf8, checkText}
-use Rattle.meaning.specs.Table.{entryIn, entriesIn}
+use Rattle.meaning.specs.Table.{entryNumbers, entryIn, entriesIn}
 use Rattle.meaning.specs.WellFormed.{textLength, checkTable}
 use Rattle.meaning.specs.Edit.{unaffected, affected, inOrder, newLength, checkWhole, restFits, checkRest, partFits, checkEdit}
 use Rattle.meaning.specs.declared.settings.Settings.{Settings}
@@ -26,19 +26,26 @@ use Rattle.laws.specs.TableLaws.{entries-length}
 use Rattle.laws.specs.TestOrder.{first-alone}
 use Rattle.laws.specs.GoodChecks.{length-good}
 use Rattle.laws.specs.Affected.{affected-split}
+use Rattle.table.specs.EditAlone.{editedWhole}
+use Rattle.table.specs.declared.edited.Whole.{Whole}
+use Rattle.table.specs.declared.edited.Whole.the-variants.{Length, OutOfPlace}
 use Rattle.table.specs.LinesFrom.{linesFrom, lines-more, lines-end}
 use Rattle.again.specs.OldLines.{lines-drop, affected-drop}
 
 -- ---- the edited whole
 
--- 3, where the table is well formed and the old text has n bytes.
+-- 3, where the table is well formed.
+abbrev pub wholeChecked : Whole → Checked
+wholeChecked (Length n) = checkLength n
+wholeChecked OutOfPlace = Good
+
+-- The old text has n bytes.
 unfoldable pub wholeOf : (n : ℕ) → Edit → Checked
-wholeOf n ed =
-    pick (leb (ed .from .0) (ed .to .0) && leb (ed .to .0) n) (checkLength (n + ed .inserted .0 - (ed .to .0 - ed .from .0))) Good
+wholeOf n ed = wholeChecked (editedWhole n ed)
 
 pub whole-is : (es : List Entry) (ed : Edit) → wholeOf (textLength es) ed ≡ checkWhole Good es ed
-unfolding wholeOf checkWhole inOrder newLength
-whole-is es ed = refl
+unfolding wholeOf editedWhole checkWhole inOrder newLength
+whole-is es ed = pick-under wholeChecked (leb (ed .from .0) (ed .to .0) && leb (ed .to .0) (textLength es)) _ _
 
 -- ---- the lent part
 
@@ -47,14 +54,19 @@ unfoldable pub endsFit : Edit → Entry → List ℕ → Bool
 endsFit ed e cs = boundary cs (ed .from .0 - e .start .0) && boundary cs (ed .from .0 + ed .inserted .0 - e .start .0)
 
 -- The part has the bytes that the edited whole has from there on.
+abbrev pub wholeFits : Whole → (start length : ℕ) → Bool
+wholeFits (Length n) start len = eqb len (n - start)
+wholeFits OutOfPlace start len = false
+
 unfoldable pub lengthFits : (n : ℕ) → Edit → Entry → (length : ℕ) → Bool
-lengthFits n ed e len =
-    leb (ed .from .0) (ed .to .0) && leb (ed .to .0) n && eqb len (n + ed .inserted .0 - (ed .to .0 - ed .from .0) - e .start .0)
+lengthFits n ed e len = wholeFits (editedWhole n ed) (e .start .0) len
 
 pub part-fits : (es : List Entry) (ed : Edit) (e : Entry) (len : ℕ) (cs : List ℕ)
     → partFits es ed e len cs ≡ lengthFits (textLength es) ed e len && endsFit ed e cs
-unfolding partFits lengthFits endsFit inOrder newLength
-part-fits es ed e len cs = and-assoc (lengthFits (textLength es) ed e len) _ _
+unfolding partFits lengthFits editedWhole endsFit inOrder newLength pick
+part-fits es ed e len cs =
+    by-test (leb (ed .from .0) (ed .to .0) && leb (ed .to .0) (textLength es))
+    (λ h. rw h (and-assoc (eqb len (newLength es ed - e .start .0)) _ _)) (λ h. rw h)
 
 -- ---- the tests, one behind the other
 
@@ -98,7 +110,7 @@ module _ (table : List ℕ) (lines : ℕ) (ed : Edit) (k : ℕ) (k-is : k ≡ le
   pub none-affected : lines ≤ k → onward ≡ []
   none-affected h = onward-is ∙ lines-end table lines k h
 
-  pub first-affected : k < lines → onward ≡ entryIn (drop (10 * k) table) ∷ linesFrom table lines (k + 1)
+  pub first-affected : k < lines → onward ≡ entryIn (drop (entryNumbers * k) table) ∷ linesFrom table lines (k + 1)
   first-affected h = onward-is ∙ lines-more table lines k h
 
   module _ (part : List ℕ) where
@@ -109,7 +121,7 @@ module _ (table : List ℕ) (lines : ℕ) (ed : Edit) (k : ℕ) (k-is : k ≡ le
     unfolding checkFirst checkRest checkEdit firstOf
     no-line h = rw (none-affected h)
 
-    module _ (h : k < lines) (e : Entry) (e-is : e ≡ entryIn (drop (10 * k) table)) where
+    module _ (h : k < lines) (e : Entry) (e-is : e ≡ entryIn (drop (entryNumbers * k) table)) where
       here : onward ≡ e ∷ linesFrom table lines (k + 1)
       here = first-affected h ∙ rw e-is
 

@@ -13,7 +13,7 @@ use Rattle.basis.specs.Order.{by-le}
 use Rattle.unicode.specs.Decoding.{decodeAll}
 use Rattle.unicode.specs.Places.{boundary}
 use Rattle.meaning.specs.Checks.{firstOf, checkSettings, checkLength, checkUtf8}
-use Rattle.meaning.specs.Table.{entryIn, entriesIn}
+use Rattle.meaning.specs.Table.{entryNumbers, entryIn, entriesIn}
 use Rattle.meaning.specs.WellFormed.{textLength, nothing, line, checkTable}
 use Rattle.meaning.specs.Edit.{keptFrom, unaffected, affected, inOrder, newLength, checkWhole, restFits, partFits, again}
 use Rattle.meaning.specs.declared.settings.Settings.{Settings}
@@ -93,7 +93,7 @@ module _ (s : Settings) (part table : List ℕ) (lines : ℕ) (ed : Edit) (g : A
     unfolding checkLength
     short-part = ltb-false 65535 (length part) (refuse-good (ltb 65535 (length part)) (TextTooLong (length part)) (g .short))
 
-    module _ (e : Entry) (e-is : e ≡ entryIn (drop (10 * k) table)) where
+    module _ (e : Entry) (e-is : e ≡ entryIn (drop (entryNumbers * k) table)) where
       pub rest-good : restFits e cs ≡ true
       rest-good =
           by-test (restFits e cs) (λ t. t) (λ f. absurd (no-refusal _ (bad-rest table lines ed k k-is part is-affected e e-is f)))

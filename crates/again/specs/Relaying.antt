@@ -8,7 +8,7 @@ use lib.ListN.{length, take, drop, length-append, length-map}
 use Rattle.basis.specs.Order.{by-lt}
 use Rattle.unicode.specs.Decoding.{decodeAll}
 use Rattle.meaning.specs.Layout.{entryOfRow}
-use Rattle.meaning.specs.Table.{ofEntry, ofAll, capacityOf, written, entryIn, entriesIn}
+use Rattle.meaning.specs.Table.{entryNumbers, ofEntry, ofAll, capacityOf, written, entryIn, entriesIn}
 use Rattle.meaning.specs.Edit.{unaffected, movedEntry, Again, linesAgain}
 use Rattle.meaning.specs.Calls.{linesLaid, linesAfter}
 use Rattle.meaning.specs.declared.settings.Settings.{Settings}
@@ -44,7 +44,7 @@ use Rattle.again.specs.declared.stop.Found.{Found}
 pub record Sought (s : Settings) (part table : List ℕ) (lines : ℕ) (ed : Edit) (k : ℕ) (e : Entry) (p : Stand) (found : Found) : Type 0 where
   pub good : checkBefore s part table lines ed ≡ Good
   pub first : k ≡ length (unaffected (ed .from .0) (entriesIn lines table))
-  pub entry : e ≡ entryIn (drop (10 * k) table)
+  pub entry : e ≡ entryIn (drop (entryNumbers * k) table)
   pub stand : p ≡ atFront (resumedOf e (decodeAll part))
   pub finds : found ≡ foundIn lines (againFrom s part ed (entriesIn lines table) (e .start .0) p)
 
@@ -111,12 +111,12 @@ module _ (s : Settings) (part table : List ℕ) (lines : ℕ) (ed : Edit) (k : �
 
     -- ---- refusal 8
 
-    pub no-room : length table / 10 < k + found .laid + (lines - found .kept)
+    pub no-room : length table / entryNumbers < k + found .laid + (lines - found .kept)
         → Answers s part table lines ed (relaid.Refused (TooSmall (k + found .laid + (lines - found .kept)))) table
     unfolding capacityOf
     no-room h = too-small s part table lines ed (q .good) (k + found .laid + (lines - found .kept)) needed-is h
 
-    module _ (room : k + found .laid + (lines - found .kept) ≤ length table / 10) where
+    module _ (room : k + found .laid + (lines - found .kept) ≤ length table / entryNumbers) where
       -- ---- the lines kept
 
       abbrev left : List Entry

@@ -7,7 +7,7 @@ use mathlib.Core.Bool.{true, false, false≢true}
 use mathlib.Core.List.{List, [], _∷_, map}
 use lib.ListN.{length, drop, length-drop, length-map}
 use lib.Seq.{drop-drop}
-use Rattle.meaning.specs.Table.{entriesIn}
+use Rattle.meaning.specs.Table.{entryNumbers, entriesIn}
 use Rattle.meaning.specs.Edit.{movedEntry, keptFrom, Again}
 use Rattle.meaning.specs.declared.settings.Settings.{Settings}
 use Rattle.meaning.specs.declared.edit.Edit.{Edit}
@@ -38,7 +38,7 @@ PassedBy ed old start k = (later : ℕ) (rest : Rest) → start ≤ later → ke
 -- What the call has checked: the first affected line is line k, and laying starts from a stand of a part that stands behind base bytes.
 pub record FindReady (s : Settings) (part table : List ℕ) (lines k base : ℕ) (ed : Edit) (p : Stand) : Type 0 where
   pub stand : StandReady s part p
-  pub room : 10 * lines ≤ length table
+  pub room : entryNumbers * lines ≤ length table
   pub low : base ≤ 65536
   pub first : k ≤ lines
   pub rising : Rising (entriesIn lines table)

@@ -6,7 +6,7 @@ use mathlib.Core.Path.{_≡_, refl, sym, ap, _∙_}
 use mathlib.Core.List.{List, _∷_}
 use lib.ListN.{length, take}
 use Rattle.basis.specs.Choice.{by-test}
-use Rattle.meaning.specs.Table.{ofEntry}
+use Rattle.meaning.specs.Table.{entryNumbers, ofEntry}
 use Rattle.meaning.specs.Edit.{movedEntry}
 use Rattle.meaning.specs.declared.settings.Settings.{Settings}
 use Rattle.meaning.specs.declared.line.Entry.{Entry}
@@ -25,7 +25,7 @@ pub record WriteReady (s : Settings) (part table : List ℕ) (base k laid : ℕ)
   pub stand : StandReady s part p
   pub low : base ≤ 65536
   pub enough : laid ≤ length (entriesFrom s part base p)
-  pub room : 10 * (k + laid) ≤ length table
+  pub room : entryNumbers * (k + laid) ≤ length table
 
 -- n of the lines are written to the table t, which is u now: what is still to be written to u makes what was to be written to t.
 pub record Wrote (s : Settings) (part t u : List ℕ) (base k laid : ℕ) (p₀ : Stand) (n : ℕ) (p : Stand) : Type 0 where
@@ -63,8 +63,8 @@ module _ (s : Settings) (part t : List ℕ) (base k laid : ℕ) (p₀ : Stand) w
           })
 
       -- One more is written.
-      module _ (more : n < laid) (room : 10 * (k + n) + 10 ≤ length u) (e : Entry) (e-is : e ≡ movedEntry (behind base) (x .entry)) (v : List ℕ)
-          (put : v ≡ putNumbers u (10 * (k + n)) (ofEntry e)) (kept : length v ≡ length u)
+      module _ (more : n < laid) (room : entryNumbers * (k + n) + entryNumbers ≤ length u) (e : Entry) (e-is : e ≡ movedEntry (behind base) (x .entry)) (v : List ℕ)
+          (put : v ≡ putNumbers u (entryNumbers * (k + n)) (ofEntry e)) (kept : length v ≡ length u)
         where
           abbrev onward : ℕ
           onward = laid - (n + 1)

@@ -1,7 +1,8 @@
 // What laying again tests before anything is laid: refusals 1 to 6, in this order.
-use crate::meeting::less;
 use crate::rest::rest_fits;
+use basis::numbers::less_wide;
 use checks::settings::check_settings;
+use checks::text::check_length;
 use checks::text::check_text;
 use meaning::answers::Affected;
 use meaning::counts::Offset;
@@ -10,7 +11,9 @@ use meaning::line::Entry;
 use meaning::refusals::Checked;
 use meaning::refusals::Refusal;
 use meaning::settings::Settings;
-use table::edited::whole_length;
+use meaning::sizes::TEXT_LIMIT;
+use table::edited::Whole;
+use table::edited::edited_whole;
 use table::entries::read_entry;
 use table::well_formed::look_over;
 use table::well_formed::text_length;
@@ -27,20 +30,13 @@ ghost use Rattle.table.specs.Looking.{lookedOver};
 ghost use Rattle.again.specs.Checking.{wholeOf, endsFit, lengthFits, checkFirst, checkLent, checkBefore};
 
 // Refusal 3 of the edited whole, where the old text has so many bytes.
-fn whole_of(text: Offset, edit: Edit) -> Checked
-    ensures { λ r. ⌜ r ≡ wholeOf (text .0) edit ⌝ }
+fn whole_of(bytes: Offset, edit: Edit) -> Checked
+    ensures { λ r. ⌜ r ≡ wholeOf (bytes .0) edit ⌝ }
 {
-    if edit.to.0 < edit.from.0 {
-        return Checked::Good;
+    match edited_whole(bytes, edit) {
+        Whole::Length(whole) => check_length(whole),
+        Whole::OutOfPlace => Checked::Good,
     }
-    if text.0 < edit.to.0 {
-        return Checked::Good;
-    }
-    let length = whole_length(text, edit);
-    if 65535 < length {
-        return Checked::Refused(Refusal::TextTooLong(length));
-    }
-    Checked::Good
 }
 
 // The same from the table and the look over it: a table that is refused says nothing of a length.
@@ -55,17 +51,13 @@ fn check_whole(table: &[u32], lines: usize, edit: Edit, looked: Affected) -> Che
 }
 
 // Has a part of so many bytes what the edited whole has from an entry's start on.
-fn length_fits(text: Offset, edit: Edit, e: Entry, length: usize) -> bool
-    ensures { λ r. ⌜ r ≡ lengthFits (text .0) edit e length ⌝ }
+fn length_fits(bytes: Offset, edit: Edit, e: Entry, length: usize) -> bool
+    ensures { λ r. ⌜ r ≡ lengthFits (bytes .0) edit e length ⌝ }
 {
-    if edit.to.0 < edit.from.0 {
-        return false;
+    match edited_whole(bytes, edit) {
+        Whole::Length(whole) => length as u64 == less_wide(whole, e.start.0 as u64),
+        Whole::OutOfPlace => false,
     }
-    if text.0 < edit.to.0 {
-        return false;
-    }
-    let whole = whole_length(text, edit);
-    length as u64 == less(whole, e.start.0 as u64)
 }
 
 // Are both ends of the inserted bytes boundaries in a part that stands from an entry's start on.
@@ -75,8 +67,8 @@ fn ends_fit(part: &[u8], edit: Edit, e: Entry) -> bool
 {
     let start = e.start.0 as u64;
     let from = edit.from.0 as u64;
-    let front = less(from, start);
-    let end = less(from + edit.inserted.0 as u64, start);
+    let front = less_wide(from, start);
+    let end = less_wide(from + edit.inserted.0 as u64, start);
     is_boundary(part, front as usize) & is_boundary(part, end as usize)
 }
 
@@ -105,7 +97,7 @@ fn check_first(part: &[u8], table: &[u32], lines: usize, edit: Edit, k: usize) -
 fn check_lent(part: &[u8], table: &[u32], lines: usize, edit: Edit) -> Affected
     ensures { λ r. ⌜ r ≡ lookedOver (edit .from .0) (checkLent (now (part .entry)) (now (table .entry)) lines edit) (entriesIn lines (now (table .entry))) ⌝ }
 {
-    if 65535 < part.len() {
+    if TEXT_LIMIT < part.len() {
         return Affected::Refused(Refusal::TextTooLong(part.len() as u64));
     }
     let a = edit.from;

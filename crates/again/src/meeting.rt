@@ -3,28 +3,10 @@ use meaning::counts::Offset;
 use meaning::edit::Edit;
 use meaning::line::Entry;
 use meaning::line::Rest;
-ghost use Prim.Native.Nat.{_-_};
+use table::edited::moved_to;
 ghost use mathlib.Core.Path.{_≡_};
-ghost use Rattle.meaning.specs.Edit.{moved, movedRest, meets};
+ghost use Rattle.meaning.specs.Edit.{movedRest, meets};
 ghost use Rattle.again.specs.Pointer.{standsBefore};
-
-// A difference that is never below 0.
-pub fn less(x: u64, y: u64) -> u64
-    ensures { λ r. ⌜ r ≡ x - y ⌝ }
-{
-    if x < y {
-        return 0;
-    }
-    x - y
-}
-
-// An offset behind the replaced bytes, moved by the change of length. 32-bit numbers are added in 64 bits, so that nothing wraps.
-fn moved_to(edit: Edit, x: u32) -> u64
-    ensures { λ r. ⌜ r ≡ moved edit x ⌝ }
-{
-    let replaced = less(edit.to.0 as u64, edit.from.0 as u64);
-    less(x as u64 + edit.inserted.0 as u64, replaced)
-}
 
 // Where a rest ends, moved: none stays none.
 fn moved_end(edit: Edit, rest: Rest) -> u64

@@ -8,6 +8,7 @@ use meaning::answers::Relaid;
 use meaning::edit::Edit;
 use meaning::refusals::Refusal;
 use meaning::settings::Settings;
+use meaning::sizes::ENTRY_NUMBERS;
 use rows::stand::at_front;
 use table::entries::read_entry;
 use table::moving::move_lines;
@@ -41,7 +42,7 @@ fn lay_lines(
     let left = lines - kept;
     let to = k + found.laid;
     let after = to + left;
-    if table.len() / 10 < after {
+    if table.len() / ENTRY_NUMBERS < after {
         return Relaid::Refused(Refusal::TooSmall(after as u64));
     }
     move_lines(table, kept, to, left, edit);

@@ -1,5 +1,5 @@
 // The rest that the first affected line resumes: refusal 5 of it, and what it is.
-use crate::meeting::less;
+use basis::numbers::less_wide;
 use meaning::counts::Chars;
 use meaning::counts::Offset;
 use meaning::line::Entry;
@@ -23,7 +23,7 @@ ghost use Rattle.again.specs.HeldRest.{restEnd, resumedOf};
 fn rest_end(e: Entry) -> usize
     ensures { λ r. ⌜ r ≡ restEnd e ⌝ }
 {
-    less(e.rest.end.0 as u64, e.start.0 as u64) as usize
+    less_wide(e.rest.end.0 as u64, e.start.0 as u64) as usize
 }
 
 // How many characters there are up to a boundary.

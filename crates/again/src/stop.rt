@@ -6,6 +6,7 @@ use meaning::counts::Offset;
 use meaning::edit::Edit;
 use meaning::line::Rest;
 use meaning::settings::Settings;
+use meaning::sizes::ENTRY_NUMBERS;
 use rows::stand::Stand;
 use rows::stand::lay_row;
 use steps::step::Resumed;
@@ -13,7 +14,7 @@ use table::entries::read_entry;
 ghost use Prim.Native.Nat.{_+_, _*_, _≤_};
 ghost use mathlib.Core.Path.{_≡_};
 ghost use lib.ListN.{length};
-ghost use Rattle.meaning.specs.Table.{entriesIn};
+ghost use Rattle.meaning.specs.Table.{entryNumbers, entriesIn};
 ghost use Rattle.table.specs.LinesFrom.{linesFrom};
 ghost use Rattle.again.specs.Behind.{restBehind, RestLow};
 ghost use Rattle.again.specs.Pointer.{passing, meetsFirst};
@@ -44,12 +45,12 @@ fn rest_behind(base: Offset, r: Resumed) -> Rest
 
 // The first old line, from line j on, that a line from a start on may meet.
 fn skip_before(table: &[u32], lines: usize, j: usize, edit: Edit, start: Offset) -> usize
-    requires { ⌜ (10 * lines ≤ length (now table)) × (j ≤ lines) ⌝ }
+    requires { ⌜ (entryNumbers * lines ≤ length (now table)) × (j ≤ lines) ⌝ }
     ensures { λ r. ⌜ r ≡ j + passing edit (start .0) (linesFrom (now (table .entry)) lines j) ⌝ }
 {
     let mut i: usize = j;
     while i < lines {
-        if !stands_before(edit, start, table[10 * i]) {
+        if !stands_before(edit, start, table[ENTRY_NUMBERS * i]) {
             return i;
         }
         i += 1;
@@ -59,7 +60,7 @@ fn skip_before(table: &[u32], lines: usize, j: usize, edit: Edit, start: Offset)
 
 // Is old line j, if there is one, met by a line with this start and rest.
 fn meets_first(table: &[u32], lines: usize, j: usize, edit: Edit, start: Offset, rest: Rest) -> bool
-    requires { ⌜ 10 * lines ≤ length (now table) ⌝ }
+    requires { ⌜ entryNumbers * lines ≤ length (now table) ⌝ }
     ensures { λ r. ⌜ r ≡ meetsFirst edit (start .0) rest (linesFrom (now (table .entry)) lines j) ⌝ }
 {
     if lines <= j {

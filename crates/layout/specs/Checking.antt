@@ -101,5 +101,5 @@ module _ (s : Settings) (t table : List ℕ) (h : checkLayout s t table ≡ Good
   pub good-ready : TextReady s t
   good-ready = text-ready s good-settings t good-text
 
-  pub good-room : 10 * length (entriesOf s t) ≤ length table
-  good-room = long-enough 10 (length (entriesOf s t)) table (omega arith) (sym (room-decides s t table good-settings good-text) ∙ h)
+  pub good-room : entryNumbers * length (entriesOf s t) ≤ length table
+  good-room = long-enough entryNumbers (length (entriesOf s t)) table (omega arith) (sym (room-decides s t table good-settings good-text) ∙ h)

@@ -5,6 +5,8 @@ use checks::text::check_text;
 use meaning::refusals::Checked;
 use meaning::refusals::Refusal;
 use meaning::settings::Settings;
+use meaning::sizes::ENTRY_NUMBERS;
+use meaning::sizes::EVENT_NUMBERS;
 use rows::lines::count_lines;
 ghost use mathlib.Core.Path.{_≡_};
 ghost use lib.ListN.{length};
@@ -29,7 +31,7 @@ fn check_lines(s: Settings, text: &[u8], table: &[u32]) -> Checked
     requires { ⌜ TextReady s (now text) ⌝ }
     ensures { λ r. ⌜ r ≡ checkRoom (capacityOf entryNumbers (now (table .entry))) (length (entriesOf s (now (text .entry)))) ⌝ }
 {
-    let room = table.len() / 10;
+    let room = table.len() / ENTRY_NUMBERS;
     if text.len() < room {
         return Checked::Good;
     }
@@ -56,7 +58,7 @@ pub fn check_events(s: Settings, text: &[u8], events: &[u32]) -> Checked
     requires { ⌜ TextReady s (now text) ⌝ }
     ensures { λ r. ⌜ r ≡ checkRoom (capacityOf eventNumbers (now (events .entry))) (length (eventsOf s (now (text .entry)))) ⌝ }
 {
-    let room = events.len() / 6;
+    let room = events.len() / EVENT_NUMBERS;
     if text.len() <= room {
         return Checked::Good;
     }

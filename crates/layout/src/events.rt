@@ -11,7 +11,7 @@ use table::entries::write_entry;
 ghost use Prim.Native.Nat.{_+_, _*_, _≤_};
 ghost use mathlib.Core.Path.{_≡_};
 ghost use lib.ListN.{length};
-ghost use Rattle.meaning.specs.Table.{ofEntry, ofAll, written};
+ghost use Rattle.meaning.specs.Table.{entryNumbers, ofEntry, ofAll, written};
 ghost use Rattle.table.specs.Numbers.{putEvents};
 ghost use Rattle.rows.specs.RowsFrom.{TextReady, entriesOf};
 ghost use Rattle.layout.specs.EventsFrom.{eventsOf, lineEvents, DrawReady};
@@ -81,7 +81,7 @@ pub struct Both {
 // room.
 pub fn write_and_draw(text: &[u8], s: Settings, table: &mut [u32], events: &mut [u32]) -> Both
     requires { ⌜ TextReady s (now text) ⌝ }
-    requires { ⌜ 10 * length (entriesOf s (now text)) ≤ length (now table) ⌝ }
+    requires { ⌜ entryNumbers * length (entriesOf s (now text)) ≤ length (now table) ⌝ }
     ensures { λ r. ⌜ r .lines ≡ length (entriesOf s (now (text .entry))) ⌝ }
     ensures { λ r. ⌜ r .events ≡ length (eventsOf s (now (text .entry))) ⌝ }
     ensures { λ r. ⌜ now (table .exit) ≡ written (now (table .entry)) (ofAll ofEntry (entriesOf s (now (text .entry)))) ⌝ }

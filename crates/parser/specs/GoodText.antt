@@ -9,7 +9,7 @@ use Rattle.basis.specs.Order.{by-lt}
 use Rattle.meaning.specs.Checks.{checkText}
 use Rattle.meaning.specs.declared.refusals.Refusal.{Refusal}
 use Rattle.meaning.specs.declared.refusals.Checked.the-variants.{Good, Refused}
-use Rattle.checks.proofs.TextLaws.{too-long}
+use Rattle.checks.specs.TextLaws.{too-long}
 
 refused-good : {r : Refusal} → Refused r ≡ Good → ⊥
 refused-good e = let z : _≡_ {A = ℕ} 0 1 = cc in omega arith

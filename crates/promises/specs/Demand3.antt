@@ -11,7 +11,7 @@ use Rattle.unicode.specs.Encoding.{encodeAll}
 use Rattle.meaning.specs.Settings.{settingsOf}
 use Rattle.meaning.specs.Checks.{checkSettings}
 use Rattle.meaning.specs.Layout.{layout, entryOfRow}
-use Rattle.meaning.specs.Table.{entriesIn}
+use Rattle.meaning.specs.Table.{entryNumbers, entriesIn}
 use Rattle.meaning.specs.Edit.{unaffected}
 use Rattle.meaning.specs.Calls.{layoutAnswer, layoutTable, linesLaid, relayTable}
 use Rattle.meaning.specs.Answers.{affectedNumber, affectedValue, relayNumber, relayValue, relayCount}
@@ -42,22 +42,22 @@ pub record Demand3Of (s : Settings) (ed : Edit) (old new table : List ℕ) (line
   pub fresh-answer : layoutAnswer s (encodeAll new) table ≡ fresh.Lines (length (layout s new))
   pub fresh-table : after ≡ layoutTable s (encodeAll new) table
   -- The entries before the first affected line are as they were, and so is everything past the last line.
-  pub before-untouched : take (10 * length (unaffected (ed .from .0) (layout s old))) after
-      ≡ take (10 * length (unaffected (ed .from .0) (layout s old))) table
-  pub past-untouched : drop (10 * length (layout s new)) after ≡ drop (10 * length (layout s new)) table
+  pub before-untouched : take (entryNumbers * length (unaffected (ed .from .0) (layout s old))) after
+      ≡ take (entryNumbers * length (unaffected (ed .from .0) (layout s old))) table
+  pub past-untouched : drop (entryNumbers * length (layout s new)) after ≡ drop (entryNumbers * length (layout s new)) table
 
 demand-3-of : {s : Settings} {ed : Edit} {old new table : List ℕ} {lines : ℕ} {part : List ℕ} (after : List ℕ)
     → EditOf s ed old new table lines part → after ≡ relayTable s part table lines ed → Demand3Of s ed old new table lines part after
 demand-3-of {s} {ed} {old} {new} {table} after k e =
     let d = demand-3-holds k in
-    let n = 10 * length (unaffected (ed .from .0) (layout s old)) in
+    let n = entryNumbers * length (unaffected (ed .from .0) (layout s old)) in
     record {
       laid = d .relay-laid;
       holds = ap (entriesIn (length (layout s new))) (e ∙ d .relay-table) ∙ entries-written (layout s new) table;
       fresh-answer = d .fresh-call;
       fresh-table = e ∙ d .fresh-table;
       before-untouched = ap (take n) e ∙ d .before-untouched;
-      past-untouched = ap (drop (10 * length (layout s new))) e ∙ d .past-untouched;
+      past-untouched = ap (drop (entryNumbers * length (layout s new))) e ∙ d .past-untouched;
     }
 
 module _ (s : Settings) (ed : Edit) (old new : List ℕ) (part table : Lent) (lines : ℕ) where

@@ -15,10 +15,10 @@ use Rattle.table.proofs.affected.first_affected.Kinds as first-affected-kinds
 use Rattle.table.proofs.affected.first_affected.Reads as first-affected-reads
 use Rattle.again.proofs.relay.lay_again.Kinds as lay-again-kinds
 use Rattle.again.proofs.relay.lay_again.Reads as lay-again-reads
-use Rattle.table.proofs.height.text_height.Kinds as text-height-kinds
-use Rattle.table.proofs.height.text_height.Reads as text-height-reads
-use Rattle.table.proofs.height.line_y.Kinds as line-y-kinds
-use Rattle.table.proofs.height.line_y.Reads as line-y-reads
+use Rattle.heights.proofs.height.text_height.Kinds as text-height-kinds
+use Rattle.heights.proofs.height.text_height.Reads as text-height-reads
+use Rattle.heights.proofs.height.line_y.Kinds as line-y-kinds
+use Rattle.heights.proofs.height.line_y.Reads as line-y-reads
 
 -- checks::settings::check_settings
 abbrev pub check-settings : Call
@@ -48,10 +48,10 @@ first-affected = callOf 1 first-affected-kinds.ps first-affected-kinds.r first-a
 abbrev pub lay-again : Call
 lay-again = callOf 2 lay-again-kinds.ps lay-again-kinds.r lay-again-reads.Asked lay-again-reads.Learnt
 
--- table::height::text_height
+-- heights::height::text_height
 abbrev pub text-height : Call
 text-height = callOf 1 text-height-kinds.ps text-height-kinds.r text-height-reads.Asked text-height-reads.Learnt
 
--- table::height::line_y
+-- heights::height::line_y
 abbrev pub line-y : Call
 line-y = callOf 1 line-y-kinds.ps line-y-kinds.r line-y-reads.Asked line-y-reads.Learnt

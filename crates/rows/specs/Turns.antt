@@ -6,7 +6,7 @@ use mathlib.Core.Path.{_≡_, refl, sym, ap, _∙_}
 use mathlib.Core.Bool.{true, false}
 use mathlib.Core.List.{List, [], _∷_}
 use lib.ListN.{length}
-use Rattle.meaning.specs.Table.{ofEntry, ofAll, written}
+use Rattle.meaning.specs.Table.{entryNumbers, ofEntry, ofAll, written}
 use Rattle.meaning.specs.declared.settings.Settings.{Settings}
 use Rattle.meaning.specs.declared.line.Entry.{Entry}
 use Rattle.table.specs.Numbers.{putNumbers}
@@ -70,13 +70,13 @@ pub write-start : (s : Settings) (t t₀ : List ℕ) (p : Stand) → TextReady s
 write-start s t t₀ p h e =
     record { counted = count-start s t p h e; same = refl; left = rw (e, all-entries s t) (all-put t₀ (entriesOf s t)) }
 
-module _ (s : Settings) (t t₀ u : List ℕ) (n : ℕ) (p : Stand) (w : Wrote s t t₀ u n p) (room : 10 * length (entriesOf s t) ≤ length t₀) where
+module _ (s : Settings) (t t₀ u : List ℕ) (n : ℕ) (p : Stand) (w : Wrote s t t₀ u n p) (room : entryNumbers * length (entriesOf s t) ≤ length t₀) where
   -- There is a next line, so the table has room for it.
-  pub room-left : 10 * n + 10 ≤ length u
+  pub room-left : entryNumbers * n + entryNumbers ≤ length u
   room-left = omega (arith, w .same, one-left s t n p (w .counted))
 
   -- It is laid, and written too.
-  module _ (x : LaidRow) (z : Step s t p x) (v : List ℕ) (put : v ≡ putNumbers u (10 * n) (ofEntry (x .entry))) (kept : length v ≡ length u) where
+  module _ (x : LaidRow) (z : Step s t p x) (v : List ℕ) (put : v ≡ putNumbers u (entryNumbers * n) (ofEntry (x .entry))) (kept : length v ≡ length u) where
     one-put : (es : List Entry) → entriesFrom s t 0 p ≡ x .entry ∷ es → linesPut v (n + 1) es ≡ written t₀ (ofAll ofEntry (entriesOf s t))
     one-put es f =
         ap (λ (y : List ℕ). linesPut y (n + 1) es) put

@@ -6,7 +6,7 @@ use table::entries::write_entry;
 ghost use Prim.Native.Nat.{_*_, _≤_};
 ghost use mathlib.Core.Path.{_≡_};
 ghost use lib.ListN.{length};
-ghost use Rattle.meaning.specs.Table.{ofEntry, ofAll, written};
+ghost use Rattle.meaning.specs.Table.{entryNumbers, ofEntry, ofAll, written};
 ghost use Rattle.rows.specs.RowsFrom.{TextReady, entriesOf};
 
 // How many lines a text has.
@@ -30,7 +30,7 @@ pub fn count_lines(text: &[u8], s: Settings) -> usize
 // All lines of a text, written to a table that has room for them.
 pub fn write_lines(text: &[u8], s: Settings, table: &mut [u32]) -> usize
     requires { ⌜ TextReady s (now text) ⌝ }
-    requires { ⌜ 10 * length (entriesOf s (now text)) ≤ length (now table) ⌝ }
+    requires { ⌜ entryNumbers * length (entriesOf s (now text)) ≤ length (now table) ⌝ }
     ensures { λ r. ⌜ r ≡ length (entriesOf s (now (text .entry))) ⌝ }
     ensures { λ r. ⌜ now (table .exit) ≡ written (now (table .entry)) (ofAll ofEntry (entriesOf s (now (text .entry)))) ⌝ }
 {

@@ -1,4 +1,4 @@
--- `ends_fit` meets its contract.
+-- `again::checking::ends_fit` meets its contract.
 -- Assumes nothing.
 use mathlib.Core.Path.{_∙_}
 use mathlib.Core.Bool.{_&&_}
@@ -13,17 +13,17 @@ cast-start c = search needs
 cast-from : tie.Need-cast-from
 cast-from c = search needs
 
-less-requires : tie.Need-less-requires
-less-requires c κs = search needs
+less-wide-requires : tie.Need-less-wide-requires
+less-wide-requires c κs = search needs
 
-cast-less : tie.Need-cast-less
-cast-less c = search needs
+cast-less-wide : tie.Need-cast-less-wide
+cast-less-wide c = search needs
 
-add-less : tie.Need-add-less
-add-less c = search needs
+add-less-wide : tie.Need-add-less-wide
+add-less-wide c = search needs
 
-less-requires-2 : tie.Need-less-requires-2
-less-requires-2 c κs = search needs
+less-wide-requires-2 : tie.Need-less-wide-requires-2
+less-wide-requires-2 c κs = search needs
 
 is-boundary-requires : tie.Need-is-boundary-requires
 is-boundary-requires c κs = search needs
@@ -38,7 +38,7 @@ returns c =
     let less = end .before .before in
     let start = less .before .before .before .before in
     (λ i. front .is-boundary .ensures i && c .is-boundary2 .ensures i)
-    ∙ ends-tested (start .args .part .now) (start .args .edit) (start .args .e) _ _ (start .pre) (less .less .ensures) (end .less2 .ensures)
+    ∙ ends-tested (start .args .part .now) (start .args .edit) (start .args .e) _ _ (start .pre) (less .less-wide .ensures) (end .less-wide2 .ensures)
 
 pub ends-fit-spec : {M : Type 1} → statement M
 ends-fit-spec =
@@ -46,10 +46,10 @@ ends-fit-spec =
     (tie.spec
     cast-start
     cast-from
-    less-requires
-    cast-less
-    add-less
-    less-requires-2
+    less-wide-requires
+    cast-less-wide
+    add-less-wide
+    less-wide-requires-2
     is-boundary-requires
     is-boundary-requires-2
     returns)

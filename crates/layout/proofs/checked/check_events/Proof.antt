@@ -3,7 +3,7 @@
 use mathlib.Core.Path.{ap, _∙_}
 use native.Mathlib.Omega.{arith}
 use Rattle.meaning.specs.Checks.{checkRoom}
-use Rattle.meaning.specs.Table.{capacityOf}
+use Rattle.meaning.specs.Table.{eventNumbers, capacityOf}
 use Rattle.layout.specs.Checking.{events-fit}
 use borrow.Author.Needs.{needs}
 use Rattle.layout.proofs.checked.check_events.Statement.{statement}
@@ -25,7 +25,7 @@ returns-2 : tie.Need-returns-2
 unfolding capacityOf
 returns-2 c =
     let a = c .before .before .before .before .before .args in
-    c .check-room .ensures ∙ ap (checkRoom (capacityOf 6 (a .events .now))) (c .before .count-events .ensures)
+    c .check-room .ensures ∙ ap (checkRoom (capacityOf eventNumbers (a .events .now))) (c .before .count-events .ensures)
 
 pub check-events-spec : {M : Type 1} → statement M
 check-events-spec = tie.close (tie.spec returns count-events-requires check-room-requires returns-2)

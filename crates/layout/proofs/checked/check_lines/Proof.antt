@@ -3,7 +3,7 @@
 use mathlib.Core.Path.{ap, _∙_}
 use native.Mathlib.Omega.{arith}
 use Rattle.meaning.specs.Checks.{checkRoom}
-use Rattle.meaning.specs.Table.{capacityOf}
+use Rattle.meaning.specs.Table.{entryNumbers, capacityOf}
 use Rattle.layout.specs.Checking.{lines-fit}
 use borrow.Author.Needs.{needs}
 use Rattle.layout.proofs.checked.check_lines.Statement.{statement}
@@ -25,7 +25,7 @@ returns-2 : tie.Need-returns-2
 unfolding capacityOf
 returns-2 c =
     let a = c .before .before .before .before .before .args in
-    c .check-room .ensures ∙ ap (checkRoom (capacityOf 10 (a .table .now))) (c .before .count-lines .ensures)
+    c .check-room .ensures ∙ ap (checkRoom (capacityOf entryNumbers (a .table .now))) (c .before .count-lines .ensures)
 
 pub check-lines-spec : {M : Type 1} → statement M
 check-lines-spec = tie.close (tie.spec returns count-lines-requires check-room-requires returns-2)
