@@ -8,7 +8,17 @@ use unicode::long::long_len;
 use unicode::long::wide_at;
 
 // How many bytes the letter has that stands at a position, where it is told so. 0: it is not told.
-// What `wide_at` tells `long_len` tells too, in more tests.
+pub fn first_len(text: &[u8], at: usize) -> usize
+    ensures { λ r. ⌜ (0 < r → Letter (now (text .entry)) at r) ⌝ }
+{
+    if plain_at(text, at) {
+        return 1;
+    }
+    long_len(text, at)
+}
+
+// The same of one byte, and of three in the fewest tests, for loops that decode what is not told. It is not one with `first_len`:
+// all tests together are too long to be compiled into their callers, which a text of letters pays with a twelfth.
 pub fn letter_len(text: &[u8], at: usize) -> usize
     ensures { λ r. ⌜ (0 < r → Letter (now (text .entry)) at r) ⌝ }
 {
@@ -18,7 +28,7 @@ pub fn letter_len(text: &[u8], at: usize) -> usize
     if wide_at(text, at) {
         return 3;
     }
-    long_len(text, at)
+    0
 }
 
 // Letters of one byte are skipped, but none from a limit on.

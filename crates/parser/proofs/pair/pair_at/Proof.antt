@@ -18,13 +18,13 @@ spaced c = c .before .space-len .ensures (omega (arith, c .if1 .left))
 lettered : (c : tie.Else2) →
     let e = c .before .before in
     let s = e .before .before .before in
-    Letter (s .args .text .now) (s .args .at + e .before .space-len .result) (c .before .letter-len .result)
-lettered c = c .before .letter-len .ensures (omega (arith, c .if2 .left))
+    Letter (s .args .text .now) (s .args .at + e .before .space-len .result) (c .before .first-len .result)
+lettered c = c .before .first-len .ensures (omega (arith, c .if2 .left))
 
 within : (c : tie.Else2) →
     let e = c .before .before in
     let s = e .before .before .before in
-    s .args .at + e .before .space-len .result + c .before .letter-len .result ≤ length (s .args .text .now)
+    s .args .at + e .before .space-len .result + c .before .first-len .result ≤ length (s .args .text .now)
 within c = spells-room _ _ _ 0 (lettered c) .2
 
 space-len-requires : tie.Need-space-len-requires
@@ -39,8 +39,8 @@ returns c = λ h. absurd (omega (arith, c .no-pair .ensures))
 add-from : tie.Need-add-from
 add-from c = omega (arith, spaced c .inside)
 
-letter-len-requires : tie.Need-letter-len-requires
-letter-len-requires c κs = search needs
+first-len-requires : tie.Need-first-len-requires
+first-len-requires c κs = search needs
 
 no-pair-requires-2 : tie.Need-no-pair-requires-2
 no-pair-requires-2 c κs = search needs
@@ -71,7 +71,7 @@ pair-at-spec =
     no-pair-requires
     returns
     add-from
-    letter-len-requires
+    first-len-requires
     no-pair-requires-2
     returns-2
     add-next

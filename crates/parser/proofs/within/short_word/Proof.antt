@@ -11,8 +11,8 @@ use Rattle.parser.proofs.within.short_word.Tie as tie
 -- The first letter.
 found : (c : tie.Else2) →
     let a = c .before .before .before .before .args in
-    Letter (a .text .now) (a .at) (c .before .letter-len .result)
-found c = c .before .letter-len .ensures (omega (arith, c .if2 .left))
+    Letter (a .text .now) (a .at) (c .before .first-len .result)
+found c = c .before .first-len .ensures (omega (arith, c .if2 .left))
 
 abbrev skipped : tie.After-struct-known2 → tie.After-skip-upto
 skipped c = c .before .before
@@ -23,8 +23,8 @@ none-scanned-requires c κs = search needs
 returns : tie.Need-returns
 returns c = first-none _ _ _ _ (c .none-scanned .ensures)
 
-letter-len-requires : tie.Need-letter-len-requires
-letter-len-requires c κs = search needs
+first-len-requires : tie.Need-first-len-requires
+first-len-requires c κs = search needs
 
 none-scanned-requires-2 : tie.Need-none-scanned-requires-2
 none-scanned-requires-2 c κs = search needs
@@ -85,7 +85,7 @@ short-word-spec =
     (tie.spec
     none-scanned-requires
     returns
-    letter-len-requires
+    first-len-requires
     none-scanned-requires-2
     returns-2
     add-next

@@ -21,8 +21,8 @@ begin c = c .before .before .before
 -- The letter that was found, and what glues.
 found : (c : tie.Then1 Inv-loop μ-loop) →
     let i = c .before .before in
-    Letter (begin i .args .text .now) (i .before .loop .end) (c .before .letter-len .result)
-found c = c .before .letter-len .ensures (omega (arith, c .if1 .taken))
+    Letter (begin i .args .text .now) (i .before .loop .end) (c .before .first-len .result)
+found c = c .before .first-len .ensures (omega (arith, c .if1 .taken))
 
 glued : (c : tie.Else2 Inv-loop μ-loop) →
     let i = c .before .before .before .before in
@@ -32,8 +32,8 @@ glued c = c .before .glue-len .ensures (omega (arith, c .if2 .left))
 loop-holds : tie.Need-loop-holds Inv-loop μ-loop
 loop-holds c = (goes-none _ _ (c .before .pre .1), omega arith)
 
-letter-len-requires : tie.Need-letter-len-requires Inv-loop μ-loop
-letter-len-requires c κs = search needs
+first-len-requires : tie.Need-first-len-requires Inv-loop μ-loop
+first-len-requires c κs = search needs
 
 add-end : tie.Need-add-end Inv-loop μ-loop
 add-end c = omega (arith, spells-room _ _ _ 0 (found c), begin (c .before .before) .pre .0)
@@ -98,7 +98,7 @@ skip-upto-spec =
     Inv-loop
     μ-loop
     loop-holds
-    letter-len-requires
+    first-len-requires
     add-end
     add-chars
     loop-less
