@@ -1,6 +1,6 @@
 -- A lent event buffer and the pen that draws into it, one thing after the other.
 -- Assumes nothing.
-use Prim.Native.Nat.{ℕ, suc, _+_, _*_, _≤_}
+use Prim.Native.Nat.{ℕ, suc, _+_, _≤_}
 use mathlib.Core.Path.{_≡_, refl, ap, _∙_}
 use mathlib.Core.List.{List, [], _∷_, _++_}
 use native.Mathlib.Nat.{add-zero, zero-add}
@@ -13,9 +13,7 @@ use Rattle.meaning.specs.declared.line.Event.{Event}
 use Rattle.meaning.specs.declared.line.EventKind.{EventKind}
 use Rattle.meaning.specs.declared.line.EventKind.the-variants.{Space, Printed, Move}
 use Rattle.meaning.specs.declared.line.Measure.{Measure}
-use Rattle.laws.specs.TableLaws.{event-numbers}
-use Rattle.table.specs.Numbers.{putIfRoom, putEvents, put-length, room, no-room}
-use Rattle.basis.specs.Order.{by-le}
+use Rattle.table.specs.Numbers.{putIfRoom, putEvents}
 use Rattle.drawing.specs.declared.pen.Pen.{Pen}
 
 -- The buffer's numbers, and the pen.
@@ -92,13 +90,6 @@ measured-spaces m (d ∷ ds) =
     noted-spaces Printed pen spaces m = refl
     noted-spaces Move pen spaces m = refl
 
-pub events-append : (x : ℕ) (ds es : List Drawn) → eventsAt 0 x (ds ++ es) ≡ eventsAt 0 x ds ++ eventsAt 0 (x + widths ds) es
-unfolding eventsAt widths
-events-append x [] es = rw (add-zero x)
-events-append x (d ∷ ds) es =
-    let e : x + d .width + widths ds ≡ x + (d .width + widths ds) = omega arith in
-    rw (events-append (x + d .width) ds es, e)
-
 pub put-append : (t : List ℕ) (k : ℕ) (xs ys : List Event) → putEvents t k (xs ++ ys) ≡ putEvents (putEvents t k xs) (k + length xs) ys
 unfolding putEvents
 put-append t k [] ys = rw (add-zero k)
@@ -117,18 +108,6 @@ on-is t p (d ∷ ds) =
     let e : p .next + 1 + length ds ≡ p .next + suc (length ds) = omega arith in
     let f : p .x .0 + d .width + widths ds ≡ p .x .0 + (d .width + widths ds) = omega arith in
     on-is (putIfRoom 6 t (p .next) (ofEvent (eventOf (p .x .0) d))) (penOn p 1 (d .width)) ds ∙ rw (e, f, zero-add (d .from), zero-add (d .to))
-
--- The buffer keeps its length.
-one-kept : (t : List ℕ) (k : ℕ) (e : Event) → length (putIfRoom 6 t k (ofEvent e)) ≡ length t
-one-kept t k e =
-    by-le (6 * k + 6) (length t)
-    (λ h. rw (room 6 t k (ofEvent e) h) (put-length t (6 * k) (ofEvent e) (omega (arith, event-numbers e))))
-    (λ h. rw (no-room 6 t k (ofEvent e) h))
-
-pub put-kept : (t : List ℕ) (k : ℕ) (es : List Event) → length (putEvents t k es) ≡ length t
-unfolding putEvents
-put-kept t k [] = refl
-put-kept t k (e ∷ es) = put-kept (putIfRoom 6 t k (ofEvent e)) (k + 1) es ∙ one-kept t k e
 
 -- Where the pen is after it.
 pub pen-after : (t u : List ℕ) (p r : Pen) (ds : List Drawn) → sheet u r ≡ drawnOn (sheet t p) ds

@@ -8,6 +8,7 @@ use crate::taken::draw_taken;
 use meaning::cursor::Place;
 use meaning::line::EventKind;
 use meaning::settings::Settings;
+use parser::pair::pair_at;
 use steps::look::Foreseen;
 use steps::step::Resumed;
 use strides::first::First;
@@ -96,7 +97,8 @@ fn draw_words(text: &[u8], s: Settings, p: Place, at: usize, pen: Pen, events: &
         let there = far.place;
         let before = far.pen;
         let to = far.at;
-        match next_pair(text, s, there, to) {
+        let pair = pair_at(text, to);
+        match next_pair(text, s, there, to, pair) {
             Next::Nothing => {
                 return far;
             }

@@ -24,7 +24,7 @@ use Rattle.strides.specs.OnwardLaws.{onward-none, onward-on}
 
 -- ---- where a loop stops
 
-pub none-waits : {X : Type 0} (w : Waiting) → w ≡ waitingAt 0 0 0 → Found (w .next .0) X
+none-waits : {X : Type 0} (w : Waiting) → w ≡ waitingAt 0 0 0 → Found (w .next .0) X
 unfolding waitingAt
 none-waits w e d = absurd (d (ap (λ (v : Waiting). v .next .0) e))
 

@@ -25,6 +25,10 @@ use Rattle.strides.specs.declared.next.Taken.{Taken}
 use Rattle.strides.specs.declared.next.Next.{Next}
 use Rattle.strides.specs.declared.next.Next.the-variants.{Nothing, TooWide, Fits}
 
+-- A pair was read at a position.
+abbrev pub Read : List ℕ → ℕ → Pair → Type 0
+Read t at x = PairAt t at (x .from .0) (x .looked .0) (wordOf (x .word))
+
 -- One space, and a plain word behind it to an end, as they are read.
 unfoldable pub plainPair : (at end : ℕ) → Pair
 plainPair at end =
@@ -66,7 +70,7 @@ pub record MeasureReady (s : Settings) (m : Measure) (x : Taken) : Type 0 where
 -- A pair that stands there, and that fits.
 pub record Taking (s : Settings) (p : Place) (t : List ℕ) (at : ℕ) (x : Taken) : Type 0 where
   pub pair : Pair
-  pub read : PairAt t at (pair .from .0) (pair .looked .0) (wordOf (pair .word))
+  pub read : Read t at pair
   pub empty : p .empty ≡ false
   pub fits : bothWide s p pair ≤ p .cursor .width .0 - p .cursor .position .0
   pub is : x ≡ takenOf s p pair

@@ -15,16 +15,16 @@ use Rattle.meaning.specs.declared.cursor.Spaces.{Spaces}
 use Rattle.meaning.specs.declared.cursor.Place.{Place}
 use Rattle.meaning.specs.declared.line.Measure.{Measure}
 use Rattle.parser.specs.Scanning.{wordOf, scannedAt}
-use Rattle.parser.specs.Pairs.{oneSpace, PairAt}
+use Rattle.parser.specs.Pairs.{oneSpace}
 use Rattle.parser.specs.declared.pair.Pair.{Pair}
 use Rattle.steps.specs.Unrolled.{nothingResumed}
-use Rattle.steps.specs.FineLaws.{times-bound, spaces-fine}
+use Rattle.steps.specs.FineLaws.{spaces-fine}
 use Rattle.steps.specs.Running.{PassReady}
 use Rattle.steps.specs.Stopping.{wordMeasure, wordPlace}
 use Rattle.steps.specs.WordLaws.{word-at}
 use Rattle.parser.specs.PlainWords.{Stride}
 use Rattle.strides.specs.Strides.{waitingAt, strodePlace, Onward}
-use Rattle.strides.specs.Next.{plainPair, bothWide, fittedOf, takenMeasure, MeasureReady, Taking, Decides, DecideReady}
+use Rattle.strides.specs.Next.{Read, plainPair, bothWide, fittedOf, takenMeasure, MeasureReady, Taking, Decides, DecideReady}
 use Rattle.strides.specs.declared.next.Taken.{Taken}
 use Rattle.strides.specs.declared.next.Next.the-variants.{TooWide, Fits}
 use Rattle.parser.specs.PlainLaws.{plain-pair}
@@ -32,9 +32,6 @@ use Rattle.strides.specs.OnwardLaws.{read-pending}
 use Rattle.strides.specs.StrideLaws.{pair-goes}
 
 -- ---- a pair that was read
-
-abbrev pub Read : List ℕ → ℕ → Pair → Type 0
-Read t at x = PairAt t at (x .from .0) (x .looked .0) (wordOf (x .word))
 
 pub plain-read : (t : List ℕ) (at end : ℕ) → Stride t at end → (x : Pair) → x ≡ plainPair at end → Read t at x
 unfolding plainPair scannedAt wordOf
@@ -51,9 +48,6 @@ module _ {s : Settings} {p : Place} {t : List ℕ} {at : ℕ} {m : Measure} (r :
       let k = word-at t (x .from .0) y h (d .kind) in
       let l = read-pending t at (oneSpace (x .from .0) (x .looked .0)) (d .space) .stands in
       omega (arith, r .short, h .within, h .longer, l .longer, k .few, k .fewer)
-
-  pub pair-wide : x .word .chars .0 * s .glyph .0 ≤ 65535 * 64
-  pair-wide = times-bound {n = 65535} (x .word .chars .0) (s .glyph .0) (pair-numbers .4) (r .settings .1)
 
 -- ---- what is decided of it
 

@@ -101,7 +101,7 @@ module _ {s : Settings} {p : Place} {t : List ℕ} {at : ℕ} {m : Measure} (r :
           goes-onward r y (w .space) behind n (l .reach .0)
           (a ∙ space-whole (read-ready r y (w .space)) refl wide is stays f (usedUp p 1) behind refl refl) (omega (arith, w .farther))
 
-      pub space-drawn : fitsIn (behind .cursor) (x .chars .0 * s .glyph .0) ≡ true
+      space-drawn : fitsIn (behind .cursor) (x .chars .0 * s .glyph .0) ≡ true
           → Onward s p t at nothingResumed m behind next (noted Space (m .pen .0 + wide) (m .spaces .0 + 1) m)
       space-drawn g =
           let n = noted Space (m .pen .0 + wide) (m .spaces .0 + 1) m in

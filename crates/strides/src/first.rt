@@ -2,6 +2,7 @@
 // (`FirstLaws.first-onward`), and saves that word's step: no more of it is read than fits.
 use meaning::counts::Chars;
 use meaning::counts::Offset;
+use meaning::counts::Pixels;
 use meaning::cursor::Place;
 use meaning::settings::Settings;
 use parser::ascii::plain_at;
@@ -30,14 +31,15 @@ pub fn first_taken(text: &[u8], s: Settings, p: Place, at: usize) -> First
     ensures { λ r. ⌜ FirstIs s p (now (text .entry)) at r ⌝ }
 {
     if plain_at(text, at) {
-        let glyph = s.glyph;
+        let glyph = s.glyph.0;
         let cursor = p.cursor;
-        let end = word_within(text, at, room(cursor) / glyph.0);
+        let end = word_within(text, at, room(cursor) / glyph);
         if end != 0 {
             let n = (end - at) as u32;
-            let place = word_place(glyph, p, Chars(n), Chars(0));
+            let to = end as u32;
+            let place = word_place(Pixels(glyph), p, Chars(n), Chars(0));
             return First::Word(Begun {
-                end: Offset(end as u32),
+                end: Offset(to),
                 chars: Chars(n),
                 place,
             });

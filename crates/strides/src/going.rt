@@ -10,7 +10,8 @@ ghost use Prim.Native.Nat.{_≤_};
 ghost use Rattle.strides.specs.Strides.{waitingAt, goingAt, strodePlace};
 
 // A word behind one space that does not fit: where it starts, how far the space was looked at, and how far the word was.
-// A start of 0: nothing waits.
+// A start of 0, which no word behind a space has: nothing waits. It is no enum, which was counted: drawing then takes half a
+// hundredth more.
 pub struct Waiting {
     pub next: Offset,
     pub looked: Offset,

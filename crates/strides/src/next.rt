@@ -10,16 +10,15 @@ use meaning::cursor::Place;
 use meaning::cursor::Spaces;
 use meaning::settings::Settings;
 use parser::pair::Pair;
-use parser::pair::pair_at;
 use parser::pair::stride_end;
 use parser::scan::Scanned;
 use steps::cursor::room;
 use steps::space_config::spaces_after;
 use steps::space_config::spaces_width;
 ghost use mathlib.Core.Path.{_≡_};
-ghost use Prim.Native.Nat.{_+_, _≤_};
+ghost use Prim.Native.Nat.{_+_, _≤_, _<_};
 ghost use Rattle.steps.specs.Fine.{FinePlace};
-ghost use Rattle.strides.specs.Next.{plainPair, fittedOf, Decides, DecideReady};
+ghost use Rattle.strides.specs.Next.{Read, plainPair, fittedOf, Decides, DecideReady};
 
 // What is taken: where the word starts, the word, the space's width, what the space leaves of the extra pixels, and the place
 // after both.
@@ -101,12 +100,12 @@ pub fn next_stride(text: &[u8], s: Settings, p: Place, at: usize) -> Next
     fitted(s, p, plain_pair(at, end))
 }
 
-// Of any word.
-pub fn next_pair(text: &[u8], s: Settings, p: Place, at: usize) -> Next
-    requires { ⌜ DecideReady s p (now text) at ⌝ }
+// Of any word, in a pair as it was read. Where the pair is read, the loops say: a function that read it too would stand alone, and
+// its answer would go through memory (counted).
+pub fn next_pair(text: &[u8], s: Settings, p: Place, at: usize, pair: Pair) -> Next
+    requires { ⌜ DecideReady s p (now text) at × (0 < pair .from .0 → Read (now text) at pair) ⌝ }
     ensures { λ r. ⌜ Decides s p (now (text .entry)) at r ⌝ }
 {
-    let pair = pair_at(text, at);
     if pair.from.0 == 0 {
         return Next::Nothing;
     }

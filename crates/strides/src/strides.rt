@@ -8,18 +8,17 @@ use crate::going::stands_at;
 use crate::next::Next;
 use crate::next::Taken;
 use crate::next::next_pair;
-use crate::next::next_stride;
 use meaning::counts::Chars;
 use meaning::counts::Pixels;
 use meaning::cursor::Place;
 use meaning::line::Measure;
 use meaning::settings::Settings;
+use parser::pair::pair_at;
 use steps::look::Foreseen;
 use steps::measure::printed_at;
 use steps::step::Resumed;
 use steps::words::word_measure;
 ghost use mathlib.Core.Path.{_≡_};
-ghost use mathlib.Core.Bool.{false};
 ghost use Rattle.steps.specs.Unrolled.{nothingResumed};
 ghost use Rattle.steps.specs.Running.{PassReady};
 ghost use Rattle.steps.specs.Foreseeing.{ForeseesFrom};
@@ -41,32 +40,6 @@ fn measure_taken(s: Settings, m: Measure, t: Taken) -> Measure
     word_measure(glyph, left, spaced, chars, glues)
 }
 
-// As many plain words as fit, in a line that is not empty.
-fn strides(text: &[u8], s: Settings, p: Place, from: usize, m: Measure) -> Going
-    requires { ⌜ PassReady s p (now text) from nothingResumed m × (p .empty ≡ false) ⌝ }
-    ensures { λ r. ⌜ Goes s p (now (text .entry)) from nothingResumed m r ⌝ }
-    ensures { λ r. ⌜ r .place .empty ≡ false ⌝ }
-{
-    let mut place = p;
-    let mut at = from;
-    let mut sum = m;
-    loop {
-        match next_stride(text, s, place, at) {
-            Next::Nothing => {
-                return stands_at(place, sum, at, nothing_waits());
-            }
-            Next::TooWide(w) => {
-                return stands_at(place, sum, at, w);
-            }
-            Next::Fits(t) => {
-                sum = measure_taken(s, sum, t);
-                place = t.place;
-                at = t.word.end.0 as usize;
-            }
-        }
-    }
-}
-
 // The plain word that a pass may stand at, if it fits.
 fn first_word(text: &[u8], s: Settings, p: Place, at: usize, m: Measure) -> Going
     requires { ⌜ PassReady s p (now text) at nothingResumed m ⌝ }
@@ -85,7 +58,7 @@ fn first_word(text: &[u8], s: Settings, p: Place, at: usize, m: Measure) -> Goin
     }
 }
 
-// Words as far as they fit: plain ones in strides, others behind one space by themselves.
+// Words as far as they fit, each behind one space.
 fn words_on(text: &[u8], s: Settings, p: Place, at: usize, m: Measure) -> Going
     requires { ⌜ PassReady s p (now text) at nothingResumed m ⌝ }
     ensures { λ r. ⌜ Goes s p (now (text .entry)) at nothingResumed m r ⌝ }
@@ -97,20 +70,15 @@ fn words_on(text: &[u8], s: Settings, p: Place, at: usize, m: Measure) -> Going
     }
     loop {
         let here = g.place;
-        let so = g.measure;
-        let far = strides(text, s, here, g.at.0 as usize, so);
-        if far.waits.next.0 != 0 {
-            return far;
-        }
-        let there = far.place;
-        let sum = far.measure;
-        let to = far.at.0 as usize;
-        match next_pair(text, s, there, to) {
+        let sum = g.measure;
+        let to = g.at.0 as usize;
+        let pair = pair_at(text, to);
+        match next_pair(text, s, here, to, pair) {
             Next::Nothing => {
-                return far;
+                return g;
             }
             Next::TooWide(w) => {
-                return stands_at(there, sum, to, w);
+                return stands_at(here, sum, to, w);
             }
             Next::Fits(t) => {
                 let place = t.place;

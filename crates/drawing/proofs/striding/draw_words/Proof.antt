@@ -49,7 +49,7 @@ whole c = strode-on (first c .draw-first .ensures .onward) (strode-on (around c 
 
 -- From the pair that was asked back to the strides.
 abbrev far : tie.After-next-pair Inv-loop μ-loop → Strides
-far c = c .before .before .before .before .before .before .before
+far c = c .before .before .before .before .before .before .before .before
 
 -- The word that waits, and the pair that is taken.
 waits : (c : tie.After-waits Inv-loop μ-loop) →
@@ -93,10 +93,13 @@ same-length-2 c = kept (c .before .before .before .before)
 returns-2 : tie.Need-returns-2 Inv-loop μ-loop
 returns-2 c = whole (c .before .before .before .before)
 
+pair-at-requires : tie.Need-pair-at-requires Inv-loop μ-loop
+pair-at-requires c κs = c .before .before .before .before .before .before .draw-strides .ensures .0 .onward .ready .pass .short
+
 next-pair-requires : tie.Need-next-pair-requires Inv-loop μ-loop
 next-pair-requires c κs =
-    let t = c .before .before .before .before .before .before in
-    (t .draw-strides .ensures .0 .onward .ready .pass, t .draw-strides .ensures .1)
+    let t = c .before .before .before .before .before .before .before in
+    ((t .draw-strides .ensures .0 .onward .ready .pass, t .draw-strides .ensures .1), c .pair-at .ensures)
 
 enum-told : tie.Need-enum-told Inv-loop μ-loop
 enum-told c = search needs
@@ -168,6 +171,7 @@ draw-words-spec =
     draw-strides-requires
     same-length-2
     returns-2
+    pair-at-requires
     next-pair-requires
     enum-told
     same-length-3

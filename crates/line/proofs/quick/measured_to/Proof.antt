@@ -1,5 +1,6 @@
 -- `line::quick::measured_to` meets its contract.
 -- Assumes nothing.
+use native.Mathlib.Omega.{arith}
 use borrow.Author.Needs.{needs}
 use Rattle.line.proofs.QuickLaws.{measured-here}
 use Rattle.line.proofs.quick.measured_to.Statement.{statement}

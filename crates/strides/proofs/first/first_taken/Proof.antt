@@ -49,13 +49,11 @@ sub-n c = omega (arith, found c .0 .letters .forward)
 cast-n : tie.Need-cast-n
 cast-n c = omega (arith, found c .0 .letters .inside, begin (c .before .before) .pre .short)
 
+cast-to : tie.Need-cast-to
+cast-to c = omega (arith, found c .0 .letters .inside, begin (c .before .before) .pre .short)
+
 word-place-requires : tie.Need-word-place-requires
 word-place-requires c κs = (begin (c .before .before) .pre .place, fitting c)
-
-cast-t15 : tie.Need-cast-t15
-cast-t15 c =
-    let i = c .before in
-    omega (arith, found i .0 .letters .inside, begin (i .before .before) .pre .short)
 
 returns : tie.Need-returns
 returns c =
@@ -78,8 +76,8 @@ first-taken-spec =
     word-within-requires
     sub-n
     cast-n
+    cast-to
     word-place-requires
-    cast-t15
     returns
     returns-2
     returns-3)

@@ -1,3 +1,5 @@
+-- `strides::going::nothing_waits` meets its contract.
+-- Assumes nothing.
 use mathlib.Core.Path.{refl}
 use Rattle.strides.specs.Strides.{waitingAt}
 use Rattle.strides.proofs.going.nothing_waits.Statement.{statement}

@@ -1,3 +1,5 @@
+-- `strides::going::stands_at` meets its contract.
+-- Assumes nothing.
 use mathlib.Core.Path.{refl}
 use borrow.Author.Needs.{needs}
 use Rattle.strides.specs.Strides.{goingAt}

@@ -3,8 +3,8 @@
 use mathlib.Core.Path.{sym, subst}
 use native.Mathlib.Omega.{arith}
 use borrow.Author.Needs.{needs}
-use Rattle.strides.specs.Next.{Decides}
-use Rattle.strides.specs.NextLaws.{Read, plain-read, pair-numbers, fitted-decides}
+use Rattle.strides.specs.Next.{Read, Decides}
+use Rattle.strides.specs.NextLaws.{plain-read, pair-numbers, fitted-decides}
 use Rattle.strides.proofs.next.next_stride.Statement.{statement}
 use Rattle.strides.proofs.next.next_stride.Tie as tie
 

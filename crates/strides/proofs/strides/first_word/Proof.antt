@@ -36,7 +36,7 @@ enum-known-b c = search needs
 
 word-measure-requires : tie.Need-word-measure-requires
 word-measure-requires c κs =
-    let b = c .before .before .before in
+    let b = c .before .before .before .before .before in
     let r = begin b .pre in
     (r .place .1, r .settings .1, first-numbers r (found b) .1, omega arith, omega (arith, r .small, r .inside, r .short), omega (arith, r .small, r .inside, r .short))
 
@@ -48,7 +48,7 @@ nothing-waits-requires-2 c κs = search needs
 
 stands-at-requires-2 : tie.Need-stands-at-requires-2
 stands-at-requires-2 c κs =
-    let b = c .before .before .before .before .before .before in
+    let b = c .before .before .before .before .before .before .before .before in
     omega (arith, first-numbers (begin b .pre) (found b))
 
 returns : tie.Need-returns
@@ -60,7 +60,7 @@ returns-2 : tie.Need-returns-2
 returns-2 c =
     let w = c .before in
     let n = w .before .before in
-    let b = n .before .before .before .before in
+    let b = n .before .before .before .before .before .before in
     goes-to _ (w .nothing-waits2 .ensures) (c .stands-at2 .ensures) (first-onward (begin b .pre) (found b) _ (n .word-measure .ensures))
 
 pub first-word-spec : {M : Type 1} → statement M

@@ -9,13 +9,13 @@ use Rattle.strides.proofs.strides.measure_taken.Statement.{statement}
 use Rattle.strides.proofs.strides.measure_taken.Tie as tie
 
 abbrev begin : tie.After-printed-at → tie.Start
-begin c = c .before .before .before .before .before
+begin c = c .before .before .before .before .before .before .before .before
 
-add-printed-at : tie.Need-add-printed-at
-add-printed-at c = let h = c .before .before .before .pre in record { fits = omega (arith, h .pen) }
+add-pen : tie.Need-add-pen
+add-pen c = let h = c .before .before .before .before .before .before .pre in record { fits = omega (arith, h .pen) }
 
-add-printed-at-2 : tie.Need-add-printed-at-2
-add-printed-at-2 c = let h = c .before .before .before .before .pre in record { fits = omega (arith, h .count) }
+add-spaces : tie.Need-add-spaces
+add-spaces c = let h = c .before .before .before .before .before .before .before .pre in record { fits = omega (arith, h .count) }
 
 printed-at-requires : tie.Need-printed-at-requires
 printed-at-requires c κs = search needs
@@ -32,4 +32,4 @@ returns c =
     ∙ ap (λ (v : Measure). wordMeasure (a .s .glyph .0) (a .t .left) v (a .t .word .chars .0) (a .t .word .weight .0)) (c .before .printed-at .ensures)
 
 pub measure-taken-spec : {M : Type 1} → statement M
-measure-taken-spec = tie.close (tie.spec add-printed-at add-printed-at-2 printed-at-requires word-measure-requires returns)
+measure-taken-spec = tie.close (tie.spec add-pen add-spaces printed-at-requires word-measure-requires returns)

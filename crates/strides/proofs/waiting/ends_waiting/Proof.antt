@@ -14,7 +14,7 @@ use Rattle.strides.proofs.waiting.ends_waiting.Statement.{statement}
 use Rattle.strides.proofs.waiting.ends_waiting.Tie as tie
 
 abbrev begin : tie.After-trail-of → tie.Start
-begin c = c .before .before .before .before
+begin c = c .before .before .before .before .before
 
 -- The line's end by what the space was found to be.
 ended : (c : tie.After-trail-of) →
@@ -25,7 +25,7 @@ ended c =
     ap (λ (x : Trail). endsBy x (s .args .g .measure) (s .args .g .waits)) (c .trail-of .ensures) ∙ waits-ends (s .pre .0) _ (s .pre .1)
 
 trail-of-requires : tie.Need-trail-of-requires
-trail-of-requires c κs = c .before .before .before .pre .0 .place
+trail-of-requires c κs = c .before .before .before .before .pre .0 .place
 
 enum-told : tie.Need-enum-told
 enum-told c = search needs
@@ -38,7 +38,7 @@ enum-known-wide c = search needs
 
 noted-space-requires : tie.Need-noted-space-requires
 noted-space-requires c κs =
-    let w = c .before in
+    let w = c .before .before in
     let t = w .before .before in
     let r = begin t .pre .0 in
     omega (arith, trail-narrow _ _ (r .place) _ _ (t .trail-of .ensures) (w .wide .given .1), r .small, r .inside, r .short)
@@ -48,7 +48,7 @@ ends-before-requires-2 c κs = search needs
 
 returns : tie.Need-returns
 returns c =
-    let e = c .before in
+    let e = c .before .before in
     let t = e .before .before in
     let a = begin t .args in
     c .ends-before .ensures ∙ ap (λ (x : Trail). endsBy x (a .g .measure) (a .g .waits)) (sym (e .enum-told .given .1)) ∙ ended t
@@ -56,7 +56,7 @@ returns c =
 returns-2 : tie.Need-returns-2
 returns-2 c =
     let n = c .before in
-    let w = n .before .before in
+    let w = n .before .before .before in
     let t = w .before .before in
     let a = begin t .args in
     c .ends-before2 .ensures
