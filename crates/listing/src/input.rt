@@ -34,7 +34,10 @@ pub fn fill(buffer: &mut [u8]) -> Read
     }
 }
 
-// Reads the next 65,536 bytes, or as many as are left, and forgets them.
+// The bytes of io's large buffer.
+const LARGE: usize = 65536;
+
+// Reads as many bytes as such a buffer has, or as are left, and forgets them.
 fn skip() -> Read
     ensures { λ r. ⌜ r .bytes ≤ 2 ^ 16 ⌝ }
 {
@@ -60,7 +63,7 @@ pub fn count_rest() -> Read
                 failed: true,
             };
         }
-        if read.bytes < 65536 {
+        if read.bytes < LARGE {
             break;
         }
     }

@@ -13,11 +13,19 @@ use meaning::answers::Laid;
 use meaning::counts::Pixels;
 use meaning::refusals::Refusal;
 use meaning::settings::Settings;
+use meaning::sizes::ENTRY_NUMBERS;
 ghost use Prim.Native.Nat.{_+_, _*_, _≤_};
 ghost use lib.ListN.{length};
+ghost use Rattle.meaning.specs.Table.{entryNumbers};
 
 // The refusal whose value this program has to count.
 const TEXT_TOO_LONG: u32 = 3;
+
+// The most lines that it lists.
+const LINES: usize = 1024;
+
+// The place of a line's last number.
+const LAST: usize = ENTRY_NUMBERS - 1;
 
 // Left aligned, leading spaces on, trailing spaces off. Nothing here asks for heights.
 fn settings() -> Settings {
@@ -37,12 +45,15 @@ fn settings() -> Settings {
     }
 }
 
+fn say_number(n: u64, after: &[u8]) {
+    io::print_decimal(STDOUT_FILENO, n);
+    io::write_all(STDOUT_FILENO, after);
+}
+
 fn say_refused(number: u32, value: u64) {
     io::write_all(STDOUT_FILENO, b"refused ");
-    io::print_decimal(STDOUT_FILENO, number as u64);
-    io::write_all(STDOUT_FILENO, b" ");
-    io::print_decimal(STDOUT_FILENO, value);
-    io::write_all(STDOUT_FILENO, b"\n");
+    say_number(number as u64, b" ");
+    say_number(value, b"\n");
 }
 
 fn say_failed() {
@@ -72,32 +83,30 @@ fn refuse(refusal: Refusal, length: usize)
     say_refused(number, value(refusal));
 }
 
-fn say_number(n: u32, after: &[u8]) {
-    io::print_decimal(STDOUT_FILENO, n as u64);
-    io::write_all(STDOUT_FILENO, after);
+fn wide(n: u32) -> u64 {
+    n as u64
 }
 
-// The ten numbers from a place of the table on, as a line.
+// The numbers of the line at a place of the table, as a line of text.
 fn say_line(table: &[u32], from: usize)
-    requires { ⌜ from + 10 ≤ length (now table) ⌝ }
+    requires { ⌜ from + entryNumbers ≤ length (now table) ⌝ }
 {
     let mut i: usize = 0;
-    while i < 9 {
-        say_number(table[from + i], b" ");
+    while i < LAST {
+        say_number(wide(table[from + i]), b" ");
         i += 1;
     }
-    say_number(table[from + 9], b"\n");
+    say_number(wide(table[from + LAST]), b"\n");
 }
 
 fn say_lines(table: &[u32], n: usize)
-    requires { ⌜ 10 * n ≤ length (now table) ⌝ }
+    requires { ⌜ entryNumbers * n ≤ length (now table) ⌝ }
 {
     io::write_all(STDOUT_FILENO, b"lines ");
-    io::print_decimal(STDOUT_FILENO, n as u64);
-    io::write_all(STDOUT_FILENO, b"\n");
+    say_number(n as u64, b"\n");
     let mut k: usize = 0;
     while k < n {
-        say_line(table, 10 * k);
+        say_line(table, ENTRY_NUMBERS * k);
         k += 1;
     }
 }
@@ -105,11 +114,11 @@ fn say_lines(table: &[u32], n: usize)
 fn say(text: &[u8])
     requires { ⌜ length (now text) ≤ 65536 ⌝ }
 {
-    let mut table = [0u32; 10240];
+    let mut table = [0u32; LINES * ENTRY_NUMBERS];
     match layout(settings(), text, &mut table) {
         Laid::Lines(n) => {
             // the layout wrote no more than the table holds
-            if n <= 1024 {
+            if n <= LINES as u64 {
                 say_lines(&table, n as usize);
             }
         }

@@ -6,7 +6,7 @@ use mathlib.Core.List.{List, _∷_, _++_, append-nil}
 use native.Mathlib.Omega.{arith}
 use lib.ListN.{length, getD, take, drop, take-append-drop}
 use lib.Seq.{drop-length, length-take-le}
-use Rattle.meaning.specs.Table.{ofEntry, ofEvent, ofToken, ofAll}
+use Rattle.meaning.specs.Table.{eventNumbers, tokenNumbers, ofEntry, ofEvent, ofToken, ofAll}
 use Rattle.meaning.specs.Calls.{textTokens, textEntries, textEvents}
 use Rattle.meaning.specs.declared.line.Entry.{Entry}
 use Rattle.laws.specs.TableLaws.{entry-numbers, all-numbers, tokens-numbers, events-numbers}
@@ -35,7 +35,7 @@ module _ (ns : List ℕ) (c : Case) (p : Parts ns c) (t : List ℕ) (text : t �
 
     tokens-counted : getD ns (c .tokens) 0 ≡ length (textTokens t)
     tokens-counted =
-        let e : 4 * length (textTokens t) ≡ 4 * getD ns (c .tokens) 0 =
+        let e : tokenNumbers * length (textTokens t) ≡ tokenNumbers * getD ns (c .tokens) 0 =
         sym (tokens-numbers (textTokens t)) ∙ ap length (sym tokens) ∙ part-length (p .tokens)
         in
         omega arith
@@ -49,7 +49,7 @@ module _ (ns : List ℕ) (c : Case) (p : Parts ns c) (t : List ℕ) (text : t �
 
     events-counted : getD ns (c .events) 0 ≡ length (textEvents (settingsIn ns) t)
     events-counted =
-        let e : 6 * length (textEvents (settingsIn ns) t) ≡ 6 * getD ns (c .events) 0 =
+        let e : eventNumbers * length (textEvents (settingsIn ns) t) ≡ eventNumbers * getD ns (c .events) 0 =
         sym (events-numbers (textEvents (settingsIn ns) t)) ∙ ap length (sym (laid .events-are)) ∙ part-length (p .events)
         in
         omega arith

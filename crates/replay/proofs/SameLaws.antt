@@ -11,6 +11,7 @@ use borrow.Author.Tests.{eq-eqb, ne-eqb}
 use lib.Dec.{eqb}
 use lib.ListN.{length, getD, set, take, drop, drop-of-length-le, length-drop, length-append}
 use lib.Seq.{drop-cons, drop-drop, take-suc, take-suc-set, length-take-le}
+use Rattle.meaning.specs.Table.{entryNumbers}
 use Rattle.replay.specs.Same.{equal, eights}
 
 and-false : (p : Bool) → p && false ≡ false
@@ -52,49 +53,49 @@ equal-append (x ∷ a) b [] h = absurd (omega arith)
 equal-append (x ∷ a) b (y ∷ r) h =
     rw (equal-append a b r (omega arith)) (and-assoc (eqb x y) (equal a (take (length a) r)) (equal b (drop (length a) r)))
 
-eights-length : (n : ℕ) (t : List ℕ) → 10 * n ≤ length t → length (eights n t) ≡ 8 * n
+eights-length : (n : ℕ) (t : List ℕ) → entryNumbers * n ≤ length t → length (eights n t) ≡ 8 * n
 unfolding eights
 eights-length zero t h = refl
 eights-length (suc n) t h =
     let first = length-take-le 8 t (omega arith) in
-    let more = eights-length n (drop 10 t) (omega (arith, length-drop 10 t)) in
-    length-append (take 8 t) (eights n (drop 10 t)) ∙ omega (arith, first, more)
+    let more = eights-length n (drop entryNumbers t) (omega (arith, length-drop entryNumbers t)) in
+    length-append (take 8 t) (eights n (drop entryNumbers t)) ∙ omega (arith, first, more)
 
 -- Where other than eight numbers a line are recorded, something differs.
-pub lines-unequal : (table recorded : List ℕ) (n : ℕ) → 10 * n ≤ length table → (length recorded ≡ 8 * n → ⊥) → equal (eights n table) recorded ≡ false
+pub lines-unequal : (table recorded : List ℕ) (n : ℕ) → entryNumbers * n ≤ length table → (length recorded ≡ 8 * n → ⊥) → equal (eights n table) recorded ≡ false
 lines-unequal table recorded n long wrong =
     unequal-length (eights n table) recorded (λ e. wrong (sym e ∙ eights-length n table long))
 
 -- The lines from the k-th on, as the table and the recorded numbers have them.
 abbrev pub linesLeft : (table recorded : List ℕ) (n k : ℕ) → Bool
-linesLeft table recorded n k = equal (eights (n - k) (drop (10 * k) table)) (drop (8 * k) recorded)
+linesLeft table recorded n k = equal (eights (n - k) (drop (entryNumbers * k) table)) (drop (8 * k) recorded)
 
-module _ (table recorded : List ℕ) (n k : ℕ) (h : k < n) (long : 10 * n ≤ length table) (right : length recorded ≡ 8 * n) where
+module _ (table recorded : List ℕ) (n k : ℕ) (h : k < n) (long : entryNumbers * n ≤ length table) (right : length recorded ≡ 8 * n) where
   lines-step : linesLeft table recorded n k
-      ≡ equal (take 8 (drop (10 * k) table)) (take 8 (drop (8 * k) recorded)) && linesLeft table recorded n (k + 1)
+      ≡ equal (take 8 (drop (entryNumbers * k) table)) (take 8 (drop (8 * k) recorded)) && linesLeft table recorded n (k + 1)
   unfolding eights
   lines-step =
-      let t = drop (10 * k) table in
+      let t = drop (entryNumbers * k) table in
       let r = drop (8 * k) recorded in
       let one-less : n - k ≡ suc (n - (k + 1)) = omega arith in
-      let eight : length (take 8 t) ≡ 8 = length-take-le 8 t (omega (arith, length-drop (10 * k) table)) in
-      let table-on : drop 10 t ≡ drop (10 * (k + 1)) table =
-      drop-drop 10 (10 * k) table ∙ ap (λ (j : ℕ). drop j table) (let e : 10 * k + 10 ≡ 10 * (k + 1) = omega arith in e)
+      let eight : length (take 8 t) ≡ 8 = length-take-le 8 t (omega (arith, length-drop (entryNumbers * k) table)) in
+      let table-on : drop entryNumbers t ≡ drop (entryNumbers * (k + 1)) table =
+      drop-drop entryNumbers (entryNumbers * k) table ∙ ap (λ (j : ℕ). drop j table) (let e : entryNumbers * k + entryNumbers ≡ entryNumbers * (k + 1) = omega arith in e)
       in
       let recorded-on : drop 8 r ≡ drop (8 * (k + 1)) recorded =
       drop-drop 8 (8 * k) recorded ∙ ap (λ (j : ℕ). drop j recorded) (let e : 8 * k + 8 ≡ 8 * (k + 1) = omega arith in e)
       in
       ap (λ (m : ℕ). equal (eights m t) r) one-less
-      ∙ equal-append (take 8 t) (eights (n - (k + 1)) (drop 10 t)) r (omega (arith, eight, length-drop (8 * k) recorded))
+      ∙ equal-append (take 8 t) (eights (n - (k + 1)) (drop entryNumbers t)) r (omega (arith, eight, length-drop (8 * k) recorded))
       ∙ rw (eight, table-on, recorded-on)
 
   -- The parts that are compared, as they are lent: eight numbers each.
   abbrev parts : Bool
-  parts = equal (take (10 * k + 8 - 10 * k) (drop (10 * k) table)) (take (8 * k + 8 - 8 * k) (drop (8 * k) recorded))
+  parts = equal (take (entryNumbers * k + 8 - entryNumbers * k) (drop (entryNumbers * k) table)) (take (8 * k + 8 - 8 * k) (drop (8 * k) recorded))
 
-  parts-are : parts ≡ equal (take 8 (drop (10 * k) table)) (take 8 (drop (8 * k) recorded))
+  parts-are : parts ≡ equal (take 8 (drop (entryNumbers * k) table)) (take 8 (drop (8 * k) recorded))
   parts-are =
-      let p : 10 * k + 8 - 10 * k ≡ 8 = omega arith in
+      let p : entryNumbers * k + 8 - entryNumbers * k ≡ 8 = omega arith in
       let q : 8 * k + 8 - 8 * k ≡ 8 = omega arith in
       rw (p, q)
 

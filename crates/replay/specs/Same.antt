@@ -8,6 +8,7 @@ use borrow.Author.Tests.{eqb-true, eq-eqb}
 use lib.Dec.{eqb}
 use lib.ListN.{take, drop}
 use Rattle.basis.specs.Choice.{and-true, and-both}
+use Rattle.meaning.specs.Table.{entryNumbers}
 
 unfoldable pub equal : List ℕ → List ℕ → Bool
 equal [] [] = true
@@ -35,4 +36,4 @@ equal-refl (x ∷ xs) = and-both (eqb x x) (equal xs xs) (eq-eqb x x refl) (equa
 -- The first eight of each ten numbers.
 unfoldable pub eights : (lines : ℕ) → List ℕ → List ℕ
 eights zero t = []
-eights (suc n) t = take 8 t ++ eights n (drop 10 t)
+eights (suc n) t = take 8 t ++ eights n (drop entryNumbers t)

@@ -4,6 +4,7 @@ use Prim.Native.Nat.{ℕ, _+_, _-_, _*_, _≤_}
 use mathlib.Core.Path.{_≡_}
 use mathlib.Core.List.{List}
 use lib.ListN.{length, getD, take, drop}
+use Rattle.meaning.specs.Table.{eventNumbers, tokenNumbers}
 use Rattle.replay.specs.declared.shape.Case.{Case}
 use Rattle.replay.specs.declared.shape.Place.{Place}
 use Rattle.replay.specs.declared.shape.Place.the-variants as place
@@ -27,9 +28,9 @@ part ns at next = take (next - (at + 1)) (drop (at + 1) ns)
 -- Six settings, the bytes of a text, its tokens, lines and events, and nothing else.
 pub record Parts (ns : List ℕ) (c : Case) : Type 0 where
   pub text : After ns 6 1 128 (c .tokens)
-  pub tokens : After ns (c .tokens) 4 128 (c .lines)
+  pub tokens : After ns (c .tokens) tokenNumbers 128 (c .lines)
   pub lines : After ns (c .lines) 8 130 (c .events)
-  pub events : After ns (c .events) 6 400 (length ns)
+  pub events : After ns (c .events) eventNumbers 400 (length ns)
 
 abbrev pub Shaped : List ℕ → Shape → Type 0
 Shaped ns (shape.Case c) = Parts ns c

@@ -1,11 +1,17 @@
 // A case: settings and a text, and the tokens, lines and events that were recorded for them.
 use crate::same::same;
 use crate::same::same_lines;
+use crate::shape::EVENTS;
+use crate::shape::LINES;
+use crate::shape::TOKENS;
 use layout::drawn::layout_with_events;
 use meaning::answers::LaidWithEvents;
 use meaning::answers::Tokenized;
 use meaning::counts::Pixels;
 use meaning::settings::Settings;
+use meaning::sizes::ENTRY_NUMBERS;
+use meaning::sizes::EVENT_NUMBERS;
+use meaning::sizes::TOKEN_NUMBERS;
 use parser::tokenize::tokenize;
 ghost use Prim.Native.Nat.{_≤_};
 ghost use mathlib.Core.Path.{_≡_};
@@ -57,13 +63,13 @@ pub fn bytes(numbers: &[u32], text: &mut [u8]) -> bool
 pub fn tokens_agree(text: &[u8], recorded: &[u32]) -> bool
     ensures { λ r. ⌜ (r ≡ true → now (recorded .entry) ≡ ofAll ofToken (textTokens (now (text .entry)))) ⌝ }
 {
-    let mut tokens = [0u32; 512];
+    let mut tokens = [0u32; TOKENS as usize * TOKEN_NUMBERS];
     match tokenize(text, &mut tokens) {
         Tokenized::Tokens(n) => {
-            if 128 < n {
+            if (TOKENS as u64) < n {
                 return false;
             }
-            let size = 4 * n as usize;
+            let size = TOKEN_NUMBERS * n as usize;
             same(&tokens[..size], recorded)
         }
         Tokenized::Refused(_) => false,
@@ -74,17 +80,17 @@ pub fn tokens_agree(text: &[u8], recorded: &[u32]) -> bool
 pub fn layout_agrees(s: Settings, text: &[u8], lines: &[u32], events: &[u32]) -> bool
     ensures { λ r. ⌜ (r ≡ true → Laid s (now (text .entry)) (now (lines .entry)) (now (events .entry))) ⌝ }
 {
-    let mut table = [0u32; 1300];
-    let mut drawn = [0u32; 2400];
+    let mut table = [0u32; LINES as usize * ENTRY_NUMBERS];
+    let mut drawn = [0u32; EVENTS as usize * EVENT_NUMBERS];
     match layout_with_events(s, text, &mut table, &mut drawn) {
         LaidWithEvents::Lines(n, e) => {
-            if 130 < n {
+            if (LINES as u64) < n {
                 return false;
             }
-            if 400 < e {
+            if (EVENTS as u64) < e {
                 return false;
             }
-            let size = 6 * e as usize;
+            let size = EVENT_NUMBERS * e as usize;
             if !same(&drawn[..size], events) {
                 return false;
             }

@@ -4,7 +4,9 @@ use crate::case::layout_agrees;
 use crate::case::settings;
 use crate::case::tokens_agree;
 use crate::numbers::parse;
+use crate::shape::BYTES;
 use crate::shape::Case;
+use crate::shape::SETTINGS;
 use crate::shape::Shape;
 use crate::shape::shape_of;
 ghost use mathlib.Core.Path.{_≡_};
@@ -13,6 +15,12 @@ ghost use mathlib.Core.List.{[], _∷_};
 ghost use lib.ListN.{take};
 ghost use Rattle.replay.specs.Shape.{part, Parts};
 ghost use Rattle.replay.specs.Record.{Judged, Told};
+
+// Where a case has its text, behind the settings and the count of its bytes.
+const TEXT: usize = SETTINGS + 1;
+
+// The most numbers of a line.
+const NUMBERS: usize = 4096;
 
 pub enum Verdict {
     Comment,
@@ -45,11 +53,11 @@ fn judge_case(numbers: &[u32], c: Case) -> Verdict
     ensures { λ r. ⌜ Judged (now (numbers .entry)) r ⌝ }
 {
     let tokens = c.tokens;
-    let mut text = [0u8; 128];
-    if !bytes(&numbers[7..tokens], &mut text) {
+    let mut text = [0u8; BYTES as usize];
+    if !bytes(&numbers[TEXT..tokens], &mut text) {
         return Verdict::Malformed;
     }
-    let length = tokens - 7;
+    let length = tokens - TEXT;
     judge_text(numbers, &text[..length], c)
 }
 
@@ -78,7 +86,7 @@ pub fn judge(line: &[u8]) -> Verdict
     if is_comment(line) {
         return Verdict::Comment;
     }
-    let mut numbers = [0u32; 4096];
+    let mut numbers = [0u32; NUMBERS];
     let n = parse(line, &mut numbers);
     judge_numbers(&numbers[..n])
 }

@@ -1,4 +1,6 @@
 // Where the parts of a case stand among its numbers.
+use meaning::sizes::EVENT_NUMBERS;
+use meaning::sizes::TOKEN_NUMBERS;
 ghost use Prim.Native.Nat.{_≤_};
 ghost use Rattle.replay.specs.Shape.{Past, Shaped};
 
@@ -21,13 +23,19 @@ pub enum Place {
 }
 
 // The most that a case may have.
-const BYTES: u32 = 128;
+pub const BYTES: u32 = 128;
 
-const TOKENS: u32 = 128;
+pub const TOKENS: u32 = 128;
 
-const LINES: u32 = 130;
+pub const LINES: u32 = 130;
 
-const EVENTS: u32 = 400;
+pub const EVENTS: u32 = 400;
+
+// The settings that a case starts with.
+pub const SETTINGS: usize = 6;
+
+// The numbers of a line that are recorded: an entry's first.
+pub const RECORDED: usize = 8;
 
 // The place after a count and what it counts, which is so many numbers each.
 fn past(numbers: &[u32], at: usize, each: usize, most: u32) -> Place
@@ -51,16 +59,16 @@ fn past(numbers: &[u32], at: usize, each: usize, most: u32) -> Place
 pub fn shape_of(numbers: &[u32]) -> Shape
     ensures { λ r. ⌜ Shaped (now (numbers .entry)) r ⌝ }
 {
-    let Place::At(tokens) = past(numbers, 6, 1, BYTES) else {
+    let Place::At(tokens) = past(numbers, SETTINGS, 1, BYTES) else {
         return Shape::Malformed;
     };
-    let Place::At(lines) = past(numbers, tokens, 4, TOKENS) else {
+    let Place::At(lines) = past(numbers, tokens, TOKEN_NUMBERS, TOKENS) else {
         return Shape::Malformed;
     };
-    let Place::At(events) = past(numbers, lines, 8, LINES) else {
+    let Place::At(events) = past(numbers, lines, RECORDED, LINES) else {
         return Shape::Malformed;
     };
-    let Place::At(end) = past(numbers, events, 6, EVENTS) else {
+    let Place::At(end) = past(numbers, events, EVENT_NUMBERS, EVENTS) else {
         return Shape::Malformed;
     };
     if end != numbers.len() {

@@ -1,3 +1,5 @@
+-- `replay::main` meets its contract.
+-- Assumes nothing.
 use Prim.Native.Nat.{_+_, _-_, _^_, _≤_}
 use mathlib.Core.Path.{_≡_, sym, subst, _∙_}
 use native.Mathlib.Omega.{arith}

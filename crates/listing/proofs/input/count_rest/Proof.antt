@@ -1,3 +1,5 @@
+-- `listing::input::count_rest` meets its contract.
+-- Assumes nothing.
 use Prim.Native.Nat.{_≤_, _-_, _+_, _^_}
 use borrow.Author.Needs.{needs}
 use Rattle.listing.proofs.input.count_rest.Statement.{statement}

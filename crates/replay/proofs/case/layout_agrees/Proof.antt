@@ -6,6 +6,7 @@ use mathlib.Core.Path.{sym, _∙_}
 use lib.Seq.{length-take-le}
 use borrow.Author.Needs.{needs}
 use borrow.Author.Tests.{not-false}
+use Rattle.meaning.specs.Table.{eventNumbers}
 use Rattle.replay.proofs.CallLaws.{layout-agreed}
 use Rattle.replay.proofs.case.layout_agrees.Statement.{statement}
 use Rattle.replay.proofs.case.layout_agrees.Tie as tie
@@ -22,8 +23,14 @@ layout-with-events-requires c κs = search needs
 enum-known-n : tie.Need-enum-known-n
 enum-known-n c = search needs
 
+cast-if1 : tie.Need-cast-if1
+cast-if1 c = search needs
+
 returns : tie.Need-returns
 returns c = λ e. absurd (false≢true e)
+
+cast-if2 : tie.Need-cast-if2
+cast-if2 c = search needs
 
 returns-2 : tie.Need-returns-2
 returns-2 c = λ e. absurd (false≢true e)
@@ -37,7 +44,7 @@ array-share-prefix-drawn c = search needs
 slice-aggregate-same : tie.Need-slice-aggregate-same
 slice-aggregate-same c =
     let z = c .before .before .before .before in
-    sym (length-take-le (6 * z .n .given .0 .1 .0) (z .before .before .before .before .layout-with-events .last .1 .1 .1 .0) (search needs))
+    sym (length-take-le (eventNumbers * z .n .given .0 .1 .0) (z .before .before .before .before .layout-with-events .last .1 .1 .1 .0) (search needs))
 
 same-requires : tie.Need-same-requires
 same-requires c κs = search needs
@@ -81,7 +88,9 @@ layout-agrees-spec =
     slice-aggregate-layout-with-events-2
     layout-with-events-requires
     enum-known-n
+    cast-if1
     returns
+    cast-if2
     returns-2
     mul-size
     array-share-prefix-drawn

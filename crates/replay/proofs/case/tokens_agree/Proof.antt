@@ -5,6 +5,7 @@ use mathlib.Core.Bool.{false≢true}
 use mathlib.Core.Path.{sym, _∙_}
 use lib.Seq.{length-take-le}
 use borrow.Author.Needs.{needs}
+use Rattle.meaning.specs.Table.{tokenNumbers}
 use Rattle.replay.proofs.CallLaws.{tokens-agreed}
 use Rattle.replay.proofs.case.tokens_agree.Statement.{statement}
 use Rattle.replay.proofs.case.tokens_agree.Tie as tie
@@ -18,6 +19,9 @@ tokenize-requires c κs = search needs
 enum-known-n : tie.Need-enum-known-n
 enum-known-n c = search needs
 
+cast-if1 : tie.Need-cast-if1
+cast-if1 c = search needs
+
 returns : tie.Need-returns
 returns c = λ e. absurd (false≢true e)
 
@@ -30,7 +34,7 @@ array-share-prefix-tokens c = search needs
 slice-aggregate-same : tie.Need-slice-aggregate-same
 slice-aggregate-same c =
     let n = c .before .before .before in
-    sym (length-take-le (4 * n .n .given .0 .0) (n .before .before .before .tokenize .last .1 .0) (search needs))
+    sym (length-take-le (tokenNumbers * n .n .given .0 .0) (n .before .before .before .tokenize .last .1 .0) (search needs))
 
 same-requires : tie.Need-same-requires
 same-requires c κs = search needs
@@ -56,6 +60,7 @@ tokens-agree-spec =
     slice-aggregate-tokenize
     tokenize-requires
     enum-known-n
+    cast-if1
     returns
     mul-size
     array-share-prefix-tokens
