@@ -13,6 +13,7 @@ use Rattle.basis.specs.Choice.{pick}
 use Rattle.meaning.specs.Cursor.{placedAt, roomOf, advance, moveBy}
 use Rattle.meaning.specs.declared.cursor.LineCursor.{LineCursor}
 use Rattle.meaning.specs.declared.cursor.Moved.the-variants.{By, Room}
+use Rattle.steps.specs.Moves.{room-moves, room-refuses}
 
 -- ---- backward
 
@@ -64,10 +65,8 @@ ahead-in r (negsuc n) e f = absurd (false≢true (sym e))
 
 module _ (c : LineCursor) (r : ℕ) (is : r ≡ roomOf c) where
   pub ahead-moved : (z : ℤ) (n : ℕ) → z ≡ pos n → n ≤ r → By z (advance c (natAbs z)) ≡ moveBy c z
-  unfolding moveBy pick
-  ahead-moved z n e h = rw (e, le-leb n (roomOf c) (omega arith))
+  ahead-moved z n e h = rw e (sym (room-moves c n (omega arith)))
 
   pub ahead-out : (z : ℤ) → ltZ z (pos 0) ≡ false → ltZ (pos r) z ≡ true → Room (pos r) ≡ moveBy c z
-  unfolding moveBy pick
-  ahead-out (pos n) e f = rw (is, lt-leb n (roomOf c) (omega (arith, ltb-true r n f)))
+  ahead-out (pos n) e f = rw is (sym (room-refuses c n (omega (arith, ltb-true r n f))))
   ahead-out (negsuc n) e f = absurd (false≢true (sym e))
