@@ -1,5 +1,5 @@
--- `lent_cursor::move_cursor` meets its contract: a walk of its MIR, by hand. The borrow is opened, the cursor behind it goes to
--- `move_by`, the position after what that answers is stored, and the borrow is closed at the cursor with that position.
+-- `steps::lent_cursor::move_cursor` meets its contract: a walk of its MIR, by hand. The borrow is opened, the cursor behind it
+-- goes to `move_by`, the position after what that answers is stored, and the borrow is closed at the cursor with that position.
 -- All that the proof knows of `move_by` and `position_after` is that each meets its contract. Cursors, moves and positions own
 -- nothing but facts, so what one owns is made anew wherever it is asked for.
 -- Assumes nothing.
