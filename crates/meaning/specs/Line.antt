@@ -1,4 +1,4 @@
--- Rules 10, 12 and 13: a line is measured, placed and drawn.
+-- Rules 9, 10, 12 and 13: a line resumes a rest, is measured, placed and drawn.
 -- Assumes nothing.
 use Prim.Native.Nat.{ℕ, zero, suc, _+_, max}
 use mathlib.Core.Bool.{true}

@@ -1,4 +1,4 @@
--- Rule 12: a table is ten numbers a line, one line after the other; what a lent table, event buffer or token buffer holds.
+-- Rules 12 and 13: a table is ten numbers a line, one line after the other; what a lent table, event buffer or token buffer holds.
 -- Assumes nothing.
 use Prim.Native.Nat.{ℕ, zero, suc, _+_, _/_}
 use mathlib.Core.List.{List, [], _∷_, _++_}
