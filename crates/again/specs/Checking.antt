@@ -107,7 +107,7 @@ module _ (table : List ℕ) (lines : ℕ) (ed : Edit) (k : ℕ) (k-is : k ≡ le
   onward-is : onward ≡ linesFrom table lines k
   onward-is = affected-drop (ed .from .0) old ∙ ap (λ (n : ℕ). drop n old) (sym k-is) ∙ sym (lines-drop k lines table)
 
-  pub none-affected : lines ≤ k → onward ≡ []
+  none-affected : lines ≤ k → onward ≡ []
   none-affected h = onward-is ∙ lines-end table lines k h
 
   pub first-affected : k < lines → onward ≡ entryIn (drop (entryNumbers * k) table) ∷ linesFrom table lines (k + 1)

@@ -1,13 +1,13 @@
 -- The old lines that laying again keeps are the last ones, and the first of them starts behind the replaced bytes.
 -- Assumes nothing.
-use Prim.Native.Nat.{ℕ, zero, suc, _+_, _-_, _≤_}
+use Prim.Native.Nat.{ℕ, suc, _-_, _≤_}
 use native.Mathlib.Omega.{arith}
 use mathlib.Core.Path.{_≡_, refl, sym, ap, subst, _∙_}
 use mathlib.Core.Bool.{true, _&&_}
 use mathlib.Core.List.{List, [], _∷_, map}
 use borrow.Author.Tests.{leb-true}
 use lib.Dec.{leb, eqb}
-use lib.ListN.{length, take, drop, length-drop, length-map, drop-of-length-le}
+use lib.ListN.{length, drop, length-drop, length-map, drop-of-length-le}
 use Rattle.basis.specs.Choice.{pick, by-test, and-true}
 use Rattle.meaning.specs.Layout.{Row}
 use Rattle.meaning.specs.Edit.{moved, movedRest, movedEntry, meets, keptFrom, Again, oneMore, unlessKept}

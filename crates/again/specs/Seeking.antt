@@ -84,7 +84,7 @@ module _ (s : Settings) (part table : List ℕ) (lines base : ℕ) (ed : Edit) (
       skipped : drop i old ≡ drop (passing ed (base + p .at .0) left) left
       skipped = rw (i-is, lines-drop j lines table) (sym (drop-drop (passing ed (base + p .at .0) left) j old))
 
-      pub still-inside : i ≤ lines
+      still-inside : i ≤ lines
       still-inside =
           omega
           (arith, rw (lines-drop j lines table) at i-is, passing-few ed (base + p .at .0) left, length-drop j old, entries-length lines table, c .inside)

@@ -13,7 +13,7 @@ use Rattle.meaning.specs.declared.line.Entry.{Entry}
 use Rattle.line.specs.LineLaws.{entry-small}
 use Rattle.table.specs.Numbers.{putNumbers}
 use Rattle.table.specs.Moving.{MovableEntry}
-use Rattle.rows.specs.Standing.{StandReady, lineAt, Step, entry-is, ready-next}
+use Rattle.rows.specs.Standing.{StandReady, Step, entry-is, ready-next}
 use Rattle.rows.specs.RowsFrom.{rowHere, entriesFrom, last-entry, more-entries}
 use Rattle.rows.specs.Writing.{linesPut, none-put, first-put}
 use Rattle.rows.specs.declared.stand.Stand.{Stand}

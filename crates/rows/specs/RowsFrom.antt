@@ -147,7 +147,7 @@ module _ (s : Settings) (t : List ℕ) (base : ℕ) (p : Stand) where
   unfolding entriesFrom
   some-entries = rw length-map (some-rows s t base p)
 
-  pub few-from : length (entriesFrom s t base p) ≤ length t + 1
+  few-from : length (entriesFrom s t base p) ≤ length t + 1
   unfolding entriesFrom
   few-from = rw length-map (few-rows s t base p)
 

@@ -40,7 +40,7 @@ count-start s t p h e =
 
 module _ (s : Settings) (t : List ℕ) (n : ℕ) (p : Stand) (c : Counted s t n p) where
   -- There is a next line.
-  pub one-left : n + 1 ≤ length (entriesOf s t)
+  one-left : n + 1 ≤ length (entriesOf s t)
   one-left = omega (arith, c .left, some-entries s t 0 p)
 
   -- No count of lines wraps.

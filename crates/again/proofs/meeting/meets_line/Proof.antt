@@ -1,4 +1,4 @@
--- `meets_line` meets its contract.
+-- `again::meeting::meets_line` meets its contract.
 -- Assumes nothing.
 use mathlib.Core.Bool.{_&&_}
 use lib.Dec.{leb, eqb}

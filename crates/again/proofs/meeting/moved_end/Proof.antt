@@ -1,4 +1,4 @@
--- `moved_end` meets its contract.
+-- `again::meeting::moved_end` meets its contract.
 -- Assumes nothing.
 use mathlib.Core.Path.{_∙_}
 use Rattle.again.proofs.MeetLaws.{end-none, end-moved}

@@ -6,7 +6,6 @@ use mathlib.Core.Path.{sym, _∙_}
 use lib.ListN.{length}
 use Rattle.rows.specs.Standing.{stepped, further, stays}
 use Rattle.again.specs.Seeking.{Seeking, rest-low, seek-start, seek-low, stops, finds-last, seeks-on}
-use borrow.Author.Needs.{needs}
 use Rattle.again.proofs.stop.find_stop.Statement.{statement}
 use Rattle.again.proofs.stop.find_stop.Tie as tie
 

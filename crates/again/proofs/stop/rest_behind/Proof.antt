@@ -1,4 +1,4 @@
--- `rest_behind` meets its contract.
+-- `again::stop::rest_behind` meets its contract.
 -- Assumes nothing.
 use native.Mathlib.Omega.{arith}
 use Rattle.again.specs.Behind.{restBehind}

@@ -1,4 +1,4 @@
--- `check_layout` meets its contract.
+-- `layout::checked::check_layout` meets its contract.
 -- Assumes nothing.
 use mathlib.Core.Path.{sym, _∙_}
 use Rattle.rows.specs.GoodInput.{text-ready}

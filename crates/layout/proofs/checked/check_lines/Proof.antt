@@ -1,4 +1,4 @@
--- `check_lines` meets its contract.
+-- `layout::checked::check_lines` meets its contract.
 -- Assumes nothing.
 use mathlib.Core.Path.{ap, _∙_}
 use native.Mathlib.Omega.{arith}

@@ -1,4 +1,4 @@
--- `check_room` meets its contract.
+-- `layout::checked::check_room` meets its contract.
 -- Assumes nothing.
 use native.Mathlib.Omega.{arith}
 use Rattle.layout.specs.Checking.{has-room, has-no-room}

@@ -1,4 +1,4 @@
--- `layout_with_events` meets its contract.
+-- `layout::drawn::layout_with_events` meets its contract.
 -- Assumes nothing.
 use mathlib.Core.Path.{sym, _∙_}
 use Rattle.layout.specs.Checking.{good-ready, good-room}

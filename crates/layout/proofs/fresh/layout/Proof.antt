@@ -1,4 +1,4 @@
--- `layout` meets its contract.
+-- `layout::fresh::layout` meets its contract.
 -- Assumes nothing.
 use mathlib.Core.Path.{sym, _∙_}
 use Rattle.layout.specs.Checking.{good-ready, good-room}

@@ -1,8 +1,5 @@
 -- `rows::stand::at_front` meets its contract.
 -- Assumes nothing.
-use mathlib.Core.Path.{ap}
-use Rattle.steps.specs.declared.first.Known.{Known}
-use Rattle.rows.specs.declared.stand.Stand.{Stand}
 use borrow.Author.Needs.{needs}
 use Rattle.rows.proofs.stand.at_front.Statement.{statement}
 use Rattle.rows.proofs.stand.at_front.Tie as tie
