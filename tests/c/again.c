@@ -1,4 +1,5 @@
 /* bisquemop_lay_again: the examples, edits of every kind, tables of every size that matters, long texts. */
+/* Refusal 8, laying again. */
 #include "examples.h"
 #include "harness.h"
 

@@ -2,6 +2,7 @@
  * Random texts, each with a chain of random edits on one table. After each edit the first affected line is looked for
  * and the text laid again, lent from that line's start on, and the table is compared with a fresh layout of the whole
  * new text. How many lines were laid is computed a second time, from the old and the new table.
+ * Laying again.
  */
 #include "chance.h"
 #include "harness.h"

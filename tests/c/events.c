@@ -1,4 +1,5 @@
 /* bisquemop_layout_events: the examples, long texts, buffers of every size that matters, refusals. */
+/* Rule 13, refusal 8. */
 #include "examples.h"
 #include "harness.h"
 #include "long_texts.h"

@@ -1,3 +1,4 @@
+/* The table of examples: texts, settings, and the lines and events that they give (rule 8, rule 9, rule 10, rule 12, rule 13). */
 #include "examples.h"
 
 #include <stdio.h>

@@ -1,4 +1,5 @@
 /* bisquemop_height and bisquemop_line_y: how high a text is, where each of its lines stands, and whether it shows. */
+/* Rule 11. */
 #include "harness.h"
 
 #include <stdio.h>

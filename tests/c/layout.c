@@ -1,4 +1,5 @@
 /* bisquemop_layout: the examples, long texts, tables of every size that matters, refusals. */
+/* Rule 4, rule 5, rule 6, rule 7, rule 8, rule 9, rule 10, rule 12, refusal 8. */
 #include "examples.h"
 #include "harness.h"
 #include "long_texts.h"

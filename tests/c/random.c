@@ -1,4 +1,5 @@
 /* bisquemop_check_text on random texts that are UTF-8 or nearly so, held to Table 3-7. The seed is fixed. */
+/* Refusal 4. */
 #include "chance.h"
 #include "harness.h"
 #include "utf8.h"

@@ -1,6 +1,7 @@
 /*
  * bisquemop_lay_again: every refusal of settings, parts and edits, and which comes first. Bad tables are in tables.c,
  * and tables that are too small in again.c.
+ * Refusal 1, refusal 2, refusal 3, refusal 4, refusal 5, refusal 6.
  */
 #include "harness.h"
 #include "rules.h"

@@ -1,3 +1,4 @@
+/* A second computation of what an edit does to a table (laying again). */
 #include "rules.h"
 
 #include "utf8.h"

@@ -1,4 +1,4 @@
-/* bisquemop_check_text: every sequence that UTF-8 has, and every kind that it has not. */
+/* bisquemop_check_text: every sequence that UTF-8 has, and every kind that it has not (refusal 4). */
 #include "harness.h"
 #include "utf8.h"
 

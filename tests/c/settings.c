@@ -1,4 +1,5 @@
 /* bisquemop_check_settings: each setting at the ends of its range, and which refusal comes first. */
+/* Refusal 1, refusal 2. */
 #include "harness.h"
 
 #include <stdio.h>

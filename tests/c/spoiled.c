@@ -2,6 +2,7 @@
  * bisquemop_lay_again with whatever it can be lent, by chance: tables of layouts, tables that are only well formed,
  * tables of any numbers, with good and bad parts and edits. It refuses what the scope refuses, and treats all else by
  * the scope's steps.
+ * Refusal 5, refusal 6, laying again.
  */
 #include "chance.h"
 #include "harness.h"

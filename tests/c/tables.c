@@ -1,4 +1,5 @@
 /* The calls that read a table: good tables, bad ones, edits that are bad or too long. */
+/* Refusal 3, refusal 5, refusal 6. */
 #include "harness.h"
 
 #include <stdio.h>

@@ -1,4 +1,5 @@
 /* bisquemop_tokens: the examples, every character by itself, long texts, buffers of all sizes that matter, refusals. */
+/* Rule 1, rule 2, rule 3, refusal 8. */
 #include "harness.h"
 #include "utf8.h"
 

@@ -1,3 +1,4 @@
+/* UTF-8, written and looked at a second time (refusal 4). */
 #include "utf8.h"
 
 struct row {

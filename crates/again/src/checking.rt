@@ -1,4 +1,5 @@
 // What laying again tests before anything is laid: refusals 1 to 6, in this order.
+// Refusal 1, refusal 2, refusal 3, refusal 4, refusal 5, refusal 6.
 use crate::rest::rest_fits;
 use basis::numbers::less_wide;
 use checks::settings::check_settings;
@@ -72,7 +73,7 @@ fn ends_fit(part: &[u8], edit: Edit, e: Entry) -> bool
     is_boundary(part, front as usize) & is_boundary(part, end as usize)
 }
 
-// Refusals 5 and 6 of the first affected line, line k, which is answered.
+// Refusal 5 and refusal 6 of the first affected line, line k, which is answered.
 fn check_first(part: &[u8], table: &[u32], lines: usize, edit: Edit, k: usize) -> Affected
     requires { ⌜ (checkUtf8 (now part) ≡ Good) × (checkTable lines (now table) ≡ Good) × (k ≡ length (unaffected (edit .from .0) (entriesIn lines (now table)))) ⌝ }
     ensures { λ r. ⌜ r ≡ lookedOver (edit .from .0) (checkFirst (now (part .entry)) (now (table .entry)) lines edit) (entriesIn lines (now (table .entry))) ⌝ }

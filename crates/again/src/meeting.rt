@@ -1,4 +1,4 @@
-// Whether an old line stands where a line is to be laid.
+// Whether an old line stands where a line is to be laid (laying again).
 use meaning::counts::Offset;
 use meaning::edit::Edit;
 use meaning::line::Entry;

@@ -1,4 +1,4 @@
-// The lines laid again, written to the table.
+// The lines laid again, written to the table (laying again).
 use meaning::counts::Offset;
 use meaning::edit::Edit;
 use meaning::line::Entry;

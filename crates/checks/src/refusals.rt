@@ -1,4 +1,5 @@
 // Each refusal as a number, and the value that goes besides it.
+// Refusal 1, refusal 2, refusal 3, refusal 4, refusal 5, refusal 6, refusal 7, refusal 8.
 use meaning::refusals::Checked;
 use meaning::refusals::Refusal;
 ghost use mathlib.Core.Path.{_≡_};

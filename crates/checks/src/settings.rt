@@ -1,4 +1,4 @@
-// Refusals 1 and 2: a setting that is out of range, an alignment that is unknown.
+// Refusal 1 and refusal 2: a setting that is out of range, an alignment that is unknown.
 use meaning::refusals::Checked;
 use meaning::refusals::Refusal;
 use meaning::settings::Settings;
@@ -51,7 +51,7 @@ fn in_range(s: Settings) -> bool
     sizes & top_in_range(s) & (s.leading <= 1) & (s.trailing <= 1)
 }
 
-// Refusals 1 and 2.
+// Refusal 1 and refusal 2.
 pub fn check_settings(s: Settings) -> Checked
     ensures { λ r. ⌜ r ≡ checkSettings s ⌝ }
 {

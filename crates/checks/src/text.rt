@@ -1,4 +1,4 @@
-// Refusals 3 and 4: a text that is too long, or no UTF-8.
+// Refusal 3 and refusal 4: a text that is too long, or no UTF-8.
 use meaning::counts::Offset;
 use meaning::refusals::Checked;
 use meaning::refusals::Refusal;
@@ -17,7 +17,7 @@ pub fn check_length(bytes: u64) -> Checked
     Checked::Good
 }
 
-// Refusals 3 and 4. A text that is too long is not read at all.
+// Refusal 3 and refusal 4. A text that is too long is not read at all.
 pub fn check_text(text: &[u8]) -> Checked
     ensures { λ r. ⌜ r ≡ checkText (now (text .entry)) ⌝ }
 {

@@ -1,4 +1,4 @@
-// By how much the measure of a line grew in one step.
+// By how much the measure of a line grew in one step (rule 10, rule 13).
 use meaning::counts::Chars;
 use meaning::counts::Pixels;
 use meaning::line::Measure;

@@ -1,4 +1,4 @@
-// Where the drawing of a line stands between two tokens, and what waits there for the next line.
+// Where the drawing of a line stands between two tokens, and what waits there for the next line (rule 8, rule 13).
 use crate::pen::Pen;
 use meaning::cursor::Place;
 use strides::going::Waiting;

@@ -1,4 +1,4 @@
-// The events of a line: the running pass again, token by token or in strides, each drawn (rules 7 to 9, and 13).
+// The events of a line: the running pass again, token by token or in strides, each drawn (rule 7, rule 8, rule 9 and rule 13).
 use crate::pen::Pen;
 use crate::striding::draw_unless;
 use crate::tokens::draw_token;

@@ -1,4 +1,4 @@
-// The pen that draws a line's events.
+// The pen that draws a line's events (rule 13).
 use meaning::counts::Chars;
 use meaning::counts::Offset;
 use meaning::counts::Pixels;

@@ -1,5 +1,6 @@
 // Words that fit, drawn in strides of a space and a word, as a measuring pass takes them (strides/src/strides.rt): what is drawn from
 // there on makes the same sheet (`DrawingOn.Drew`).
+// Rule 8, rule 13.
 use crate::inked::Inked;
 use crate::inked::inked_at;
 use crate::pen::Pen;

@@ -1,4 +1,4 @@
-// One space and the word behind it, drawn as they were taken.
+// One space and the word behind it, drawn as they were taken (rule 8, rule 13).
 use crate::pen::Pen;
 use crate::pen::put_one;
 use crate::words::draw_word;

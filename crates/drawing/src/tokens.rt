@@ -1,4 +1,4 @@
-// The events of one token (rules 7 to 9).
+// The events of one token (rule 8, rule 9, rule 13).
 use crate::grown::Grown;
 use crate::grown::growth;
 use crate::grown::taken_end;

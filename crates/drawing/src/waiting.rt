@@ -1,5 +1,6 @@
 // A line's end before a word that waits behind one space: what becomes of the space is decided for measuring too
 // (strides/src/waiting.rt), and what is drawn of it is what a pass draws from there (`StrideEvents.waits-drawn`).
+// Rule 8, rule 13.
 use crate::inked::Inked;
 use crate::pen::Pen;
 use crate::pen::put_one;

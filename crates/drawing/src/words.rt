@@ -1,4 +1,4 @@
-// A printed word, drawn stretch by stretch (rule 8).
+// A printed word, drawn stretch by stretch (rule 8, rule 13).
 use crate::pen::Pen;
 use crate::pen::put_one;
 use meaning::cursor::Spaces;

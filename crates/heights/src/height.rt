@@ -17,7 +17,7 @@ ghost use Rattle.meaning.specs.Height.{heightOf, yOf};
 ghost use Rattle.meaning.specs.Calls.{checkHeight, heightAnswer, yAnswer};
 ghost use Rattle.meaning.specs.declared.refusals.Checked.the-variants.{Good};
 
-// Refusals 1, 2 and 5.
+// Refusal 1, refusal 2 and refusal 5.
 fn check_height(s: Settings, table: &[u32], lines: usize) -> Checked
     ensures { λ r. ⌜ r ≡ checkHeight s (now (table .entry)) lines ⌝ }
 {

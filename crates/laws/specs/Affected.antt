@@ -1,4 +1,4 @@
--- The first affected line of an edit: there is one, and the lines before it are those of the new text.
+-- The first affected line of an edit: there is one, and the lines before it are those of the new text (laying again).
 -- Assumes nothing.
 use Prim.Native.Nat.{ℕ, zero, suc, _+_, _≤_, _<_}
 use native.Mathlib.Nat.{not-suc-le-zero}

@@ -1,4 +1,4 @@
--- Two token lists that are the same as far as n bytes decide.
+-- Two token lists that are the same as far as n bytes decide (rule 12).
 -- Assumes nothing.
 use Prim.Native.Nat.{ℕ, _-_, _≤_, _<_}
 use mathlib.Core.Path.{_≡_}

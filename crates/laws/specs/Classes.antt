@@ -1,4 +1,4 @@
--- What a character of each class is.
+-- What a character of each class is (rule 2).
 -- Assumes nothing.
 use Prim.Native.Nat.{ℕ}
 use mathlib.Core.Path.{_≡_}

@@ -1,4 +1,4 @@
--- A step that ends a line and holds something holds all of its token that it does not take.
+-- A step that ends a line and holds something holds all of its token that it does not take (rule 9).
 -- Assumes nothing.
 use Prim.Native.Nat.{ℕ, _+_, _-_, _*_, _/_, _≤_, min}
 use mathlib.Core.Path.{_≡_, refl}

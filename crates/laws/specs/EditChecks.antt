@@ -1,4 +1,4 @@
--- An edit of a text and the part that is lent for laying it again are good: refusals 3, 5 and 6 are not given.
+-- An edit of a text and the part that is lent for laying it again are good: refusal 3, refusal 5 and refusal 6 are not given.
 -- Assumes nothing.
 use Prim.Native.Nat.{ℕ, _+_, _-_, _≤_}
 use native.Mathlib.Omega.{arith}

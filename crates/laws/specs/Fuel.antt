@@ -1,4 +1,4 @@
--- A count of lines above the number of characters allows for every line: any two such counts give the same lines.
+-- A count of lines above the number of characters allows for every line: any two such counts give the same lines (rule 10).
 -- Assumes nothing.
 use Prim.Native.Nat.{ℕ, zero, suc, _+_, _≤_, _<_}
 use native.Mathlib.Nat.{not-suc-le-zero}

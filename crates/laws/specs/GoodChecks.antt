@@ -1,5 +1,6 @@
 -- Checks that refuse nothing: of a text that is short enough, of one that is UTF-8, and of a table that is large enough or
 -- holds a layout.
+-- Refusal 3, refusal 4, refusal 5, refusal 8.
 -- Assumes nothing.
 use Prim.Native.Nat.{ℕ, _*_, _≤_}
 use native.Mathlib.Omega.{arith}

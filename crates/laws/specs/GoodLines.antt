@@ -1,4 +1,4 @@
--- What the check of lines says of each line, where it finds none that is bad.
+-- What the check of lines says of each line, where it finds none that is bad (refusal 5).
 -- Assumes nothing.
 use Prim.Native.Nat.{ℕ, suc, _≤_, _<_}
 use mathlib.Core.Path.{_≡_, refl}

@@ -1,4 +1,4 @@
--- The lines of a layout: how many there are, that each but the last takes a character, and that the last alone ends the text.
+-- The lines of a layout: how many there are, that each but the last takes a character, and that the last alone ends the text (rule 10).
 -- Assumes nothing.
 use Prim.Native.Nat.{ℕ, zero, suc, _+_, _≤_, _<_}
 use mathlib.Core.Path.{_≡_, refl}

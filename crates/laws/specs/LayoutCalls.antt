@@ -1,4 +1,4 @@
--- The fresh layout of a text that is good, in a table that has room for it: nothing is refused.
+-- The fresh layout of a text that is good, in a table that has room for it: nothing is refused (rule 10).
 -- Assumes nothing.
 use Prim.Native.Nat.{ℕ, _*_, _≤_}
 use mathlib.Core.Path.{_≡_, sym}

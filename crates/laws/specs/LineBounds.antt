@@ -1,4 +1,4 @@
--- What a line takes, holds and reaches: its two passes are over the same text.
+-- What a line takes, holds and reaches: its two passes are over the same text (rule 10, rule 12).
 -- Assumes nothing.
 use Prim.Native.Nat.{ℕ, _+_, _≤_}
 use mathlib.Core.Path.{_≡_, refl, subst}

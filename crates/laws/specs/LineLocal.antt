@@ -1,4 +1,4 @@
--- R2: a line depends only on the bytes up to its reach.
+-- Locality: a line depends only on the bytes up to its reach (rule 12).
 -- Assumes nothing.
 use Prim.Native.Nat.{ℕ, zero, suc, _≤_}
 use native.Mathlib.Omega.{arith}

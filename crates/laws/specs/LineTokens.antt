@@ -1,4 +1,4 @@
--- The tokens of a line's text, the first of which may be what was held.
+-- The tokens of a line's text, the first of which may be what was held (rule 9).
 -- Assumes nothing.
 use Prim.Native.Nat.{ℕ, zero, suc, _≤_}
 use mathlib.Core.Path.{_≡_}

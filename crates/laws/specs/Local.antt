@@ -1,4 +1,4 @@
--- What a pass answers depends only on the bytes that it examined.
+-- What a pass answers depends only on the bytes that it examined (rule 8, rule 12).
 -- Assumes nothing.
 use Prim.Native.Nat.{ℕ, _+_, _-_, _≤_}
 use native.Mathlib.Omega.{arith}

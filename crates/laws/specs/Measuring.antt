@@ -1,4 +1,4 @@
--- What drawn things measure: one after the other, and a printed word by its counts alone.
+-- What drawn things measure: one after the other, and a printed word by its counts alone (rule 10).
 -- Assumes nothing.
 use Prim.Native.Nat.{ℕ, suc, _+_, _-_, _*_, _≤_}
 use mathlib.Core.Path.{_≡_, refl, ap, _∙_}

@@ -1,4 +1,4 @@
--- The law of one line: a text that is moved has its lines moved, and nothing else of them changes.
+-- The law of one line: a text that is moved has its lines moved, and nothing else of them changes (laying again).
 -- Assumes nothing.
 use Prim.Native.Nat.{ℕ, zero, suc, _+_, _-_, _≤_}
 use native.Mathlib.Omega.{arith}

@@ -1,4 +1,4 @@
--- What a pass takes, holds and reaches, whatever the settings and wherever it starts.
+-- What a pass takes, holds and reaches, whatever the settings and wherever it starts (rule 8).
 -- Assumes nothing.
 use Prim.Native.Nat.{ℕ, _+_, _≤_}
 use mathlib.Core.Path.{_≡_, refl}

@@ -1,4 +1,4 @@
--- The byte ranges of a text's tokens: they follow one another and cover the text.
+-- The byte ranges of a text's tokens: they follow one another and cover the text (rule 3).
 -- Assumes nothing.
 use Prim.Native.Nat.{ℕ, _+_, _<_}
 use mathlib.Core.Path.{_≡_, refl}

@@ -1,4 +1,4 @@
--- How far a pass looks ahead: never past the character after the text, which stands for its end.
+-- How far a pass looks ahead: never past the character after the text, which stands for its end (rule 12).
 -- Assumes nothing.
 use Prim.Native.Nat.{ℕ, _+_, _*_, _≤_}
 use mathlib.Core.Bool.{Bool, true, false, _||_}

@@ -1,4 +1,4 @@
--- What a line's entry says of the rest held before it, by whether something is held.
+-- What a line's entry says of the rest held before it, by whether something is held (rule 9, rule 12).
 -- Assumes nothing.
 use Prim.Native.Nat.{ℕ, _+_, _-_, _≤_}
 use native.Mathlib.Omega.{arith}

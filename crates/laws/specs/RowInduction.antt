@@ -1,4 +1,4 @@
--- What holds of the line that ends a text, and of a line if it holds of those after it, holds of all lines of a text.
+-- What holds of the line that ends a text, and of a line if it holds of those after it, holds of all lines of a text (rule 10).
 -- Assumes nothing.
 use Prim.Native.Nat.{ℕ, zero, suc, _+_, _≤_, _<_}
 use mathlib.Core.Path.{_≡_, refl}

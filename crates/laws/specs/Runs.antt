@@ -1,4 +1,4 @@
--- The longest run of characters that pass a test, and what stands after it.
+-- The longest run of characters that pass a test, and what stands after it (rule 2).
 -- Assumes nothing.
 use Prim.Native.Nat.{ℕ, _+_, _≤_, _<_}
 use mathlib.Core.Path.{_≡_, refl, ap, _∙_}

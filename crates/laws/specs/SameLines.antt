@@ -1,4 +1,5 @@
 -- A line does not depend on line spacing, paragraph spacing, base, box height, box top and vertical alignment, and so no layout does.
+-- Rule 10.
 -- Assumes nothing.
 use Prim.Native.Nat.{ℕ, zero, suc, _+_}
 use mathlib.Core.Path.{_≡_, refl, sym, ap, _∙_}

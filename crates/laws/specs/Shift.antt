@@ -1,4 +1,4 @@
--- A pass from an offset d further on answers the same, with what it draws and how far it looked moved by d.
+-- A pass from an offset d further on answers the same, with what it draws and how far it looked moved by d (rule 8).
 -- Assumes nothing.
 use Prim.Native.Nat.{ℕ, _+_, _*_, _/_, max}
 use mathlib.Core.Path.{_≡_, refl, ap}

@@ -1,4 +1,4 @@
--- The characters of tokens, and what holds of the tokens of every text.
+-- The characters of tokens, and what holds of the tokens of every text (rule 3).
 -- Assumes nothing.
 use Prim.Native.Nat.{ℕ, _≤_}
 use mathlib.Core.List.{List, [], _∷_, _++_}

@@ -1,4 +1,4 @@
--- Places in a text where a line may start.
+-- Places in a text where a line may start (rule 10).
 -- Assumes nothing.
 use Prim.Native.Nat.{ℕ, suc, _+_, _≤_, _<_}
 use native.Mathlib.Omega.{arith}

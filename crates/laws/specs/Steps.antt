@@ -1,4 +1,4 @@
--- What a token may do to a line: what it takes and holds where the line ends there, and how far it looks.
+-- What a token may do to a line: what it takes and holds where the line ends there, and how far it looks (rule 8).
 -- Assumes nothing.
 use Prim.Native.Nat.{ℕ, zero, suc, _+_, _-_, _*_, _/_, _≤_, _<_, min}
 use mathlib.Core.Path.{_≡_, sym, _∙_}

@@ -1,5 +1,6 @@
 -- Tables as they are written and as they are read: the numbers of entries give back the entries, the entries give back the
 -- numbers, and what is written to a buffer leaves the rest of it as it was.
+-- Rule 12, rule 13.
 -- Assumes nothing.
 use Prim.Native.Nat.{ℕ, zero, suc, _+_, _*_, _≤_, _<_}
 use mathlib.Core.Path.{_≡_, refl, sym, ap, _∙_}

@@ -1,4 +1,4 @@
--- The tokens of a text, one after the other.
+-- The tokens of a text, one after the other (rule 2, rule 3).
 -- Assumes nothing.
 use Prim.Native.Nat.{ℕ, zero, suc, _+_, _≤_}
 use mathlib.Core.Path.{_≡_, refl, sym, ap, _∙_}

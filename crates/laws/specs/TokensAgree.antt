@@ -1,4 +1,4 @@
--- The tokens of a text's first bytes are those of every text that begins with them, as far as these bytes decide.
+-- The tokens of a text's first bytes are those of every text that begins with them, as far as these bytes decide (rule 2, rule 12).
 -- Assumes nothing.
 use Prim.Native.Nat.{ℕ, zero, suc, _+_, _-_, _≤_, _<_}
 use mathlib.Core.Path.{_≡_, refl, sym, ap, _∙_}

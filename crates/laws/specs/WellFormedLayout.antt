@@ -1,4 +1,4 @@
--- L2: the layout of a text is a well formed table of it.
+-- The layout of a text is a well formed table of it (refusal 5).
 -- Assumes nothing.
 use Prim.Native.Nat.{ℕ, suc, _+_, _-_, _≤_, _<_}
 use mathlib.Core.Path.{_≡_, refl, _∙_}

@@ -56,13 +56,13 @@ long-enough n k buffer h e = capacity-is n k buffer h .0 (room-is (capacityOf n 
 -- ---- all tests
 
 module _ (s : Settings) (t table : List ℕ) where
-  -- Refusals 1 and 2.
+  -- Refusal 1 and refusal 2.
   pub settings-refused : (r : Refusal) → checkSettings s ≡ Refused r → Refused r ≡ checkLayout s t table
   unfolding checkLayout firstOf
   settings-refused r e = rw e
 
   module _ (good : checkSettings s ≡ Good) where
-    -- Refusals 3 and 4.
+    -- Refusal 3 and refusal 4.
     pub text-refused : (r : Refusal) → checkText t ≡ Refused r → Refused r ≡ checkLayout s t table
     unfolding checkLayout firstOf checkText
     text-refused r e =

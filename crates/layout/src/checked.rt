@@ -1,4 +1,4 @@
-// The tests of a fresh layout, in their order. None of them writes anything.
+// The tests of a fresh layout, in their order. None of them writes anything (refusal 1, refusal 2, refusal 3, refusal 4, refusal 8).
 use crate::events::count_events;
 use checks::settings::check_settings;
 use checks::text::check_text;

@@ -1,4 +1,4 @@
-// The fresh layout of a text with what is drawn: a public call.
+// The fresh layout of a text with what is drawn: a public call (rule 10, rule 13, refusal 1, refusal 2, refusal 3, refusal 4, refusal 8).
 use crate::checked::check_events;
 use crate::checked::check_layout;
 use crate::events::write_and_draw;

@@ -1,4 +1,4 @@
-// The events of a text's lines, one line after the other: counted, and drawn as each line is written.
+// The events of a text's lines, one line after the other: counted, and drawn as each line is written (rule 10, rule 13).
 use drawing::pass::draw_pass;
 use meaning::cursor::Spaces;
 use meaning::settings::Settings;

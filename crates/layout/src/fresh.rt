@@ -1,4 +1,4 @@
-// The fresh layout of a text: a public call.
+// The fresh layout of a text: a public call (rule 10, refusal 1, refusal 2, refusal 3, refusal 4, refusal 8).
 use crate::checked::check_layout;
 use meaning::answers::Laid;
 use meaning::refusals::Checked;

@@ -1,4 +1,4 @@
-// One line: measured, placed, drawn, and its entry (rules 6, 10 and 12).
+// One line: measured, placed, drawn, and its entry (rule 6, rule 10 and rule 12).
 pub mod alignment;
 pub mod cut;
 pub mod entry;

@@ -1,4 +1,4 @@
-// One pass over a line, in strides of words where it can, else token by token (rules 8 and 9).
+// One pass over a line, in strides of words where it can, else token by token (rule 8, rule 9, rule 12).
 use basis::numbers::greater;
 use meaning::counts::Chars;
 use meaning::counts::Offset;

@@ -1,4 +1,4 @@
-// A line of words with one space between any two, counted in characters: it is drawn as it was measured.
+// A line of words with one space between any two, counted in characters: it is drawn as it was measured (rule 8, rule 10).
 use crate::alignment::plain_spaces;
 use meaning::counts::Chars;
 use meaning::counts::Offset;

@@ -1,5 +1,6 @@
 -- What each public call answers, and what each buffer that it is lent holds afterwards, from what it was lent alone.
 -- A text is a list of bytes here, and a table or buffer a list of numbers.
+-- Refusal 1, refusal 2, refusal 3, refusal 4, refusal 5, refusal 6, refusal 7, refusal 8, laying again.
 -- Assumes nothing.
 use Prim.Native.Nat.{ℕ, suc}
 use mathlib.Core.Bool.{_&&_}

@@ -1,4 +1,4 @@
--- Rules 1 and 2: what each character does in a text. A character is a scalar value.
+-- Rule 1 and rule 2: what each character does in a text. A character is a scalar value.
 -- Assumes nothing.
 use Prim.Native.Nat.{ℕ}
 use mathlib.Core.Bool.{Bool, true, false, _&&_, not}

@@ -1,4 +1,5 @@
 -- The refusals that need no layout, 1 to 4, and how a call goes through its tests.
+-- Refusal 1, refusal 2, refusal 3, refusal 4, refusal 8.
 -- Assumes nothing.
 use Prim.Native.Nat.{ℕ}
 use mathlib.Core.Bool.{Bool, not}

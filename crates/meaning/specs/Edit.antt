@@ -1,4 +1,4 @@
--- Laying again after an edit: the first affected line, refusals 3, 5 and 6 of an edit, and the lines afterwards.
+-- Laying again after an edit: the first affected line, refusal 3, refusal 5 and refusal 6 of an edit, and the lines afterwards.
 -- Assumes nothing.
 use Prim.Native.Nat.{ℕ, zero, suc, _+_, _-_}
 use mathlib.Core.Bool.{Bool, _&&_, _||_, not}

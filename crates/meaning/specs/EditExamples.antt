@@ -1,5 +1,6 @@
 -- The scope's examples of edits, computed: from the layout of the old text, which line is affected, how many lines there are then
 -- and how many were laid, and the lines afterwards.
+-- Laying again.
 -- Assumes nothing.
 use Prim.Native.Nat.{ℕ, zero, suc}
 use Prim.Native.String.{String}

@@ -1,4 +1,4 @@
--- The scope's examples of layouts, computed (E1): one table, and one theorem over it.
+-- The scope's examples of layouts, computed: one table, and one theorem over it (rule 8, rule 10, rule 12, rule 13).
 -- Assumes nothing.
 use Prim.Native.Nat.{ℕ}
 use Prim.Native.Char.{code}

@@ -1,4 +1,4 @@
--- Rules 9, 10, 12 and 13: a line resumes a rest, is measured, placed and drawn.
+-- Rule 9, rule 10, rule 12 and rule 13: a line resumes a rest, is measured, placed and drawn.
 -- Assumes nothing.
 use Prim.Native.Nat.{ℕ, zero, suc, _+_, max}
 use mathlib.Core.Bool.{true}

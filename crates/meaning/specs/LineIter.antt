@@ -1,4 +1,4 @@
--- Rules 7, 8 and 9, `process`: one pass over a line, token by token.
+-- Rule 7, rule 8 and rule 9, `process`: one pass over a line, token by token.
 -- Assumes nothing.
 use Prim.Native.Nat.{ℕ, _+_, _-_, _*_, _/_, max, min}
 use mathlib.Core.Bool.{Bool, true, false, _&&_, _||_, not}

@@ -1,4 +1,5 @@
 -- The scope's table of refusals: the number of each, and what goes besides it.
+-- Refusal 1, refusal 2, refusal 3, refusal 4, refusal 5, refusal 6, refusal 7, refusal 8.
 -- Assumes nothing.
 use Prim.Native.Nat.{ℕ}
 use Rattle.meaning.specs.declared.refusals.Refusal.{Refusal}

@@ -1,4 +1,4 @@
--- "Numbers" of the scope: which numbers a setting may have.
+-- "Numbers" of the scope: which numbers a setting may have (refusal 1, refusal 2).
 -- Assumes nothing.
 use Prim.Native.Nat.{ℕ}
 use mathlib.Core.Bool.{Bool, _&&_}

@@ -28,7 +28,7 @@ use Rattle.meaning.specs.declared.refusals.Checked.the-variants.{Good, R
 use Rattle.meaning.specs.declared.answers.Laid.{Laid}
 use Rattle.meaning.specs.declared.answers.Laid.the-variants as laid
 
--- ---- tokens: kind, start, end, count (rules 2 and 3)
+-- ---- tokens: kind, start, end, count (rule 2 and rule 3)
 
 pub record TokenExample : Type 0 where
   pub text : String

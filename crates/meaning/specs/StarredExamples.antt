@@ -1,4 +1,5 @@
 -- The examples of layouts, edits and tokens in one table, and one theorem over it: each comes out as it is written.
+-- Rule 2, rule 8, rule 10, rule 12, rule 13, laying again.
 -- Assumes nothing.
 use mathlib.Core.Path.{_≡_, refl}
 use mathlib.Core.List.{List, [], _∷_, _++_, map}

@@ -1,4 +1,5 @@
--- Rules 12 and 13: a table is ten numbers a line, one line after the other; what a lent table, event buffer or token buffer holds.
+-- Rule 12 and rule 13: a table is ten numbers a line, one line after the other; what a lent table, event buffer or token buffer holds.
+-- Rule 3, rule 12, rule 13.
 -- Assumes nothing.
 use Prim.Native.Nat.{ℕ, zero, suc, _+_, _/_}
 use mathlib.Core.List.{List, [], _∷_, _++_}

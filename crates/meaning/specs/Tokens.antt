@@ -1,4 +1,4 @@
--- Rules 2 and 3: a text is a list of tokens, each the longest of its kind.
+-- Rule 2 and rule 3: a text is a list of tokens, each the longest of its kind.
 -- Assumes nothing.
 use Prim.Native.Nat.{ℕ, zero, suc, _+_}
 use mathlib.Core.Bool.{Bool}

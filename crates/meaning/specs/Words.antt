@@ -1,4 +1,4 @@
--- Rules 7 and 8, `process_word`: a printed word is drawn stretch by stretch, with a space for each gluing character.
+-- Rule 7 and rule 8, `process_word`: a printed word is drawn stretch by stretch, with a space for each gluing character.
 -- Assumes nothing.
 use Prim.Native.Nat.{ℕ, suc, _+_, _*_}
 use mathlib.Core.List.{List, [], _∷_}

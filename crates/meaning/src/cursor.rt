@@ -1,4 +1,4 @@
-// Where a pass stands in its line, how wide its spaces are, and what it carries from token to token.
+// Where a pass stands in its line, how wide its spaces are, and what it carries from token to token (rule 4, rule 5, rule 8).
 use crate::counts::Pixels;
 
 // Rule 4: where a pass stands in its line.

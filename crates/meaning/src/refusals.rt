@@ -1,4 +1,4 @@
-// Why a call refuses its input.
+// Why a call refuses its input (refusal 1, refusal 2, refusal 3, refusal 4, refusal 5, refusal 6, refusal 7, refusal 8).
 use crate::counts::Offset;
 
 // Why a call refused its input. `numberOf` and `besides` (specs/Refusals.antt) give the scope's number and what goes with it.

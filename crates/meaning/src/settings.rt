@@ -1,4 +1,4 @@
-// What a text is laid by.
+// What a text is laid by (refusal 1, refusal 2).
 use crate::counts::Pixels;
 
 // The twelve settings, in the scope's order.

@@ -1,5 +1,6 @@
 // How many numbers a line, an event and a token are in a lent buffer, where each number of a line stands, and how long a
 // text may be. `entryNumbers`, `eventNumbers`, `tokenNumbers` and `textLimit` of specs/ say the same.
+// Rule 3, rule 12, rule 13, refusal 3.
 
 // The numbers of a line entry, of an event and of a token.
 pub const ENTRY_NUMBERS: usize = 10;

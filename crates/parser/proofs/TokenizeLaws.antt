@@ -13,7 +13,7 @@ use Rattle.unicode.specs.Decoding.{decodeAll, validPrefix}
 use Rattle.unicode.specs.Prefix.{prefix-within}
 use Rattle.meaning.specs.Characters.{classOf}
 use Rattle.meaning.specs.Tokens.{Tok, sizeOf, others, tokensBy, tokens, ranged}
-use Rattle.meaning.specs.Table.{ofToken, ofAll, capacityOf, written}
+use Rattle.meaning.specs.Table.{tokenNumbers, ofToken, ofAll, capacityOf, written}
 use Rattle.meaning.specs.Checks.{refuseIf, checkLength, checkUtf8, checkText, checkRoom}
 use Rattle.meaning.specs.Calls.{textTokens, checkTokens, tokensAnswer, tokensBuffer}
 use Rattle.meaning.specs.declared.refusals.Refusal.{Refusal}
@@ -32,7 +32,7 @@ unfolding ranged
 ranged-length at [] = refl
 ranged-length at (t ∷ ts) = ap suc (ranged-length _ ts)
 
-numbers-length : (at : ℕ) (ts : List Tok) → length (ofAll ofToken (ranged at ts)) ≡ 4 * length ts
+numbers-length : (at : ℕ) (ts : List Tok) → length (ofAll ofToken (ranged at ts)) ≡ tokenNumbers * length ts
 unfolding ranged ofAll ofToken
 numbers-length at [] = refl
 numbers-length at (t ∷ ts) = omega (arith, numbers-length (at + sizeOf t) ts)
@@ -56,20 +56,20 @@ module _ (t : List ℕ) where
   -- ---- the room of the buffer
 
   module _ (b : List ℕ) (n : ℕ) (e : n ≡ length (tokens (charsFrom t 0))) where
-    pub no-room : length b / 4 < n → (tokenized.Refused (TooSmall n) ≡ roomAnswer t b) × (b ≡ roomBuffer t b)
+    pub no-room : length b / tokenNumbers < n → (tokenized.Refused (TooSmall n) ≡ roomAnswer t b) × (b ≡ roomBuffer t b)
     unfolding roomAnswer roomBuffer checkNeeded checkRoom refuseIf capacityOf pick
     no-room h =
         rw (text-length, ← e, lt-ltb _ _ h) (refl, refl)
 
     -- The numbers, stored one after the other, are those written to the front.
-    stored : n ≤ length b / 4 → sets b 0 (numbersFrom t 0) ≡ written b (ofAll ofToken (textTokens t))
+    stored : n ≤ length b / tokenNumbers → sets b 0 (numbersFrom t 0) ≡ written b (ofAll ofToken (textTokens t))
     unfolding numbersFrom textTokens charsFrom written
     stored h =
         let ts = tokens (decodeAll t) in
         let xs = ofAll ofToken (ranged 0 ts) in
         sets-eq xs b 0 (omega (arith, numbers-length 0 ts)) ∙ rw (zero-add (length xs))
 
-    pub room : n ≤ length b / 4 → (tokenized.Tokens n ≡ roomAnswer t b) × (sets b 0 (numbersFrom t 0) ≡ roomBuffer t b)
+    pub room : n ≤ length b / tokenNumbers → (tokenized.Tokens n ≡ roomAnswer t b) × (sets b 0 (numbersFrom t 0) ≡ roomBuffer t b)
     unfolding roomAnswer roomBuffer checkNeeded checkRoom refuseIf capacityOf pick
     room h = rw (text-length, ← e, le-ltb _ _ h) (refl, stored h)
 

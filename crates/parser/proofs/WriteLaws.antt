@@ -7,7 +7,7 @@ use native.Mathlib.Omega.{arith}
 use lib.ListN.{set}
 use lib.Seq.{sets}
 use Rattle.meaning.specs.Tokens.{tokens, ranged}
-use Rattle.meaning.specs.Table.{tokenNumber, ofToken, ofAll, written}
+use Rattle.meaning.specs.Table.{tokenNumbers, tokenNumber, ofToken, ofAll, written}
 use Rattle.parser.specs.Lexing.{charsFrom, lexemeAt}
 use Rattle.parser.specs.Writing.{numbersOf, numbersFrom}
 use Rattle.parser.specs.declared.lexeme.Lexeme.{Lexeme}
@@ -33,10 +33,10 @@ module _ (t : List ℕ) where
 
   -- A token written, and then the rest.
   pub sets-more : (b : List ℕ) (n at : ℕ) (l : Lexeme) → Next t at l
-      → sets (sets b (4 * n) (numbersOf at l)) (4 * (n + 1)) (numbersFrom t (l .end .0)) ≡ sets b (4 * n) (numbersFrom t at)
+      → sets (sets b (tokenNumbers * n) (numbersOf at l)) (tokenNumbers * (n + 1)) (numbersFrom t (l .end .0)) ≡ sets b (tokenNumbers * n) (numbersFrom t at)
   unfolding numbersOf
   sets-more b n at l s =
-      let e : 4 * (n + 1) ≡ suc (suc (suc (suc (4 * n)))) = omega arith in
+      let e : tokenNumbers * (n + 1) ≡ suc (suc (suc (suc (tokenNumbers * n)))) = omega arith in
       rw (numbers-more at l s, e)
 
   -- No token left to write.

@@ -1,4 +1,4 @@
-// What a byte tells before any character is decoded: texts are mostly of ASCII, where a byte is a character.
+// What a byte tells before any character is decoded: texts are mostly of ASCII, where a byte is a character (rule 2).
 ghost use mathlib.Core.Path.{_≡_};
 ghost use Rattle.parser.specs.Ascii.{plain, plainAt, spaceAt, feedAt, isEnder, enderAt};
 

@@ -1,4 +1,4 @@
-// What a character does in a text (rules 1 and 2), by its number.
+// What a character does in a text (rule 1 and rule 2), by its number.
 ghost use mathlib.Core.Path.{_≡_};
 ghost use Prim.Native.Nat.{_<_};
 ghost use Rattle.meaning.specs.Characters.{inWord, inRun};

@@ -1,4 +1,4 @@
-// How many tokens a text has.
+// How many tokens a text has (rule 3).
 ghost use mathlib.Core.Path.{_≡_};
 ghost use Prim.Native.Nat.{_≤_};
 ghost use lib.ListN.{length};

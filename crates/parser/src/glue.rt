@@ -1,4 +1,4 @@
-// Which characters glue, by their numbers and by their bytes: said here alone.
+// Which characters glue, by their numbers and by their bytes: said here alone (rule 2, rule 8).
 // A character that `is_glue` knows and `glue_len` does not tell is decoded, and glues too: telling it by its bytes is only faster.
 // What glues is no space: `is_long_space` of pair.rt must not tell it.
 ghost use mathlib.Core.Path.{_≡_};

@@ -1,4 +1,4 @@
-// A word that is known where it starts, from a later offset on: its end need not be looked for again.
+// A word that is known where it starts, from a later offset on: its end need not be looked for again (rule 2, rule 8).
 ghost use mathlib.Core.Path.{_≡_};
 ghost use Prim.Native.Nat.{_≤_};
 ghost use lib.ListN.{length};

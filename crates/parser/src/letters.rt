@@ -1,4 +1,4 @@
-// Letters of one, two and three bytes, told by their bytes and skipped. None of them glues.
+// Letters of one, two and three bytes, told by their bytes and skipped. None of them glues (rule 2).
 ghost use Prim.Native.Nat.{_≤_, _<_};
 ghost use lib.ListN.{length};
 ghost use Rattle.parser.specs.Letters.{Letter, GoesOn, Lettered};

@@ -1,4 +1,4 @@
-// Tokens as the passes read them.
+// Tokens as the passes read them (rule 3).
 use meaning::counts::Chars;
 use meaning::counts::Offset;
 use meaning::tokens::TokenKind;

@@ -1,4 +1,4 @@
-// The token that stands at an offset of a text (rules 2 and 3).
+// The token that stands at an offset of a text (rule 2 and rule 3).
 ghost use mathlib.Core.Path.{_≡_};
 ghost use Prim.Native.Nat.{_+_, _≤_};
 ghost use lib.ListN.{length};

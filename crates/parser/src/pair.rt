@@ -1,4 +1,4 @@
-// One space and the word behind it, read together.
+// One space and the word behind it, read together (rule 2).
 use crate::ascii::ends_at;
 use crate::ascii::plain_at;
 use crate::ascii::space_at;

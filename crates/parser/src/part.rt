@@ -1,4 +1,4 @@
-// The first characters of a stretch of a text.
+// The first characters of a stretch of a text (rule 2).
 ghost use mathlib.Core.Path.{_≡_};
 ghost use Prim.Native.Nat.{_≤_};
 ghost use lib.ListN.{length};

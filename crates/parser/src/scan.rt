@@ -1,4 +1,4 @@
-// The longest word and the longest space run from an offset on, after their first character.
+// The longest word and the longest space run from an offset on, after their first character (rule 2).
 ghost use mathlib.Core.Path.{_≡_};
 ghost use Prim.Native.Nat.{_≤_};
 ghost use lib.ListN.{length};

@@ -1,4 +1,4 @@
-// The call that finds all tokens of a text.
+// The call that finds all tokens of a text (rule 3, refusal 3, refusal 4, refusal 8).
 ghost use mathlib.Core.Path.{_≡_};
 ghost use Prim.Native.Nat.{_≤_};
 ghost use lib.ListN.{length};
@@ -10,6 +10,7 @@ use checks::text::check_text;
 use meaning::answers::Tokenized;
 use meaning::refusals::Checked;
 use meaning::refusals::Refusal;
+use meaning::sizes::TOKEN_NUMBERS;
 
 // Refusal 8. There are no more tokens than bytes, so a buffer that has room for a token a byte needs no count first.
 fn fill(text: &[u8], buffer: &mut [u32]) -> Tokenized
@@ -17,7 +18,7 @@ fn fill(text: &[u8], buffer: &mut [u32]) -> Tokenized
     ensures { λ r. ⌜ r ≡ roomAnswer (now (text .entry)) (now (buffer .entry)) ⌝ }
     ensures { λ r. ⌜ now (buffer .exit) ≡ roomBuffer (now (text .entry)) (now (buffer .entry)) ⌝ }
 {
-    let room = buffer.len() / 4;
+    let room = buffer.len() / TOKEN_NUMBERS;
     if text.len() <= room {
         return Tokenized::Tokens(write_tokens(text, buffer) as u64);
     }
@@ -28,7 +29,7 @@ fn fill(text: &[u8], buffer: &mut [u32]) -> Tokenized
     Tokenized::Tokens(write_tokens(text, buffer) as u64)
 }
 
-// Refusals 3, 4 and 8 in this order, of which none writes anything; else each token's four numbers.
+// Refusal 3, refusal 4 and refusal 8 in this order, of which none writes anything; else each token's four numbers.
 pub fn tokenize(text: &[u8], buffer: &mut [u32]) -> Tokenized
     ensures { λ r. ⌜ r ≡ tokensAnswer (now (text .entry)) (now (buffer .entry)) ⌝ }
     ensures { λ r. ⌜ now (buffer .exit) ≡ tokensBuffer (now (text .entry)) (now (buffer .entry)) ⌝ }

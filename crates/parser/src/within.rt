@@ -1,4 +1,4 @@
-// The word at a position, if it has no more characters than a line has room for: told by its bytes, or known.
+// The word at a position, if it has no more characters than a line has room for: told by its bytes, or known (rule 2).
 use crate::ascii::ends_at;
 use crate::ascii::plain_at;
 use crate::glue::glue_len;

@@ -1,15 +1,16 @@
-// The tokens of a text, written to a buffer as four numbers each.
+// The tokens of a text, written to a buffer as four numbers each (rule 3).
 ghost use mathlib.Core.Path.{_≡_};
 ghost use Prim.Native.Nat.{_+_, _*_, _≤_};
 ghost use lib.ListN.{length};
 ghost use lib.Seq.{sets};
 ghost use Rattle.meaning.specs.Tokens.{tokens};
-ghost use Rattle.meaning.specs.Table.{tokenNumber};
+ghost use Rattle.meaning.specs.Table.{tokenNumbers, tokenNumber};
 ghost use Rattle.parser.specs.Lexing.{charsFrom};
 ghost use Rattle.parser.specs.Writing.{numbersOf, numbersFrom};
 use crate::lexeme::Lexed;
 use crate::lexeme::Lexeme;
 use crate::lexer::token_at;
+use meaning::sizes::TOKEN_NUMBERS;
 use meaning::tokens::TokenKind;
 
 fn kind_number(kind: TokenKind) -> u32
@@ -39,7 +40,7 @@ fn put_token(buffer: &mut [u32], place: usize, start: u32, lexeme: Lexeme)
 
 // All tokens of a text, to a buffer that has room for them. How many there are.
 pub fn write_tokens(text: &[u8], buffer: &mut [u32]) -> usize
-    requires { ⌜ (length (now text) ≤ 65535) × (4 * length (tokens (charsFrom (now text) 0)) ≤ length (now buffer)) ⌝ }
+    requires { ⌜ (length (now text) ≤ 65535) × (tokenNumbers * length (tokens (charsFrom (now text) 0)) ≤ length (now buffer)) ⌝ }
     ensures { λ r. ⌜ r ≡ length (tokens (charsFrom (now (text .entry)) 0)) ⌝ }
     ensures { λ r. ⌜ now (buffer .exit) ≡ sets (now (buffer .entry)) 0 (numbersFrom (now (text .entry)) 0) ⌝ }
 {
@@ -48,7 +49,7 @@ pub fn write_tokens(text: &[u8], buffer: &mut [u32]) -> usize
     loop {
         match token_at(text, at) {
             Lexed::Token(lexeme) => {
-                put_token(buffer, 4 * n, at as u32, lexeme);
+                put_token(buffer, TOKEN_NUMBERS * n, at as u32, lexeme);
                 n += 1;
                 at = lexeme.end.0 as usize;
             }

@@ -1,4 +1,4 @@
-// The lines of a text, one after the other: counted, and written to a table.
+// The lines of a text, one after the other: counted, and written to a table (rule 10).
 use crate::stand::at_start;
 use crate::stand::lay_row;
 use meaning::settings::Settings;

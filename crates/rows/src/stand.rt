@@ -1,4 +1,4 @@
-// The one step that every loop over lines takes: the line where it stands is laid, and it stands on the next.
+// The one step that every loop over lines takes: the line where it stands is laid, and it stands on the next (rule 10).
 use line::line::lay_line;
 use meaning::counts::Offset;
 use meaning::line::Entry;

@@ -1,4 +1,4 @@
-// A line that ends with nothing left of a run (rules 8 and 9).
+// A line that ends with nothing left of a run (rule 8 and rule 9).
 use crate::step::Ended;
 use crate::step::Resumed;
 use meaning::counts::Chars;

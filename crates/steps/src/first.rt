@@ -1,5 +1,6 @@
-// What a line begins with (rule 9): the rest that it resumes, or a token, which may be known. A word that is cut over many lines is
+// What a line begins with: the rest that it resumes, or a token, which may be known. A word that is cut over many lines is
 // looked through once.
+// Rule 8, rule 9.
 use crate::step::Resumed;
 use meaning::counts::Chars;
 use meaning::counts::Offset;

@@ -1,4 +1,4 @@
-// What a soft hyphen does to a line (rules 7 and 8).
+// What a soft hyphen does to a line (rule 7 and rule 8).
 use crate::cursor::fits;
 use crate::ending::ends_before;
 use crate::line_iter::next_word_width;

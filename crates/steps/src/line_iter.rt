@@ -1,4 +1,4 @@
-// The two looks ahead: the next word's width, and whether the next word fits (rules 8 and 12).
+// The two looks ahead: the next word's width, and whether the next word fits (rule 8 and rule 12).
 use crate::cursor::advanced;
 use crate::cursor::fits;
 use crate::cursor::tab_width;

@@ -1,4 +1,4 @@
-// What a look ahead answers, and what is known of one before it is taken (rules 8 and 12).
+// What a look ahead answers, and what is known of one before it is taken (rule 8 and rule 12).
 use meaning::counts::Offset;
 use meaning::cursor::NextWord;
 

@@ -1,4 +1,4 @@
-// Where a pass starts, and where it stands after white space (rules 4, 5, 6 and 8).
+// Where a pass starts, and where it stands after white space (rule 4, rule 5, rule 6 and rule 8).
 use crate::cursor::advanced;
 use crate::space_config::spaces_after;
 use meaning::counts::Pixels;

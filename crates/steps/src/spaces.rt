@@ -1,4 +1,4 @@
-// What a space run does to a line (rules 5, 8 and 9).
+// What a space run does to a line (rule 5, rule 8 and rule 9).
 use crate::cursor::fits;
 use crate::cursor::room;
 use crate::ending::nothing_left;

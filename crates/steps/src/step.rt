@@ -1,4 +1,4 @@
-// What a token does to a line, and how a pass ends (rules 8 and 9).
+// What a token does to a line, and how a pass ends (rule 8 and rule 9).
 use meaning::counts::Chars;
 use meaning::counts::Offset;
 use meaning::cursor::Place;

@@ -1,4 +1,4 @@
-// What a tab does to a line (rules 4 and 8).
+// What a tab does to a line (rule 4 and rule 8).
 use crate::cursor::fits;
 use crate::cursor::room;
 use crate::cursor::tab_width;

@@ -1,4 +1,4 @@
-// What one token does to a line (rules 7 to 9).
+// What one token does to a line (rule 7, rule 8 and rule 9).
 use crate::ending::ends_before;
 use crate::hyphens::on_break;
 use crate::look::Foreseen;

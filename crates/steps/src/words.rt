@@ -1,4 +1,4 @@
-// What a word does to a line (rules 7 and 8).
+// What a word does to a line (rule 7 and rule 8).
 use crate::cursor::advanced;
 use crate::cursor::fits;
 use crate::cursor::room;

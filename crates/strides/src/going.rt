@@ -1,4 +1,4 @@
-// Where a pass stands between two tokens, and what waits there for the next line.
+// Where a pass stands between two tokens, and what waits there for the next line (rule 8).
 use meaning::counts::Offset;
 use meaning::counts::Pixels;
 use meaning::cursor::LineCursor;

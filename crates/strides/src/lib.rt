@@ -1,4 +1,4 @@
-// A space and a word at once: what measuring and drawing share, so that most words take no step of their own (rules 7 and 8).
+// A space and a word at once: what measuring and drawing share, so that most words take no step of their own (rule 7 and rule 8).
 pub mod first;
 pub mod going;
 pub mod next;

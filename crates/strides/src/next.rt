@@ -1,5 +1,5 @@
 // One space and the word behind it, decided once for measuring and for drawing: both are taken if both fit, else the word waits
-// for the next line. It stands for rules 7 and 8 of the two tokens (`NextLaws.taken-onward`, `Waits`), and saves the steps of
+// for the next line. It stands for rule 7 and rule 8 of the two tokens (`NextLaws.taken-onward`, `Waits`), and saves the steps of
 // both, and the look ahead of the space, which would read the word a second time.
 use crate::going::Waiting;
 use crate::going::strode;

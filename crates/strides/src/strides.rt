@@ -1,5 +1,6 @@
 // Words that fit, measured in strides of a space and a word: how far a pass comes so is decided in next.rt and first.rt, and what
 // is left of the pass from there is the whole pass (`Strides.Onward`).
+// Rule 8.
 use crate::first::First;
 use crate::first::first_taken;
 use crate::going::Going;

@@ -1,4 +1,4 @@
-// A line's end before a word that waits behind one space. It stands for rules 7 and 8 of the two tokens (`WaitLaws.waits-ends`), and
+// A line's end before a word that waits behind one space. It stands for rule 7 and rule 8 of the two tokens (`WaitLaws.waits-ends`), and
 // saves the steps of both, and the look ahead of the space.
 use crate::going::Going;
 use meaning::counts::Chars;

@@ -1,4 +1,4 @@
--- Refusals 3, 5 and 6 of an edit and a table, without the edited text.
+-- Refusal 3, refusal 5 and refusal 6 of an edit and a table, without the edited text.
 -- Assumes nothing.
 use Prim.Native.Nat.{ℕ, _+_, _-_}
 use mathlib.Core.Path.{_≡_, refl}

@@ -1,4 +1,5 @@
 // The first line that an edit affects, with all that can be refused of the edit and the table alone.
+// Refusal 3, refusal 5, refusal 6, laying again.
 use crate::edited::Whole;
 use crate::edited::edited_whole;
 use crate::well_formed::look_over;
@@ -13,7 +14,7 @@ ghost use mathlib.Core.Path.{_≡_};
 ghost use Rattle.meaning.specs.Calls.{affectedAnswer};
 ghost use Rattle.table.specs.EditAlone.{checkPlace};
 
-// Refusals 3 and 6, of an edit of a text of so many bytes.
+// Refusal 3 and refusal 6, of an edit of a text of so many bytes.
 fn check_place(bytes: Offset, edit: Edit) -> Checked
     ensures { λ r. ⌜ r ≡ checkPlace (bytes .0) edit ⌝ }
 {
@@ -23,7 +24,7 @@ fn check_place(bytes: Offset, edit: Edit) -> Checked
     }
 }
 
-// The first line that an edit affects; refusals 3, 5 and 6.
+// The first line that an edit affects; refusal 3, refusal 5 and refusal 6.
 pub fn first_affected(table: &[u32], lines: usize, edit: Edit) -> Affected
     ensures { λ r. ⌜ r ≡ affectedAnswer (now (table .entry)) lines edit ⌝ }
 {

@@ -1,4 +1,5 @@
 // An edit of a text of so many bytes: how long the text is then, and where an offset behind the edit comes to stand.
+// Refusal 3, refusal 6, laying again.
 use basis::numbers::less_wide;
 use meaning::counts::Offset;
 use meaning::edit::Edit;

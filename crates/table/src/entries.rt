@@ -1,4 +1,4 @@
-// The numbers of one line, read from a table and written to it.
+// The numbers of one line, read from a table and written to it (rule 12).
 use meaning::counts::Chars;
 use meaning::counts::Offset;
 use meaning::counts::Pixels;

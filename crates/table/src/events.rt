@@ -1,4 +1,4 @@
-// The numbers of one event, written to a buffer.
+// The numbers of one event, written to a buffer (rule 13).
 use meaning::line::Event;
 use meaning::line::EventKind;
 use meaning::sizes::EVENT_NUMBERS;

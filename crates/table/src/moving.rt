@@ -1,4 +1,4 @@
-// The old lines that follow after an edit, moved within their table.
+// The old lines that follow after an edit, moved within their table (laying again).
 use crate::edited::moved_number;
 use crate::entries::read_entry;
 use crate::entries::write_entry;

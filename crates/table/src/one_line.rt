@@ -1,4 +1,4 @@
-// Whether the numbers of one line are good behind those of the line before it.
+// Whether the numbers of one line are good behind those of the line before it (refusal 5).
 use meaning::counts::Offset;
 use meaning::line::Entry;
 ghost use Prim.Native.Nat.{_≤_};

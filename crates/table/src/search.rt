@@ -1,4 +1,4 @@
-// The search for the first line that an edit affects.
+// The search for the first line that an edit affects (laying again).
 use meaning::counts::Offset;
 use meaning::sizes::ENTRY_NUMBERS;
 use meaning::sizes::REACH;

@@ -1,4 +1,4 @@
-// Good lines that are not the last, skipped in one loop over plain numbers.
+// Good lines that are not the last, skipped in one loop over plain numbers (refusal 5).
 use crate::one_line::ending_good;
 use crate::one_line::rest_stands;
 use crate::one_line::start_fits;

@@ -1,5 +1,6 @@
 -- UTF-8 as it is read: the sequence at the front of a list of bytes, and the characters of a text, one after the other. After
 -- Tables 3-6 and 3-7 of the Unicode Standard.
+-- Refusal 4.
 -- Assumes nothing.
 use mathlib.Core.List.{List, [], _∷_}
 use Prim.Native.Nat.{ℕ, zero, suc, pred, _+_, _*_, _%_}

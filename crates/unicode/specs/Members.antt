@@ -1,4 +1,4 @@
--- The test of membership says what it should.
+-- The test of membership says what it should (rule 1).
 -- Assumes nothing.
 use mathlib.Core.Path.{_≡_, refl, sym, subst, _∙_}
 use mathlib.Core.Logic.{_↔_}

@@ -1,4 +1,4 @@
--- Positions in UTF-8: where characters begin, by the characters and by the bytes, and how many there are.
+-- Positions in UTF-8: where characters begin, by the characters and by the bytes, and how many there are (refusal 6).
 -- Assumes nothing.
 use mathlib.Core.Bool.{Bool, true, false, not}
 use mathlib.Core.List.{List, [], _∷_}

@@ -1,4 +1,4 @@
--- The longest prefix of a list of bytes that is UTF-8: `validPrefix` is its length, and `decodeAll` its characters.
+-- The longest prefix of a list of bytes that is UTF-8: `validPrefix` is its length, and `decodeAll` its characters (refusal 4).
 -- Assumes nothing.
 use mathlib.Core.Path.{_≡_, sym, ap, _∙_, subst}
 use mathlib.Core.Logic.{_↔_}

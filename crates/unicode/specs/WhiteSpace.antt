@@ -1,4 +1,4 @@
--- White space, a property of code points in the Unicode Character Database.
+-- White space, a property of code points in the Unicode Character Database (rule 1).
 -- Assumes nothing.
 use mathlib.Core.Bool.{Bool, false, _||_}
 use mathlib.Core.List.{List, [], _∷_}

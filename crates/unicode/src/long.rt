@@ -1,4 +1,5 @@
 // Letters of two and three bytes that are told without putting their numbers together. Not every letter of so many bytes is told.
+// Refusal 4, rule 2.
 ghost use mathlib.Core.Path.{_≡_};
 ghost use mathlib.Core.Bool.{true};
 ghost use Prim.Native.Nat.{_<_};

@@ -1,4 +1,4 @@
-// One sequence of bytes: which scalar value it stands for.
+// One sequence of bytes: which scalar value it stands for (refusal 4).
 ghost use mathlib.Core.Path.{_≡_};
 ghost use mathlib.Core.List.{[], _∷_};
 ghost use Rattle.basis.specs.Order.{within};

@@ -1,4 +1,4 @@
-// A text of bytes: how much of it is UTF-8, where its characters begin, and how many there are.
+// A text of bytes: how much of it is UTF-8, where its characters begin, and how many there are (refusal 4, refusal 6).
 ghost use Prim.Native.Nat.{_≤_, _<_};
 ghost use mathlib.Core.Path.{_≡_};
 ghost use mathlib.Core.Bool.{true};

@@ -1,4 +1,4 @@
-// The property White_Space of the Unicode Standard (PropList.txt).
+// The property White_Space of the Unicode Standard (PropList.txt) (rule 1).
 ghost use mathlib.Core.Path.{_≡_};
 ghost use Prim.Native.Nat.{_≤_};
 ghost use Rattle.unicode.specs.WhiteSpace.{isWhite};

@@ -1,4 +1,4 @@
--- `again::checking::ends_fit` meets its contract.
+-- `again::checking::ends_fit` meets its contract (refusal 1, refusal 2, refusal 3, refusal 4, refusal 5, refusal 6).
 -- Assumes nothing.
 use mathlib.Core.Path.{_∙_}
 use mathlib.Core.Bool.{_&&_}

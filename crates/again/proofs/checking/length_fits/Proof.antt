@@ -1,4 +1,4 @@
--- `again::checking::length_fits` meets its contract.
+-- `again::checking::length_fits` meets its contract (refusal 1, refusal 2, refusal 3, refusal 4, refusal 5, refusal 6).
 -- Assumes nothing.
 use mathlib.Core.Path.{sym, ap, _∙_}
 use lib.Dec.{eqb}

@@ -1,4 +1,4 @@
--- `again::meeting::meets_line` meets its contract.
+-- `again::meeting::meets_line` meets its contract (laying again).
 -- Assumes nothing.
 use mathlib.Core.Bool.{_&&_}
 use lib.Dec.{leb, eqb}

@@ -1,4 +1,4 @@
--- `again::meeting::moved_end` meets its contract.
+-- `again::meeting::moved_end` meets its contract (laying again).
 -- Assumes nothing.
 use mathlib.Core.Path.{_∙_}
 use Rattle.again.proofs.MeetLaws.{end-none, end-moved}

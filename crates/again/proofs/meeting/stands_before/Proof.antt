@@ -1,4 +1,4 @@
--- `again::meeting::stands_before` meets its contract.
+-- `again::meeting::stands_before` meets its contract (laying again).
 -- Assumes nothing.
 use mathlib.Core.Bool.{_||_}
 use lib.Dec.{ltb}

@@ -1,4 +1,4 @@
--- `again::relay::lay_again` meets its contract.
+-- `again::relay::lay_again` meets its contract (refusal 8, laying again).
 -- Assumes nothing.
 use mathlib.Core.Path.{sym, _∙_}
 use borrow.Author.Needs.{needs}

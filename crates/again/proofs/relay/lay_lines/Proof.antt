@@ -1,4 +1,4 @@
--- `again::relay::lay_lines` meets its contract.
+-- `again::relay::lay_lines` meets its contract (refusal 8, laying again).
 -- Assumes nothing.
 use Rattle.again.specs.Relaying.{Sought, kept-within, counts-low, no-room, movable, write-ready, relaid-whole}
 use native.Mathlib.Omega.{arith}

@@ -1,4 +1,4 @@
--- `again::rest::chars_before` meets its contract.
+-- `again::rest::chars_before` meets its contract (refusal 5).
 -- Assumes nothing.
 use lib.Seq.{length-take-le}
 use mathlib.Core.Path.{sym, _∙_}

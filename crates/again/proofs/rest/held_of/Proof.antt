@@ -1,4 +1,4 @@
--- `again::rest::held_of` meets its contract.
+-- `again::rest::held_of` meets its contract (refusal 5).
 -- Assumes nothing.
 use mathlib.Core.Path.{sym, _∙_}
 use native.Mathlib.Omega.{arith}

@@ -1,4 +1,4 @@
--- `again::rest::rest_fits` meets its contract.
+-- `again::rest::rest_fits` meets its contract (refusal 5).
 -- Assumes nothing.
 use mathlib.Core.Path.{sym, _∙_}
 use borrow.Author.Tests.{not-true, not-false}

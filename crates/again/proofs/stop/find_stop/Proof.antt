@@ -1,4 +1,4 @@
--- `again::stop::find_stop` meets its contract.
+-- `again::stop::find_stop` meets its contract (laying again).
 -- Assumes nothing.
 use Prim.Native.Nat.{_-_}
 use native.Mathlib.Omega.{arith}

@@ -1,4 +1,4 @@
--- `again::stop::meets_first` meets its contract.
+-- `again::stop::meets_first` meets its contract (laying again).
 -- Assumes nothing.
 use mathlib.Core.Path.{_∙_}
 use Rattle.again.proofs.SkipLaws.{met-none, met-line}

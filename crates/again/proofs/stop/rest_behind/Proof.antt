@@ -1,4 +1,4 @@
--- `again::stop::rest_behind` meets its contract.
+-- `again::stop::rest_behind` meets its contract (laying again).
 -- Assumes nothing.
 use native.Mathlib.Omega.{arith}
 use Rattle.again.specs.Behind.{restBehind}

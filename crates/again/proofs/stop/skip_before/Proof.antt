@@ -1,4 +1,4 @@
--- `again::stop::skip_before` meets its contract.
+-- `again::stop::skip_before` meets its contract (laying again).
 -- Assumes nothing.
 use Prim.Native.Nat.{_+_, _-_, _≤_}
 use mathlib.Core.Path.{_≡_, sym, _∙_}

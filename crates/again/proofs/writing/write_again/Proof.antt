@@ -1,4 +1,4 @@
--- `again::writing::write_again` meets its contract.
+-- `again::writing::write_again` meets its contract (laying again).
 -- Assumes nothing.
 use Prim.Native.Nat.{_-_}
 use native.Mathlib.Omega.{arith}

@@ -1,4 +1,4 @@
--- `checks::settings::check_settings` meets its contract.
+-- `checks::settings::check_settings` meets its contract (refusal 1, refusal 2).
 -- Assumes nothing.
 use mathlib.Core.Bool.{true}
 use mathlib.Core.Path.{_≡_, sym, _∙_}

@@ -1,4 +1,4 @@
--- `checks::settings::in_range` meets its contract.
+-- `checks::settings::in_range` meets its contract (refusal 1, refusal 2).
 -- Assumes nothing.
 use borrow.Author.Needs.{needs}
 use mathlib.Core.Bool.{_&&_}

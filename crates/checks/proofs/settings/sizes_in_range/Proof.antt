@@ -1,4 +1,4 @@
--- `checks::settings::sizes_in_range` meets its contract.
+-- `checks::settings::sizes_in_range` meets its contract (refusal 1, refusal 2).
 -- Assumes nothing.
 use mathlib.Core.Path.{refl}
 use Rattle.meaning.specs.Settings.{sizesInRange}

@@ -1,4 +1,4 @@
--- `checks::settings::top_in_range` meets its contract.
+-- `checks::settings::top_in_range` meets its contract (refusal 1, refusal 2).
 -- Assumes nothing.
 use mir.Val.{SFits}
 use mir.Syntax.{w32}

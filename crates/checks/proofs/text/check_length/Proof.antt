@@ -1,4 +1,4 @@
--- `checks::text::check_length` meets its contract.
+-- `checks::text::check_length` meets its contract (refusal 3, refusal 4).
 -- Assumes nothing.
 use borrow.Author.Needs.{needs}
 use Rattle.checks.specs.TextLaws.{length-long, length-fits}

@@ -1,4 +1,4 @@
--- `checks::text::check_text` meets its contract.
+-- `checks::text::check_text` meets its contract (refusal 3, refusal 4).
 -- Assumes nothing.
 use mathlib.Core.Path.{_≡_, sym, _∙_}
 use native.Mathlib.Omega.{arith}

@@ -1,4 +1,4 @@
--- `drawing::grown::growth` meets its contract.
+-- `drawing::grown::growth` meets its contract (rule 10, rule 13).
 -- Assumes nothing.
 use mathlib.Core.Path.{sym, ap}
 use Rattle.drawing.specs.TokenDrawn.{grownBy}

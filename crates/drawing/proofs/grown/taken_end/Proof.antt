@@ -1,4 +1,4 @@
--- `drawing::grown::taken_end` meets its contract.
+-- `drawing::grown::taken_end` meets its contract (rule 10, rule 13).
 -- Assumes nothing.
 use mathlib.Core.Path.{sym, ap}
 use Rattle.drawing.specs.TokenDrawn.{takenEnd}

@@ -1,4 +1,4 @@
--- `drawing::inked::inked_at` meets its contract.
+-- `drawing::inked::inked_at` meets its contract (rule 8, rule 13).
 -- Assumes nothing.
 use borrow.Author.Needs.{needs}
 use Rattle.drawing.specs.DrawingOn.{inkedAt}

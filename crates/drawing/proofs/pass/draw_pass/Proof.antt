@@ -1,4 +1,4 @@
--- `drawing::pass::draw_pass` meets its contract.
+-- `drawing::pass::draw_pass` meets its contract (rule 8, rule 9, rule 13).
 -- Assumes nothing.
 use Prim.Native.Nat.{_-_}
 use mathlib.Core.Path.{_≡_, refl, sym, _∙_}

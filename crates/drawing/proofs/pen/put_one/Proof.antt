@@ -1,4 +1,4 @@
--- `drawing::pen::put_one` meets its contract.
+-- `drawing::pen::put_one` meets its contract (rule 13).
 -- Assumes nothing.
 use mathlib.Core.Path.{ap}
 use mathlib.Core.List.{List}

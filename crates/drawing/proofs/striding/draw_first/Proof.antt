@@ -1,4 +1,4 @@
--- `drawing::striding::draw_first` meets its contract.
+-- `drawing::striding::draw_first` meets its contract (rule 8, rule 13).
 -- Assumes nothing.
 use mathlib.Core.Path.{subst}
 use native.Mathlib.Omega.{arith}

@@ -1,4 +1,4 @@
--- `drawing::striding::draw_on` meets its contract.
+-- `drawing::striding::draw_on` meets its contract (rule 8, rule 13).
 -- Assumes nothing.
 use Rattle.drawing.proofs.OnwardEvents.{drew-none, strode-to, pen-rest, strode-rest}
 use borrow.Author.Needs.{needs}

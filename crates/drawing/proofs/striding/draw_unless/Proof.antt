@@ -1,4 +1,4 @@
--- `drawing::striding::draw_unless` meets its contract.
+-- `drawing::striding::draw_unless` meets its contract (rule 8, rule 13).
 -- Assumes nothing.
 use Rattle.strides.specs.GoesLaws.{nothing-foreseen}
 use Rattle.drawing.proofs.OnwardEvents.{stays-foreseen, drew-none, strode-to}

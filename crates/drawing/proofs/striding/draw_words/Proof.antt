@@ -1,4 +1,4 @@
--- `drawing::striding::draw_words` meets its contract.
+-- `drawing::striding::draw_words` meets its contract (rule 8, rule 13).
 -- Assumes nothing.
 use mathlib.Core.Path.{_≡_, refl, subst, _∙_}
 use mathlib.Core.Bool.{false}

@@ -1,4 +1,4 @@
--- `drawing::taken::draw_scanned` meets its contract.
+-- `drawing::taken::draw_scanned` meets its contract (rule 8, rule 13).
 -- Assumes nothing.
 use Prim.Native.Nat.{_*_, _≤_}
 use mathlib.Core.Path.{ap, _∙_}

@@ -1,4 +1,4 @@
--- `drawing::taken::draw_taken` meets its contract.
+-- `drawing::taken::draw_taken` meets its contract (rule 8, rule 13).
 -- Assumes nothing.
 use borrow.Author.Needs.{needs}
 use Rattle.drawing.proofs.TakenEvents.{taken-put, taken-word, taken-room, taken-drew}

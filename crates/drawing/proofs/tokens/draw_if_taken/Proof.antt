@@ -1,4 +1,4 @@
--- `drawing::tokens::draw_if_taken` meets its contract.
+-- `drawing::tokens::draw_if_taken` meets its contract (rule 8, rule 9, rule 13).
 -- Assumes nothing.
 use Prim.Native.Nat.{ℕ, _/_, _≤_}
 use mathlib.Core.Path.{_≡_, sym, ap, _∙_}

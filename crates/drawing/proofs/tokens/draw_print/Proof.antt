@@ -1,4 +1,4 @@
--- `drawing::tokens::draw_print` meets its contract.
+-- `drawing::tokens::draw_print` meets its contract (rule 8, rule 9, rule 13).
 -- Assumes nothing.
 use mathlib.Core.Path.{_∙_}
 use Rattle.drawing.specs.Sheet.{sheet}

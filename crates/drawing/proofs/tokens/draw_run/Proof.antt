@@ -1,4 +1,4 @@
--- `drawing::tokens::draw_run` meets its contract.
+-- `drawing::tokens::draw_run` meets its contract (rule 8, rule 9, rule 13).
 -- Assumes nothing.
 use mathlib.Core.Path.{_∙_}
 use native.Mathlib.Omega.{arith}

@@ -1,4 +1,4 @@
--- `drawing::tokens::draw_tab` meets its contract.
+-- `drawing::tokens::draw_tab` meets its contract (rule 8, rule 9, rule 13).
 -- Assumes nothing.
 use mathlib.Core.Path.{sym, _∙_}
 use native.Mathlib.Omega.{arith}

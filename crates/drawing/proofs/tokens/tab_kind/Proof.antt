@@ -1,4 +1,4 @@
--- `drawing::tokens::tab_kind` meets its contract.
+-- `drawing::tokens::tab_kind` meets its contract (rule 8, rule 9, rule 13).
 -- Assumes nothing.
 use Rattle.basis.specs.Choice.{pick}
 use Rattle.drawing.proofs.tokens.tab_kind.Statement.{statement}

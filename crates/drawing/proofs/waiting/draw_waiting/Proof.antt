@@ -1,4 +1,4 @@
--- `drawing::waiting::draw_waiting` meets its contract.
+-- `drawing::waiting::draw_waiting` meets its contract (rule 8, rule 13).
 -- Assumes nothing.
 use mathlib.Core.Path.{_≡_, sym, ap, _∙_}
 use native.Mathlib.Omega.{arith}

@@ -1,4 +1,4 @@
--- `drawing::words::add_char` meets its contract.
+-- `drawing::words::add_char` meets its contract (rule 8, rule 13).
 -- Assumes nothing.
 use mathlib.Core.Path.{sym, _∙_}
 use Rattle.drawing.proofs.StretchLaws.{pass-glues, pass-grows}

@@ -1,4 +1,4 @@
--- `drawing::words::close_stretch` meets its contract.
+-- `drawing::words::close_stretch` meets its contract (rule 8, rule 13).
 -- Assumes nothing.
 use mathlib.Core.Path.{_∙_}
 use native.Mathlib.Omega.{arith}

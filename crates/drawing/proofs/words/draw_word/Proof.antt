@@ -1,4 +1,4 @@
--- `drawing::words::draw_word` meets its contract.
+-- `drawing::words::draw_word` meets its contract (rule 8, rule 13).
 -- Assumes nothing.
 use mathlib.Core.Path.{_≡_, refl, sym, ap, _∙_}
 use lib.ListN.{length, take}

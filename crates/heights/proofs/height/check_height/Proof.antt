@@ -1,4 +1,4 @@
--- `heights::height::check_height` meets its contract.
+-- `heights::height::check_height` meets its contract (rule 11).
 -- Assumes nothing.
 use mathlib.Core.Path.{sym, _∙_}
 use borrow.Author.Needs.{needs}

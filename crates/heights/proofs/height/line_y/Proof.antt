@@ -1,4 +1,4 @@
--- `heights::height::line_y` meets its contract.
+-- `heights::height::line_y` meets its contract (rule 11).
 -- Assumes nothing.
 use mathlib.Core.Path.{_≡_, sym, ap, _∙_}
 use borrow.Author.Needs.{needs}

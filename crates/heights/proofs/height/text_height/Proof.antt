@@ -1,4 +1,4 @@
--- `heights::height::text_height` meets its contract.
+-- `heights::height::text_height` meets its contract (rule 11).
 -- Assumes nothing.
 use mathlib.Core.Path.{_≡_, sym, ap, _∙_}
 use borrow.Author.Needs.{needs}

@@ -1,4 +1,4 @@
--- `heights::spacing::added_before` meets its contract.
+-- `heights::spacing::added_before` meets its contract (rule 11).
 -- Assumes nothing.
 use Prim.Native.Nat.{_+_, _-_, _≤_}
 use mathlib.Core.Path.{_≡_}

@@ -1,4 +1,4 @@
--- `heights::spacing::end_adds` meets its contract.
+-- `heights::spacing::end_adds` meets its contract (rule 11).
 -- Assumes nothing.
 use borrow.Author.Needs.{needs}
 use Rattle.heights.proofs.Adding.{end-new, end-break, end-other}

@@ -1,4 +1,4 @@
--- `heights::spacing::not_counted` meets its contract.
+-- `heights::spacing::not_counted` meets its contract (rule 11).
 -- Assumes nothing.
 use borrow.Author.Needs.{needs}
 use Rattle.heights.proofs.Adding.{left-few, left-ending, left-start, left-out}

@@ -1,4 +1,4 @@
--- `heights::vertical::offset_of` meets its contract.
+-- `heights::vertical::offset_of` meets its contract (rule 11).
 -- Assumes nothing.
 use mathlib.Core.Path.{_∙_}
 use native.Mathlib.Omega.{arith}

@@ -1,4 +1,4 @@
--- `heights::vertical::shown_at` meets its contract.
+-- `heights::vertical::shown_at` meets its contract (rule 11).
 -- Assumes nothing.
 use mathlib.Core.Path.{sym, _∙_}
 use borrow.Author.Needs.{needs}

@@ -1,4 +1,4 @@
--- `heights::vertical::shows` meets its contract.
+-- `heights::vertical::shows` meets its contract (rule 11).
 -- Assumes nothing.
 use borrow.Author.Needs.{needs}
 use Rattle.heights.proofs.Upright.{bottom-fits, lowest-fits, shows-is}

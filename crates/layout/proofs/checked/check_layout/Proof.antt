@@ -1,4 +1,4 @@
--- `layout::checked::check_layout` meets its contract.
+-- `layout::checked::check_layout` meets its contract (refusal 1, refusal 2, refusal 3, refusal 4, refusal 8).
 -- Assumes nothing.
 use mathlib.Core.Path.{sym, _∙_}
 use Rattle.rows.specs.GoodInput.{text-ready}

@@ -1,4 +1,4 @@
--- `layout::checked::check_lines` meets its contract.
+-- `layout::checked::check_lines` meets its contract (refusal 1, refusal 2, refusal 3, refusal 4, refusal 8).
 -- Assumes nothing.
 use mathlib.Core.Path.{ap, _∙_}
 use native.Mathlib.Omega.{arith}

@@ -1,4 +1,4 @@
--- `layout::checked::check_room` meets its contract.
+-- `layout::checked::check_room` meets its contract (refusal 1, refusal 2, refusal 3, refusal 4, refusal 8).
 -- Assumes nothing.
 use native.Mathlib.Omega.{arith}
 use Rattle.layout.specs.Checking.{has-room, has-no-room}

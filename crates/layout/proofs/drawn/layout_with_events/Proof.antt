@@ -1,4 +1,4 @@
--- `layout::drawn::layout_with_events` meets its contract.
+-- `layout::drawn::layout_with_events` meets its contract (rule 10, rule 13, refusal 1, refusal 2, refusal 3, refusal 4, refusal 8).
 -- Assumes nothing.
 use mathlib.Core.Path.{sym, _∙_}
 use Rattle.layout.specs.Checking.{good-ready, good-room}

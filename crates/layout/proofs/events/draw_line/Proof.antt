@@ -1,4 +1,4 @@
--- `layout::events::draw_line` meets its contract.
+-- `layout::events::draw_line` meets its contract (rule 10, rule 13).
 -- Assumes nothing.
 use Prim.Native.Nat.{ℕ, _+_}
 use mathlib.Core.Path.{ap, _∙_}

@@ -1,4 +1,5 @@
 -- `layout::events::draw_lines` meets its contract. The invariant: what is put when the events that are left are put stays the same.
+-- Rule 10, rule 13.
 -- Assumes nothing.
 use Prim.Native.Nat.{_-_}
 use native.Mathlib.Omega.{arith}

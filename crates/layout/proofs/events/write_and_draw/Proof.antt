@@ -1,4 +1,5 @@
 -- `layout::events::write_and_draw` meets its contract. The invariants are those of `write_lines` and of `draw_lines`, side by side.
+-- Rule 10, rule 13.
 -- Assumes nothing.
 use Prim.Native.Nat.{_-_}
 use native.Mathlib.Omega.{arith}

@@ -1,4 +1,4 @@
--- `line::alignment::place_line` meets its contract.
+-- `line::alignment::place_line` meets its contract (rule 6).
 -- Assumes nothing.
 use mathlib.Core.Path.{sym, _∙_}
 use native.Mathlib.Omega.{arith}

@@ -1,4 +1,4 @@
--- `line::alignment::plain_spaces` meets its contract.
+-- `line::alignment::plain_spaces` meets its contract (rule 6).
 -- Assumes nothing.
 use Rattle.meaning.specs.Alignment.{plainSpaces}
 use mathlib.Core.Path.{refl}

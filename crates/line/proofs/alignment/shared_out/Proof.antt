@@ -1,4 +1,4 @@
--- `line::alignment::shared_out` meets its contract.
+-- `line::alignment::shared_out` meets its contract (rule 6).
 -- Assumes nothing.
 use Rattle.steps.specs.FineLaws.{times-bound}
 use Prim.Native.Nat.{_*_, _≤_}

@@ -1,4 +1,4 @@
--- `line::alignment::stays_plain` meets its contract.
+-- `line::alignment::stays_plain` meets its contract (rule 6).
 -- Assumes nothing.
 use borrow.Author.Needs.{needs}
 use Rattle.line.proofs.alignment.stays_plain.Statement.{statement}

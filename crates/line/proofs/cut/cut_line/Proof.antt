@@ -1,4 +1,4 @@
--- `line::cut::cut_line` meets its contract.
+-- `line::cut::cut_line` meets its contract (rule 8).
 -- Assumes nothing.
 use borrow.Author.Needs.{needs}
 use Rattle.steps.specs.Knowing.{known-stands}

@@ -1,4 +1,4 @@
--- `line::cut::cut_part` meets its contract.
+-- `line::cut::cut_part` meets its contract (rule 8).
 -- Assumes nothing.
 use mathlib.Core.Path.{refl}
 use native.Mathlib.Omega.{arith}

@@ -1,4 +1,4 @@
--- `line::entry::entry_at` meets its contract.
+-- `line::entry::entry_at` meets its contract (rule 12).
 -- Assumes nothing.
 use Rattle.line.specs.Laying.{laidAt}
 use borrow.Author.Needs.{needs}

@@ -1,4 +1,4 @@
--- `line::entry::rest_in` meets its contract.
+-- `line::entry::rest_in` meets its contract (rule 12).
 -- Assumes nothing.
 use Rattle.line.specs.Laying.{restIn}
 use Rattle.basis.specs.Choice.{pick}

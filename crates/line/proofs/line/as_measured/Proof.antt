@@ -1,4 +1,4 @@
--- `line::line::as_measured` meets its contract.
+-- `line::line::as_measured` meets its contract (rule 10).
 -- Assumes nothing.
 use Rattle.line.specs.Laying.{asMeasured}
 use Rattle.basis.specs.Order.{tests}

@@ -1,4 +1,4 @@
--- `line::line::laid_alike` meets its contract.
+-- `line::line::laid_alike` meets its contract (rule 10).
 -- Assumes nothing.
 use borrow.Author.Needs.{needs}
 use Rattle.line.proofs.line.laid_alike.Statement.{statement}

@@ -1,4 +1,4 @@
--- `line::line::laid_at` meets its contract.
+-- `line::line::laid_at` meets its contract (rule 10).
 -- Assumes nothing.
 use Rattle.line.specs.Laying.{laidAt}
 use borrow.Author.Needs.{needs}

@@ -1,4 +1,4 @@
--- `line::line::lay_line` meets its contract.
+-- `line::line::lay_line` meets its contract (rule 10).
 -- Assumes nothing.
 use mathlib.Core.Path.{subst}
 use borrow.Author.Needs.{needs}

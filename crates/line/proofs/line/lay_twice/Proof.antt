@@ -1,4 +1,4 @@
--- `line::line::lay_twice` meets its contract.
+-- `line::line::lay_twice` meets its contract (rule 10).
 -- Assumes nothing.
 use Rattle.line.proofs.LayLaws.{plain-ready, few-spaces, placed-ready, laid-twice, laid-once}
 use Rattle.line.specs.Laying.{LineReady}

@@ -1,4 +1,4 @@
--- `line::line::pass_over` meets its contract.
+-- `line::line::pass_over` meets its contract (rule 10).
 -- Assumes nothing.
 use Rattle.line.proofs.LayLaws.{start-ready, passes}
 use borrow.Author.Needs.{needs}

@@ -1,4 +1,4 @@
--- `line::line::placed_by` meets its contract.
+-- `line::line::placed_by` meets its contract (rule 10).
 -- Assumes nothing.
 use Rattle.line.specs.Laying.{placedBy}
 use borrow.Author.Needs.{needs}

@@ -1,4 +1,4 @@
--- `line::line::placed_plainly` meets its contract.
+-- `line::line::placed_plainly` meets its contract (rule 10).
 -- Assumes nothing.
 use borrow.Author.Needs.{needs}
 use Rattle.line.proofs.line.placed_plainly.Statement.{statement}

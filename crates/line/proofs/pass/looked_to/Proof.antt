@@ -1,4 +1,4 @@
--- `line::pass::looked_to` meets its contract.
+-- `line::pass::looked_to` meets its contract (rule 8, rule 9, rule 12).
 -- Assumes nothing.
 use Rattle.steps.specs.Unrolled as unrolled
 use borrow.Author.Needs.{needs}

@@ -1,4 +1,4 @@
--- `line::pass::run_pass` meets its contract.
+-- `line::pass::run_pass` meets its contract (rule 8, rule 9, rule 12).
 -- Assumes nothing.
 use Prim.Native.Nat.{_-_, max}
 use mathlib.Core.Path.{_≡_, sym, ap, _∙_}

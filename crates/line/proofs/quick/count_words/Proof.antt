@@ -1,4 +1,4 @@
--- `line::quick::count_words` meets its contract.
+-- `line::quick::count_words` meets its contract (rule 8, rule 10).
 -- Assumes nothing.
 use mathlib.Core.Path.{refl}
 use Prim.Native.Nat.{_-_, _/_, _≤_}

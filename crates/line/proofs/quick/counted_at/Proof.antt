@@ -1,4 +1,4 @@
--- `line::quick::counted_at` meets its contract.
+-- `line::quick::counted_at` meets its contract (rule 8, rule 10).
 -- Assumes nothing.
 use mathlib.Core.Path.{refl}
 use Rattle.line.specs.Quick.{countedAt}

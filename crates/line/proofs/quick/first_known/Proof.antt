@@ -1,4 +1,4 @@
--- `line::quick::first_known` meets its contract.
+-- `line::quick::first_known` meets its contract (rule 8, rule 10).
 -- Assumes nothing.
 use borrow.Author.Needs.{needs}
 use Rattle.parser.specs.WithinLaws.{first-kept}

@@ -1,4 +1,4 @@
--- `line::quick::measured_to` meets its contract.
+-- `line::quick::measured_to` meets its contract (rule 8, rule 10).
 -- Assumes nothing.
 use native.Mathlib.Omega.{arith}
 use borrow.Author.Needs.{needs}

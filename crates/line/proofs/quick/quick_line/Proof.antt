@@ -1,4 +1,4 @@
--- `line::quick::quick_line` meets its contract.
+-- `line::quick::quick_line` meets its contract (rule 8, rule 10).
 -- Assumes nothing.
 use mathlib.Core.Path.{sym, _∙_}
 use native.Mathlib.Omega.{arith}

@@ -1,4 +1,4 @@
--- `parser::ascii::ends_at` meets its contract.
+-- `parser::ascii::ends_at` meets its contract (rule 2).
 -- Assumes nothing.
 use mathlib.Core.Path.{_∙_}
 use borrow.Author.Needs.{needs}

@@ -1,4 +1,4 @@
--- `parser::ascii::plain_at` meets its contract.
+-- `parser::ascii::plain_at` meets its contract (rule 2).
 -- Assumes nothing.
 use mathlib.Core.Path.{_∙_, sym}
 use native.Mathlib.Omega.{arith}

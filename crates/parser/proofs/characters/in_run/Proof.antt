@@ -1,4 +1,4 @@
--- `parser::characters::in_run` meets its contract.
+-- `parser::characters::in_run` meets its contract (rule 1, rule 2).
 -- Assumes nothing.
 use mathlib.Core.Path.{sym, ap, _∙_}
 use borrow.Author.Needs.{needs}

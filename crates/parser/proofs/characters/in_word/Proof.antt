@@ -1,4 +1,4 @@
--- `parser::characters::in_word` meets its contract.
+-- `parser::characters::in_word` meets its contract (rule 1, rule 2).
 -- Assumes nothing.
 use mathlib.Core.Bool.{not}
 use mathlib.Core.Path.{sym, ap, _∙_}

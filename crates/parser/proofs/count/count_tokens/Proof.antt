@@ -1,4 +1,4 @@
--- `parser::count::count_tokens` meets its contract. The invariant: the tokens that are passed, and those of the rest, are all.
+-- `parser::count::count_tokens` meets its contract. The invariant: the tokens that are passed, and those of the rest, are all (rule 3).
 -- Assumes nothing.
 use mathlib.Core.Path.{_≡_, sym, ap, _∙_}
 use mathlib.Core.List.{List}

@@ -1,4 +1,4 @@
--- `parser::glue::glue_len` meets its contract.
+-- `parser::glue::glue_len` meets its contract (rule 2, rule 8).
 -- Assumes nothing.
 use native.Mathlib.Omega.{arith}
 use borrow.Author.Needs.{needs}

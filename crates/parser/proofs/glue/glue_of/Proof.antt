@@ -1,4 +1,4 @@
--- `parser::glue::glue_of` meets its contract.
+-- `parser::glue::glue_of` meets its contract (rule 2, rule 8).
 -- Assumes nothing.
 use mathlib.Core.Path.{sym, _∙_}
 use borrow.Author.Needs.{needs}

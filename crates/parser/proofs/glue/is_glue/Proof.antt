@@ -1,4 +1,4 @@
--- `parser::glue::is_glue` meets its contract.
+-- `parser::glue::is_glue` meets its contract (rule 2, rule 8).
 -- Assumes nothing.
 use mathlib.Core.Path.{refl}
 use Rattle.meaning.specs.Characters.{glue}

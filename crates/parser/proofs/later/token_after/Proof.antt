@@ -1,4 +1,5 @@
 -- `parser::later::token_after` meets its contract. The invariant: as long as the word goes on, what is left of it stands at the position.
+-- Rule 2, rule 8.
 -- Assumes nothing.
 use mathlib.Core.Path.{_≡_, sym, ap, _∙_}
 use mathlib.Core.List.{List}

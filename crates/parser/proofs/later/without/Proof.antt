@@ -1,4 +1,4 @@
--- `parser::later::without` meets its contract.
+-- `parser::later::without` meets its contract (rule 2, rule 8).
 -- Assumes nothing.
 use mathlib.Core.Path.{refl}
 use Rattle.parser.specs.Shorter.{less}

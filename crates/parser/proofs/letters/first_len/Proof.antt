@@ -1,4 +1,4 @@
--- `parser::letters::first_len` meets its contract.
+-- `parser::letters::first_len` meets its contract (rule 2).
 -- Assumes nothing.
 use mathlib.Core.Path.{sym, _∙_}
 use borrow.Author.Needs.{needs}

@@ -1,4 +1,4 @@
--- `parser::letters::skip_letters` meets its contract.
+-- `parser::letters::skip_letters` meets its contract (rule 2).
 -- Assumes nothing.
 use mathlib.Core.Path.{subst}
 use mathlib.Core.List.{List}

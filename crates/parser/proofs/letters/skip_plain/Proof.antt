@@ -1,4 +1,4 @@
--- `parser::letters::skip_plain` meets its contract.
+-- `parser::letters::skip_plain` meets its contract (rule 2).
 -- Assumes nothing.
 use mathlib.Core.Path.{_∙_, sym}
 use Prim.Native.Nat.{_-_, _≤_}

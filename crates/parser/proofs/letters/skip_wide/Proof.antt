@@ -1,4 +1,4 @@
--- `parser::letters::skip_wide` meets its contract.
+-- `parser::letters::skip_wide` meets its contract (rule 2).
 -- Assumes nothing.
 use Prim.Native.Nat.{_+_, _-_, _≤_}
 use native.Mathlib.Omega.{arith}

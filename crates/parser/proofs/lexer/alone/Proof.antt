@@ -1,4 +1,4 @@
--- `parser::lexer::alone` meets its contract.
+-- `parser::lexer::alone` meets its contract (rule 2, rule 3).
 -- Assumes nothing.
 use mathlib.Core.Path.{refl}
 use borrow.Author.Needs.{needs}

@@ -1,4 +1,4 @@
--- `parser::lexer::lexeme_at` meets its contract.
+-- `parser::lexer::lexeme_at` meets its contract (rule 2, rule 3).
 -- Assumes nothing.
 use mathlib.Core.Path.{sym, ap, _∙_}
 use Prim.Native.Nat.{ℕ, _+_}

@@ -1,4 +1,4 @@
--- `parser::lexer::token_at` meets its contract.
+-- `parser::lexer::token_at` meets its contract (rule 2, rule 3).
 -- Assumes nothing.
 use mathlib.Core.Path.{sym, ap, _∙_}
 use Prim.Native.Nat.{_+_, _≤_, _<_}

@@ -1,4 +1,4 @@
--- `parser::lexer::word` meets its contract.
+-- `parser::lexer::word` meets its contract (rule 2, rule 3).
 -- Assumes nothing.
 use mathlib.Core.Path.{refl}
 use Rattle.parser.specs.Scanning.{wordOf}

@@ -1,4 +1,4 @@
--- `parser::pair::long_space_at` meets its contract.
+-- `parser::pair::long_space_at` meets its contract (rule 2).
 -- Assumes nothing.
 use mathlib.Core.Path.{sym, _∙_}
 use mathlib.Core.Bool.{false≢true}

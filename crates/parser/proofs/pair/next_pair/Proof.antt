@@ -1,4 +1,4 @@
--- `parser::pair::next_pair` meets its contract.
+-- `parser::pair::next_pair` meets its contract (rule 2).
 -- Assumes nothing.
 use native.Mathlib.Omega.{arith}
 use borrow.Author.Needs.{needs}

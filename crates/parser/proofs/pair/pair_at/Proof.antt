@@ -1,4 +1,4 @@
--- `parser::pair::pair_at` meets its contract.
+-- `parser::pair::pair_at` meets its contract (rule 2).
 -- Assumes nothing.
 use Prim.Native.Nat.{_+_, _≤_}
 use native.Mathlib.Omega.{arith}

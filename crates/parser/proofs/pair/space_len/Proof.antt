@@ -1,4 +1,4 @@
--- `parser::pair::space_len` meets its contract.
+-- `parser::pair::space_len` meets its contract (rule 2).
 -- Assumes nothing.
 use mathlib.Core.Path.{sym, _∙_}
 use native.Mathlib.Omega.{arith}

@@ -1,4 +1,4 @@
--- `parser::pair::stride_end` meets its contract.
+-- `parser::pair::stride_end` meets its contract (rule 2).
 -- Assumes nothing.
 use mathlib.Core.Path.{_≡_, refl, sym, _∙_}
 use mathlib.Core.Bool.{true}

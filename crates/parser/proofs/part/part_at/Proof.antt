@@ -1,4 +1,4 @@
--- `parser::part::part_at` meets its contract.
+-- `parser::part::part_at` meets its contract (rule 2).
 -- Assumes nothing.
 use mathlib.Core.Path.{refl}
 use borrow.Author.Needs.{needs}

@@ -1,4 +1,5 @@
 -- `parser::part::part_of` meets its contract. The invariant: what is passed, and the first characters of the rest, make the part.
+-- Rule 2.
 -- Assumes nothing.
 use mathlib.Core.Path.{_≡_, refl, sym, ap, _∙_}
 use mathlib.Core.List.{List}

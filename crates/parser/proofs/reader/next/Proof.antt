@@ -1,4 +1,4 @@
--- `parser::reader::next` meets its contract.
+-- `parser::reader::next` meets its contract (rule 3).
 -- Assumes nothing.
 -- `reader::next` meets its contract: a walk of its MIR, by hand. The borrow is opened, the reader's text and offset go to `token_at`,
 -- what that finds goes to `end_of`, the offset that it answers is stored, and the borrow is closed at the reader that stands there.

@@ -1,4 +1,4 @@
--- `parser::reader::token_from` meets its contract.
+-- `parser::reader::token_from` meets its contract (rule 3).
 -- Assumes nothing.
 -- `reader::token_from` meets its contract: a walk of its MIR, by hand. A reader is made in a local, the local is lent to `next` for a
 -- lifetime that is made for the call and lies within the text's, and comes back once that lifetime has ended.

@@ -1,4 +1,4 @@
--- `parser::scan::ender_at` meets its contract.
+-- `parser::scan::ender_at` meets its contract (rule 2).
 -- Assumes nothing.
 use mathlib.Core.Path.{sym, ap, _∙_}
 use Rattle.unicode.specs.Walk.{isChar}

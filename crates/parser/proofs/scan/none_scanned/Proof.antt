@@ -1,4 +1,4 @@
--- `parser::scan::none_scanned` meets its contract.
+-- `parser::scan::none_scanned` meets its contract (rule 2).
 -- Assumes nothing.
 use mathlib.Core.Path.{refl}
 use Rattle.parser.specs.Scanning.{scannedAt}

@@ -1,4 +1,4 @@
--- `parser::scan::scan_word` meets its contract. The invariant: what is left to scan gives what the whole scan gives.
+-- `parser::scan::scan_word` meets its contract. The invariant: what is left to scan gives what the whole scan gives (rule 2).
 -- Assumes nothing.
 use mathlib.Core.Path.{_≡_, refl, sym, ap, _∙_}
 use mathlib.Core.List.{List}

@@ -1,4 +1,4 @@
--- `parser::scan::scanned_at` meets its contract.
+-- `parser::scan::scanned_at` meets its contract (rule 2).
 -- Assumes nothing.
 use mathlib.Core.Path.{refl}
 use borrow.Author.Needs.{needs}

@@ -1,4 +1,4 @@
--- `parser::tokenize::fill` meets its contract.
+-- `parser::tokenize::fill` meets its contract (rule 3, refusal 3, refusal 4, refusal 8).
 -- Assumes nothing.
 use mathlib.Core.Path.{_∙_}
 use native.Mathlib.Omega.{arith}

@@ -1,4 +1,4 @@
--- `parser::tokenize::tokenize` meets its contract.
+-- `parser::tokenize::tokenize` meets its contract (rule 3, refusal 3, refusal 4, refusal 8).
 -- Assumes nothing.
 use mathlib.Core.Path.{sym, _∙_}
 use borrow.Author.Needs.{needs}

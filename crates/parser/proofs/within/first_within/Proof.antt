@@ -1,4 +1,4 @@
--- `parser::within::first_within` meets its contract.
+-- `parser::within::first_within` meets its contract (rule 2).
 -- Assumes nothing.
 use mathlib.Core.Path.{sym, _∙_}
 use Prim.Native.Nat.{_-_, _≤_}

@@ -1,4 +1,4 @@
--- `parser::within::kept_within` meets its contract.
+-- `parser::within::kept_within` meets its contract (rule 2).
 -- Assumes nothing.
 use mathlib.Core.Path.{_∙_}
 use borrow.Author.Needs.{needs}

@@ -1,4 +1,4 @@
--- `parser::within::short_word` meets its contract.
+-- `parser::within::short_word` meets its contract (rule 2).
 -- Assumes nothing.
 use native.Mathlib.Omega.{arith}
 use borrow.Author.Needs.{needs}

@@ -1,4 +1,4 @@
--- `parser::within::skip_upto` meets its contract.
+-- `parser::within::skip_upto` meets its contract (rule 2).
 -- Assumes nothing.
 use Prim.Native.Nat.{_-_, _≤_}
 use native.Mathlib.Omega.{arith}

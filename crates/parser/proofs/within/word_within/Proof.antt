@@ -1,4 +1,4 @@
--- `parser::within::word_within` meets its contract.
+-- `parser::within::word_within` meets its contract (rule 2).
 -- Assumes nothing.
 use mathlib.Core.Path.{refl, sym, _∙_}
 use Prim.Native.Nat.{_<_}

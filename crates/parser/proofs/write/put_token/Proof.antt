@@ -1,4 +1,4 @@
--- `parser::write::put_token` meets its contract.
+-- `parser::write::put_token` meets its contract (rule 3).
 -- Assumes nothing.
 use native.Mathlib.Omega.{arith}
 use lib.ListN.{length-set}

@@ -1,5 +1,6 @@
 -- `parser::write::write_tokens` meets its contract. The invariant: with the numbers of the rest written, the buffer is as it is
 -- with all of them written.
+-- Rule 3.
 -- Assumes nothing.
 use mathlib.Core.Path.{_≡_, refl, sym, ap, _∙_}
 use mathlib.Core.List.{List}
@@ -8,6 +9,7 @@ use native.Mathlib.Omega.{arith}
 use lib.ListN.{length}
 use lib.Seq.{sets}
 use borrow.Author.Needs.{needs}
+use Rattle.meaning.specs.Table.{tokenNumbers}
 use Rattle.meaning.specs.Tokens.{tokens}
 use Rattle.parser.specs.Lexing.{charsFrom}
 use Rattle.parser.specs.Writing.{numbersFrom}
@@ -18,7 +20,7 @@ use Rattle.parser.proofs.write.write_tokens.Tie as tie
 
 abbrev Inv-loop : tie.InvT-loop
 Inv-loop text buffer₀ n₀ at₀ buffer n at =
-    (sets buffer (4 * n) (numbersFrom text at) ≡ sets buffer₀ 0 (numbersFrom text 0))
+    (sets buffer (tokenNumbers * n) (numbersFrom text at) ≡ sets buffer₀ 0 (numbersFrom text 0))
     × (length (tokens (charsFrom text 0)) ≡ n + length (tokens (charsFrom text at)))
     × (length buffer ≡ length buffer₀) × (n ≤ at) × (at ≤ length text)
 
@@ -76,7 +78,7 @@ loop-again c =
     let r = w .before .before in
     let l = r .before .before .before .before .loop in
     let s = step r in (
-      ap (λ (b : List ℕ). sets b (4 * (l .n + 1)) (numbersFrom (T r) (r .before .lexeme .given .0 .0 .end .0))) (w .put-token .ensures)
+      ap (λ (b : List ℕ). sets b (tokenNumbers * (l .n + 1)) (numbersFrom (T r) (r .before .lexeme .given .0 .0 .end .0))) (w .put-token .ensures)
           ∙ sets-more (T r) (l .buffer) (l .n) (I r) _ s ∙ l .inv .0,
       omega (arith, ap length (s .more)),
       omega (arith, w .put-token .kept .0),
@@ -96,7 +98,7 @@ returns c =
     let l = d .before .loop in
     let t = d .before .before .before .before .args .text .now in
     let z = next-none t (l .at) (sym (d .token-at .ensures) ∙ c .enum-told .given .1) in
-    (omega (arith, ap length z), sym (sets-none t (l .buffer) (4 * l .n) (l .at) z) ∙ l .inv .0)
+    (omega (arith, ap length z), sym (sets-none t (l .buffer) (tokenNumbers * l .n) (l .at) z) ∙ l .inv .0)
 
 pub write-tokens-spec : {M : Type 1} → statement M
 write-tokens-spec =

@@ -1,4 +1,5 @@
 -- `rows::lines::count_lines` meets its contract. The invariant: the lines passed and those that are left are all lines of the text.
+-- Rule 10.
 -- Assumes nothing.
 use Prim.Native.Nat.{_-_}
 use native.Mathlib.Omega.{arith}

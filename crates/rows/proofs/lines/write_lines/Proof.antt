@@ -1,4 +1,4 @@
--- `rows::lines::write_lines` meets its contract. The invariant: what is still to be written makes what was to be written.
+-- `rows::lines::write_lines` meets its contract. The invariant: what is still to be written makes what was to be written (rule 10).
 -- Assumes nothing.
 use Prim.Native.Nat.{_-_}
 use native.Mathlib.Omega.{arith}

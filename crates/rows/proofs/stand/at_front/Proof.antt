@@ -1,4 +1,4 @@
--- `rows::stand::at_front` meets its contract.
+-- `rows::stand::at_front` meets its contract (rule 10).
 -- Assumes nothing.
 use borrow.Author.Needs.{needs}
 use Rattle.rows.proofs.stand.at_front.Statement.{statement}

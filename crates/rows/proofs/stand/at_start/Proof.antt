@@ -1,4 +1,4 @@
--- `rows::stand::at_start` meets its contract.
+-- `rows::stand::at_start` meets its contract (rule 10).
 -- Assumes nothing.
 use mathlib.Core.Path.{ap, _∙_}
 use Rattle.rows.specs.Standing.{atFront}

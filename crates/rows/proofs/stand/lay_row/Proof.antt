@@ -1,4 +1,4 @@
--- `rows::stand::lay_row` meets its contract.
+-- `rows::stand::lay_row` meets its contract (rule 10).
 -- Assumes nothing.
 use Rattle.rows.specs.Standing.{row-is}
 use borrow.Author.Needs.{needs}

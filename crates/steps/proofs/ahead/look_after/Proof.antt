@@ -1,4 +1,4 @@
--- `steps::ahead::look_after` meets its contract.
+-- `steps::ahead::look_after` meets its contract (rule 8).
 -- Assumes nothing.
 use Rattle.steps.specs.KindLaws.{white-of}
 use borrow.Author.Needs.{needs}

@@ -1,4 +1,4 @@
--- `steps::ahead::look_beyond` meets its contract.
+-- `steps::ahead::look_beyond` meets its contract (rule 8).
 -- Assumes nothing.
 use mathlib.Core.Path.{_≡_, sym, _∙_}
 use mathlib.Core.Bool.{true}

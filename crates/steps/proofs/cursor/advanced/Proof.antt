@@ -1,4 +1,4 @@
--- `steps::cursor::advanced` meets its contract.
+-- `steps::cursor::advanced` meets its contract (rule 4).
 -- Assumes nothing.
 use Rattle.meaning.specs.Cursor.{advance}
 use borrow.Author.Needs.{needs}

@@ -1,4 +1,4 @@
--- `steps::cursor::fits` meets its contract.
+-- `steps::cursor::fits` meets its contract (rule 4).
 -- Assumes nothing.
 use lib.Dec.{leb}
 use mathlib.Core.Path.{ap}

@@ -1,4 +1,4 @@
--- `steps::cursor::move_by` meets its contract.
+-- `steps::cursor::move_by` meets its contract (rule 4).
 -- Assumes nothing.
 use Prim.Native.Nat.{suc}
 use mathlib.Core.Path.{_≡_}

@@ -1,4 +1,4 @@
--- `steps::cursor::room` meets its contract.
+-- `steps::cursor::room` meets its contract (rule 4).
 -- Assumes nothing.
 use mathlib.Core.Path.{refl}
 use Rattle.meaning.specs.Cursor.{roomOf}

@@ -1,4 +1,4 @@
--- `steps::cursor::tab_width` meets its contract.
+-- `steps::cursor::tab_width` meets its contract (rule 4).
 -- Assumes nothing.
 use Prim.Native.Nat.{_+_, _*_, _/_, _≤_}
 use native.Mathlib.Omega.{arith}

@@ -1,4 +1,4 @@
--- `steps::ending::ends_before` meets its contract.
+-- `steps::ending::ends_before` meets its contract (rule 8).
 -- Assumes nothing.
 use Rattle.steps.specs.Stopping.{endsBefore}
 use borrow.Author.Needs.{needs}

@@ -1,4 +1,4 @@
--- `steps::first::first_token` meets its contract.
+-- `steps::first::first_token` meets its contract (rule 8, rule 9).
 -- Assumes nothing.
 use mathlib.Core.Path.{ap, _∙_}
 use native.Mathlib.Omega.{arith}

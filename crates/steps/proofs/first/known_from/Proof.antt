@@ -1,4 +1,4 @@
--- `steps::first::known_from` meets its contract.
+-- `steps::first::known_from` meets its contract (rule 8, rule 9).
 -- Assumes nothing.
 use Rattle.steps.specs.Knowing.{nothing-fits, known-fits}
 use borrow.Author.Needs.{needs}

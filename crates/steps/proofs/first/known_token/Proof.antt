@@ -1,4 +1,4 @@
--- `steps::first::known_token` meets its contract.
+-- `steps::first::known_token` meets its contract (rule 8, rule 9).
 -- Assumes nothing.
 use borrow.Author.Needs.{needs}
 use Rattle.steps.proofs.first.known_token.Statement.{statement}

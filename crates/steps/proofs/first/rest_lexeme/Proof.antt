@@ -1,4 +1,4 @@
--- `steps::first::rest_lexeme` meets its contract.
+-- `steps::first::rest_lexeme` meets its contract (rule 8, rule 9).
 -- Assumes nothing.
 use mathlib.Core.Path.{refl}
 use Rattle.steps.specs.Pending.{restLexeme}

@@ -1,4 +1,4 @@
--- `steps::hyphens::hyphenated` meets its contract.
+-- `steps::hyphens::hyphenated` meets its contract (rule 7, rule 8).
 -- Assumes nothing.
 use mathlib.Core.Path.{sym, ap, _∙_}
 use Rattle.steps.specs.declared.step.Stepped.the-variants.{Stop}

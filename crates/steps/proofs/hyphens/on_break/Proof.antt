@@ -1,4 +1,4 @@
--- `steps::hyphens::on_break` meets its contract.
+-- `steps::hyphens::on_break` meets its contract (rule 7, rule 8).
 -- Assumes nothing.
 use mathlib.Core.Path.{sym, _∙_}
 use native.Mathlib.Omega.{arith}

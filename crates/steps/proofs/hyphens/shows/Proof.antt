@@ -1,4 +1,4 @@
--- `steps::hyphens::shows` meets its contract.
+-- `steps::hyphens::shows` meets its contract (rule 7, rule 8).
 -- Assumes nothing.
 use Rattle.steps.specs.HyphenLaws.{shows-not}
 use borrow.Author.Needs.{needs}

@@ -2,6 +2,7 @@
 -- goes to `move_by`, the position after what that answers is stored, and the borrow is closed at the cursor with that position.
 -- All that the proof knows of `move_by` and `position_after` is that each meets its contract. Cursors, moves and positions own
 -- nothing but facts, so what one owns is made anew wherever it is asked for.
+-- Rule 4.
 -- Assumes nothing.
 use mathlib.Core.Path.{_≡_, refl, ap, subst, _∙_}
 use Prim.Native.Nat.{ℕ, _<_, _^_}

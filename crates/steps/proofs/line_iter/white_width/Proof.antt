@@ -1,4 +1,4 @@
--- `steps::line_iter::white_width` meets its contract.
+-- `steps::line_iter::white_width` meets its contract (rule 8).
 -- Assumes nothing.
 use mathlib.Core.Path.{sym, _∙_}
 use borrow.Author.Needs.{needs}

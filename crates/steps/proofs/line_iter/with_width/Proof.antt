@@ -1,4 +1,4 @@
--- `steps::line_iter::with_width` meets its contract.
+-- `steps::line_iter::with_width` meets its contract (rule 8).
 -- Assumes nothing.
 use mathlib.Core.Path.{ap}
 use native.Mathlib.Omega.{arith}

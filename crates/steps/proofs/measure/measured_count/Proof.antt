@@ -1,4 +1,4 @@
--- `steps::measure::measured_count` meets its contract.
+-- `steps::measure::measured_count` meets its contract (rule 10).
 -- Assumes nothing.
 use Rattle.meaning.specs.Line.{measuredCount}
 use Rattle.basis.specs.Choice.{pick}

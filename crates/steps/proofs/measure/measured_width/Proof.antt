@@ -1,4 +1,4 @@
--- `steps::measure::measured_width` meets its contract.
+-- `steps::measure::measured_width` meets its contract (rule 10).
 -- Assumes nothing.
 use Rattle.meaning.specs.Line.{measuredWidth}
 use Rattle.basis.specs.Choice.{pick}

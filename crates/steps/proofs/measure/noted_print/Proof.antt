@@ -1,4 +1,4 @@
--- `steps::measure::noted_print` meets its contract.
+-- `steps::measure::noted_print` meets its contract (rule 10).
 -- Assumes nothing.
 use native.Mathlib.Nat.{add-zero}
 use borrow.Author.Needs.{needs}

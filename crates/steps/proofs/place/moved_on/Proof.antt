@@ -1,4 +1,4 @@
--- `steps::place::moved_on` meets its contract.
+-- `steps::place::moved_on` meets its contract (rule 8).
 -- Assumes nothing.
 use borrow.Author.Needs.{needs}
 use Rattle.steps.proofs.place.moved_on.Statement.{statement}

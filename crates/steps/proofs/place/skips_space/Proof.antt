@@ -1,4 +1,4 @@
--- `steps::place::skips_space` meets its contract.
+-- `steps::place::skips_space` meets its contract (rule 8).
 -- Assumes nothing.
 use Rattle.meaning.specs.LineIter.{skips}
 use Rattle.steps.proofs.place.skips_space.Statement.{statement}

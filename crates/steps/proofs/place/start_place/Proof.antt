@@ -1,4 +1,4 @@
--- `steps::place::start_place` meets its contract.
+-- `steps::place::start_place` meets its contract (rule 8).
 -- Assumes nothing.
 use Rattle.meaning.specs.Line.{startPlace}
 use mathlib.Core.Path.{refl}

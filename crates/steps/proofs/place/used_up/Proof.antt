@@ -1,4 +1,4 @@
--- `steps::place::used_up` meets its contract.
+-- `steps::place::used_up` meets its contract (rule 8).
 -- Assumes nothing.
 use borrow.Author.Needs.{needs}
 use Rattle.steps.proofs.place.used_up.Statement.{statement}

@@ -1,4 +1,4 @@
--- `steps::space_config::spaces_after` meets its contract.
+-- `steps::space_config::spaces_after` meets its contract (rule 5).
 -- Assumes nothing.
 use Prim.Native.Nat.{_-_}
 use mathlib.Core.Path.{_≡_, refl}

@@ -1,4 +1,4 @@
--- `steps::space_config::spaces_width` meets its contract.
+-- `steps::space_config::spaces_width` meets its contract (rule 5).
 -- Assumes nothing.
 use Prim.Native.Nat.{_*_, _≤_}
 use native.Mathlib.Omega.{arith}

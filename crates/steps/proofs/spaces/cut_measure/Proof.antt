@@ -1,4 +1,4 @@
--- `steps::spaces::cut_measure` meets its contract.
+-- `steps::spaces::cut_measure` meets its contract (rule 8, rule 9).
 -- Assumes nothing.
 use Rattle.steps.specs.RunLaws.{shown-wide, shown-thin}
 use mathlib.Core.Path.{_∙_}

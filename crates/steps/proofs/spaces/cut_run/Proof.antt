@@ -1,4 +1,4 @@
--- `steps::spaces::cut_run` meets its contract.
+-- `steps::spaces::cut_run` meets its contract (rule 8, rule 9).
 -- Assumes nothing.
 use Prim.Native.Nat.{_*_, _/_, _≤_}
 use Rattle.steps.specs.RunLaws.{cut-some, cut-single, cut-numbers, cut-fewer, cut-answer}

@@ -1,4 +1,4 @@
--- `steps::spaces::draws_space` meets its contract.
+-- `steps::spaces::draws_space` meets its contract (rule 8, rule 9).
 -- Assumes nothing.
 use Rattle.steps.specs.DrawLaws.{draws-front, draws-all, draws-some, draws-known}
 use borrow.Author.Needs.{needs}

@@ -1,4 +1,4 @@
--- `steps::spaces::held_rest` meets its contract.
+-- `steps::spaces::held_rest` meets its contract (rule 8, rule 9).
 -- Assumes nothing.
 use mathlib.Core.Path.{_∙_}
 use Rattle.steps.specs.RunLaws.{none-left, some-left}

@@ -1,4 +1,4 @@
--- `steps::spaces::on_space` meets its contract.
+-- `steps::spaces::on_space` meets its contract (rule 8, rule 9).
 -- Assumes nothing.
 use Rattle.steps.specs.RunLaws.{space-few, whole-ready, space-skipped, space-whole, space-cut}
 use Rattle.steps.specs.FineLaws.{fits-room}

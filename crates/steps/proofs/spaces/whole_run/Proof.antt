@@ -1,4 +1,4 @@
--- `steps::spaces::whole_run` meets its contract.
+-- `steps::spaces::whole_run` meets its contract (rule 8, rule 9).
 -- Assumes nothing.
 use Rattle.steps.specs.DrawLaws.{whole-drawn, whole-hidden}
 use borrow.Author.Needs.{needs}

@@ -1,4 +1,4 @@
--- `steps::tabs::on_tab` meets its contract.
+-- `steps::tabs::on_tab` meets its contract (rule 8).
 -- Assumes nothing.
 use Rattle.steps.specs.TabLaws.{tab-skipped, tab-fits, tab-beyond, tab-moved, tab-foresees}
 use Rattle.steps.specs.FineLaws.{fits-room}

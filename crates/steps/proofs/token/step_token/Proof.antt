@@ -1,4 +1,4 @@
--- `steps::token::step_token` meets its contract.
+-- `steps::token::step_token` meets its contract (rule 7, rule 8, rule 9).
 -- Assumes nothing.
 use mathlib.Core.Path.{ap, _∙_}
 use Rattle.steps.specs.declared.step.Stepped.the-variants.{Stop}

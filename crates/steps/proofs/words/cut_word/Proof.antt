@@ -1,4 +1,4 @@
--- `steps::words::cut_word` meets its contract.
+-- `steps::words::cut_word` meets its contract (rule 7, rule 8).
 -- Assumes nothing.
 use Prim.Native.Nat.{ℕ, _/_}
 use mathlib.Core.Path.{_≡_, ap, _∙_}

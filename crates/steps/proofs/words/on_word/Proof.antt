@@ -1,4 +1,4 @@
--- `steps::words::on_word` meets its contract.
+-- `steps::words::on_word` meets its contract (rule 7, rule 8).
 -- Assumes nothing.
 use Prim.Native.Nat.{_≤_}
 use mathlib.Core.Path.{sym, ap, _∙_}

@@ -1,4 +1,4 @@
--- `steps::words::word_measure` meets its contract.
+-- `steps::words::word_measure` meets its contract (rule 7, rule 8).
 -- Assumes nothing.
 use Prim.Native.Nat.{_-_, _*_, _≤_}
 use Rattle.steps.specs.WordLaws.{letters-small}

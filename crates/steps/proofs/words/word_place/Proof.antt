@@ -1,4 +1,4 @@
--- `steps::words::word_place` meets its contract.
+-- `steps::words::word_place` meets its contract (rule 7, rule 8).
 -- Assumes nothing.
 use mathlib.Core.Bool.{false}
 use Prim.Native.Nat.{_+_, _*_, _≤_}

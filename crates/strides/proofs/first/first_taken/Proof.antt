@@ -1,4 +1,4 @@
--- `strides::first::first_taken` meets its contract.
+-- `strides::first::first_taken` meets its contract (rule 8).
 -- Assumes nothing.
 use mathlib.Core.Path.{_≡_, refl, sym, _∙_}
 use mathlib.Core.Bool.{true}

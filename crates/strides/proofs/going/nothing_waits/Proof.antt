@@ -1,4 +1,4 @@
--- `strides::going::nothing_waits` meets its contract.
+-- `strides::going::nothing_waits` meets its contract (rule 8).
 -- Assumes nothing.
 use mathlib.Core.Path.{refl}
 use Rattle.strides.specs.Strides.{waitingAt}

@@ -1,4 +1,4 @@
--- `strides::going::stands_at` meets its contract.
+-- `strides::going::stands_at` meets its contract (rule 8).
 -- Assumes nothing.
 use mathlib.Core.Path.{refl}
 use borrow.Author.Needs.{needs}

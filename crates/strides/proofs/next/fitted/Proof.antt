@@ -1,4 +1,4 @@
--- `strides::next::fitted` meets its contract.
+-- `strides::next::fitted` meets its contract (rule 8).
 -- Assumes nothing.
 use Prim.Native.Nat.{_*_, _≤_}
 use native.Mathlib.Omega.{arith}

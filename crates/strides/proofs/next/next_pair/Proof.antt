@@ -1,4 +1,4 @@
--- `strides::next::next_pair` meets its contract.
+-- `strides::next::next_pair` meets its contract (rule 8).
 -- Assumes nothing.
 use mathlib.Core.Path.{sym, subst}
 use native.Mathlib.Omega.{arith}

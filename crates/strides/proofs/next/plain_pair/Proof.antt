@@ -1,4 +1,4 @@
--- `strides::next::plain_pair` meets its contract.
+-- `strides::next::plain_pair` meets its contract (rule 8).
 -- Assumes nothing.
 use mathlib.Core.Path.{refl}
 use native.Mathlib.Omega.{arith}

@@ -1,4 +1,4 @@
--- `strides::strides::first_word` meets its contract.
+-- `strides::strides::first_word` meets its contract (rule 8).
 -- Assumes nothing.
 use mathlib.Core.Path.{subst}
 use native.Mathlib.Omega.{arith}

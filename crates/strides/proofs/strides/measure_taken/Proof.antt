@@ -1,4 +1,4 @@
--- `strides::strides::measure_taken` meets its contract.
+-- `strides::strides::measure_taken` meets its contract (rule 8).
 -- Assumes nothing.
 use mathlib.Core.Path.{ap, _∙_}
 use native.Mathlib.Omega.{arith}

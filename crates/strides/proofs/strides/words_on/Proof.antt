@@ -1,4 +1,4 @@
--- `strides::strides::words_on` meets its contract.
+-- `strides::strides::words_on` meets its contract (rule 8).
 -- Assumes nothing.
 use mathlib.Core.Path.{_≡_, refl, sym, subst}
 use mathlib.Core.Bool.{false}

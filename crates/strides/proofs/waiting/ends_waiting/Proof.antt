@@ -1,4 +1,4 @@
--- `strides::waiting::ends_waiting` meets its contract.
+-- `strides::waiting::ends_waiting` meets its contract (rule 8).
 -- Assumes nothing.
 use mathlib.Core.Path.{_≡_, sym, ap, _∙_}
 use native.Mathlib.Omega.{arith}

@@ -1,4 +1,4 @@
--- `strides::waiting::trail_of` meets its contract.
+-- `strides::waiting::trail_of` meets its contract (rule 8).
 -- Assumes nothing.
 use mathlib.Core.Path.{sym, _∙_}
 use borrow.Author.Needs.{needs}

@@ -1,4 +1,4 @@
--- `table::affected::check_place` meets its contract.
+-- `table::affected::check_place` meets its contract (refusal 3, refusal 5, refusal 6, laying again).
 -- Assumes nothing.
 use mathlib.Core.Path.{sym, ap, _∙_}
 use borrow.Author.Needs.{needs}

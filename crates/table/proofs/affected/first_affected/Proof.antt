@@ -1,4 +1,4 @@
--- `table::affected::first_affected` meets its contract.
+-- `table::affected::first_affected` meets its contract (refusal 3, refusal 5, refusal 6, laying again).
 -- Assumes nothing.
 use Prim.Native.Nat.{ℕ}
 use mathlib.Core.Path.{sym, ap, _∙_}

@@ -1,4 +1,4 @@
--- `table::edited::edited_whole` meets its contract.
+-- `table::edited::edited_whole` meets its contract (refusal 3, refusal 6, laying again).
 -- Assumes nothing.
 use borrow.Author.Needs.{needs}
 use Rattle.table.proofs.EditLaws.{whole-backward, whole-past, whole-is}

@@ -1,4 +1,4 @@
--- `table::entries::read_entry` meets its contract.
+-- `table::entries::read_entry` meets its contract (rule 12).
 -- Assumes nothing.
 use Prim.Native.Nat.{_*_}
 use borrow.Author.Needs.{needs}

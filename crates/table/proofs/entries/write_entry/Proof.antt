@@ -1,4 +1,4 @@
--- `table::entries::write_entry` meets its contract.
+-- `table::entries::write_entry` meets its contract (rule 12).
 -- Assumes nothing.
 use Prim.Native.Nat.{_*_}
 use native.Mathlib.Omega.{arith}

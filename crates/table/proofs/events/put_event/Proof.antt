@@ -1,4 +1,4 @@
--- `table::events::put_event` meets its contract.
+-- `table::events::put_event` meets its contract (rule 13).
 -- Assumes nothing.
 use mathlib.Core.Path.{sym}
 use native.Mathlib.Omega.{arith}

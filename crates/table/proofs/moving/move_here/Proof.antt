@@ -1,4 +1,4 @@
--- `table::moving::move_here` meets its contract.
+-- `table::moving::move_here` meets its contract (laying again).
 -- Assumes nothing.
 use native.Mathlib.Omega.{arith}
 use borrow.Author.Needs.{needs}

@@ -1,4 +1,4 @@
--- `table::moving::move_line` meets its contract.
+-- `table::moving::move_line` meets its contract (laying again).
 -- Assumes nothing.
 use Prim.Native.Nat.{ℕ, _*_}
 use mathlib.Core.Path.{sym, subst, ap, _∙_}

@@ -1,4 +1,4 @@
--- `table::moving::move_lines` meets its contract.
+-- `table::moving::move_lines` meets its contract (laying again).
 -- Assumes nothing.
 use borrow.Author.Needs.{needs}
 use Rattle.table.proofs.moving.move_lines.Statement.{statement}

@@ -1,4 +1,4 @@
--- `table::moving::moved_entry` meets its contract.
+-- `table::moving::moved_entry` meets its contract (laying again).
 -- Assumes nothing.
 use borrow.Author.Needs.{needs}
 use Rattle.table.proofs.MovedParts.{entry-moved}

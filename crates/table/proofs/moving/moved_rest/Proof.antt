@@ -1,4 +1,4 @@
--- `table::moving::moved_rest` meets its contract.
+-- `table::moving::moved_rest` meets its contract (laying again).
 -- Assumes nothing.
 use native.Mathlib.Omega.{arith}
 use Rattle.table.proofs.MovedParts.{rest-stays, rest-moved}

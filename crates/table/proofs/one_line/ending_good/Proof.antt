@@ -1,4 +1,4 @@
--- `table::one_line::ending_good` meets its contract.
+-- `table::one_line::ending_good` meets its contract (refusal 5).
 -- Assumes nothing.
 use Rattle.table.specs.OneLine.{endingAt}
 use Rattle.table.proofs.one_line.ending_good.Statement.{statement}

@@ -1,4 +1,4 @@
--- `table::one_line::entry_good` meets its contract.
+-- `table::one_line::entry_good` meets its contract (refusal 5).
 -- Assumes nothing.
 use borrow.Author.Needs.{needs}
 use Rattle.table.proofs.Judging.{all-tests}

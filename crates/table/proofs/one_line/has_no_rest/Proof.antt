@@ -1,4 +1,4 @@
--- `table::one_line::has_no_rest` meets its contract.
+-- `table::one_line::has_no_rest` meets its contract (refusal 5).
 -- Assumes nothing.
 use mathlib.Core.Path.{refl}
 use Rattle.meaning.specs.WellFormed.{noRest}

@@ -1,4 +1,4 @@
--- `table::one_line::rest_stands` meets its contract.
+-- `table::one_line::rest_stands` meets its contract (refusal 5).
 -- Assumes nothing.
 use borrow.Author.Needs.{needs}
 use Rattle.table.proofs.Judging.{stands-none, stands-short, stands-tested}

@@ -1,4 +1,4 @@
--- `table::one_line::start_fits` meets its contract.
+-- `table::one_line::start_fits` meets its contract (refusal 5).
 -- Assumes nothing.
 use mathlib.Core.Path.{refl}
 use Rattle.table.specs.OneLine.{startFits}

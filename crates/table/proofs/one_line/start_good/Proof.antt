@@ -1,4 +1,4 @@
--- `table::one_line::start_good` meets its contract.
+-- `table::one_line::start_good` meets its contract (refusal 5).
 -- Assumes nothing.
 use mathlib.Core.Path.{_∙_}
 use borrow.Author.Needs.{needs}

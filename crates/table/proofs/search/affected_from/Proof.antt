@@ -1,4 +1,4 @@
--- `table::search::affected_from` meets its contract.
+-- `table::search::affected_from` meets its contract (laying again).
 -- Assumes nothing.
 use Prim.Native.Nat.{_+_, _-_, _≤_}
 use mathlib.Core.Path.{_≡_, refl}

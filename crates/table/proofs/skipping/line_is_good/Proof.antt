@@ -1,4 +1,4 @@
--- `table::skipping::line_is_good` meets its contract.
+-- `table::skipping::line_is_good` meets its contract (refusal 5).
 -- Assumes nothing.
 use Prim.Native.Nat.{_+_}
 use mathlib.Core.Path.{sym, ap, _∙_}

@@ -1,4 +1,4 @@
--- `table::skipping::skip_good` meets its contract.
+-- `table::skipping::skip_good` meets its contract (refusal 5).
 -- Assumes nothing.
 use Prim.Native.Nat.{_-_, _*_, _/_}
 use mathlib.Core.Path.{_≡_, subst}

@@ -1,4 +1,4 @@
--- `table::well_formed::check_on` meets its contract.
+-- `table::well_formed::check_on` meets its contract (refusal 5).
 -- Assumes nothing.
 use Prim.Native.Nat.{_-_, _*_, _≤_}
 use mathlib.Core.Path.{_≡_, refl, sym, _∙_}

@@ -1,4 +1,4 @@
--- `table::well_formed::check_table` meets its contract.
+-- `table::well_formed::check_table` meets its contract (refusal 5).
 -- Assumes nothing.
 use mathlib.Core.Path.{sym, _∙_}
 use borrow.Author.Needs.{needs}

@@ -1,4 +1,4 @@
--- `table::well_formed::last_reach` meets its contract.
+-- `table::well_formed::last_reach` meets its contract (refusal 5).
 -- Assumes nothing.
 use borrow.Author.Needs.{needs}
 use Rattle.table.proofs.LineByLine.{reach-none, reach-last}

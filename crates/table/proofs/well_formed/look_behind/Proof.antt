@@ -1,4 +1,4 @@
--- `table::well_formed::look_behind` meets its contract.
+-- `table::well_formed::look_behind` meets its contract (refusal 5).
 -- Assumes nothing.
 use mathlib.Core.Path.{_≡_, sym, _∙_}
 use native.Mathlib.Omega.{arith}

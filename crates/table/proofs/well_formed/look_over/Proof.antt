@@ -1,4 +1,4 @@
--- `table::well_formed::look_over` meets its contract.
+-- `table::well_formed::look_over` meets its contract (refusal 5).
 -- Assumes nothing.
 use mathlib.Core.Path.{sym, ap, _∙_}
 use native.Mathlib.Omega.{arith}

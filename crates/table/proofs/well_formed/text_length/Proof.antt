@@ -1,4 +1,4 @@
--- `table::well_formed::text_length` meets its contract.
+-- `table::well_formed::text_length` meets its contract (refusal 5).
 -- Assumes nothing.
 use native.Mathlib.Omega.{arith}
 use borrow.Author.Needs.{needs}

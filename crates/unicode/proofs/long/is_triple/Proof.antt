@@ -1,4 +1,4 @@
--- `unicode::long::is_triple` meets its contract.
+-- `unicode::long::is_triple` meets its contract (refusal 4, rule 2).
 -- Assumes nothing.
 use mathlib.Core.Path.{_≡_, sym, subst}
 use Prim.Native.Nat.{ℕ}

@@ -1,4 +1,4 @@
--- `unicode::long::long_len` meets its contract.
+-- `unicode::long::long_len` meets its contract (refusal 4, rule 2).
 -- Assumes nothing.
 use mathlib.Core.Path.{_≡_, sym, _∙_}
 use native.Mathlib.Omega.{arith}

@@ -1,4 +1,4 @@
--- `unicode::sequence::between` meets its contract.
+-- `unicode::sequence::between` meets its contract (refusal 4).
 -- Assumes nothing.
 use borrow.Author.Tests.{le-leb, lt-leb}
 use Rattle.unicode.proofs.sequence.between.Statement.{statement}

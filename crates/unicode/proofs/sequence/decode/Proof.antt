@@ -1,4 +1,5 @@
 -- `unicode::sequence::decode` meets its contract: by the length that the lead byte says, each answer is the law of that length.
+-- Refusal 4.
 -- Assumes nothing.
 use mathlib.Core.Path.{_∙_}
 use mathlib.Core.List.{List}

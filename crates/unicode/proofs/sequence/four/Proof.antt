@@ -1,4 +1,4 @@
--- `unicode::sequence::four` meets its contract.
+-- `unicode::sequence::four` meets its contract (refusal 4).
 -- Assumes nothing.
 use mathlib.Core.Path.{sym, _∙_}
 use native.Mathlib.Omega.{arith}

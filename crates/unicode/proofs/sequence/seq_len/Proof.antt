@@ -1,5 +1,6 @@
 -- `unicode::sequence::seq_len` meets its contract: what the code makes of the run of one bits is the length, at each of the 256
 -- bytes.
+-- Refusal 4.
 -- Assumes nothing.
 use mathlib.Core.Path.{_≡_, ap, sym, _∙_}
 use Prim.Native.Nat.{ℕ, _-_, _<_}

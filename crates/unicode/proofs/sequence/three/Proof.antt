@@ -1,4 +1,4 @@
--- `unicode::sequence::three` meets its contract.
+-- `unicode::sequence::three` meets its contract (refusal 4).
 -- Assumes nothing.
 use mathlib.Core.Path.{sym, _∙_}
 use mathlib.Core.Logic.{inl, inr, ⊎-elim}

@@ -1,4 +1,4 @@
--- `unicode::sequence::two` meets its contract.
+-- `unicode::sequence::two` meets its contract (refusal 4).
 -- Assumes nothing.
 use mathlib.Core.Path.{sym, _∙_}
 use borrow.Author.Needs.{needs}

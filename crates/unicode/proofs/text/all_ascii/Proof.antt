@@ -1,4 +1,4 @@
--- `unicode::text::all_ascii` meets its contract.
+-- `unicode::text::all_ascii` meets its contract (refusal 4, refusal 6).
 -- Assumes nothing.
 use Prim.Native.Nat.{_-_, _≤_}
 use mathlib.Core.Path.{_≡_}

@@ -1,4 +1,5 @@
 -- `unicode::text::count_chars` meets its contract. The invariant: what is counted, and what the rest counts, make the whole.
+-- Refusal 4, refusal 6.
 -- Assumes nothing.
 use mathlib.Core.Path.{_≡_, sym, _∙_}
 use mathlib.Core.List.{List}

@@ -1,4 +1,4 @@
--- `unicode::text::is_boundary` meets its contract.
+-- `unicode::text::is_boundary` meets its contract (refusal 4, refusal 6).
 -- Assumes nothing.
 use borrow.Author.Needs.{needs}
 use Rattle.unicode.proofs.Steps.{boundary-byte, boundary-end}

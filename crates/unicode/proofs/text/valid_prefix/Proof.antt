@@ -1,4 +1,5 @@
 -- `unicode::text::valid_prefix` meets its contract. The invariant: what is passed, and the valid prefix of the rest, make the whole.
+-- Refusal 4, refusal 6.
 -- Assumes nothing.
 use mathlib.Core.Path.{_≡_, sym, ap, _∙_}
 use mathlib.Core.List.{List}

@@ -1,4 +1,4 @@
--- `unicode::white_space::is_general` meets its contract.
+-- `unicode::white_space::is_general` meets its contract (rule 1).
 -- Assumes nothing.
 use mathlib.Core.Path.{sym}
 use Rattle.unicode.specs.Members.{general-white}

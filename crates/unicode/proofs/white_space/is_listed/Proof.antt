@@ -1,5 +1,6 @@
 -- `unicode::white_space::is_listed` meets its contract. The invariant: whether the number is in the table is whether it is in
 -- what the walk has left.
+-- Rule 1.
 -- Assumes nothing.
 use mathlib.Core.Path.{_≡_, refl, sym, _∙_}
 use Prim.Native.Nat.{_-_, _≤_}

@@ -1,4 +1,4 @@
--- `unicode::white_space::is_white_space` meets its contract.
+-- `unicode::white_space::is_white_space` meets its contract (rule 1).
 -- Assumes nothing.
 use mathlib.Core.Path.{_≡_, sym}
 use native.Mathlib.Omega.{arith}
