@@ -11,7 +11,7 @@ use lib.ListN.{length, drop, length-append}
 use Rattle.basis.specs.Choice.{pick, pick-under, by-test}
 use Rattle.unicode.specs.Decoding.{decodeAll}
 use Rattle.unicode.specs.Places.{boundary}
-use Rattle.meaning.specs.Checks.{refuseIf, firstOf, checkSettings, checkLength, checkUtf8, checkText}
+use Rattle.meaning.specs.Checks.{textLimit, refuseIf, firstOf, checkSettings, checkLength, checkUtf8, checkText}
 use Rattle.meaning.specs.Table.{entryNumbers, entryIn, entriesIn}
 use Rattle.meaning.specs.WellFormed.{textLength, checkTable}
 use Rattle.meaning.specs.Edit.{unaffected, affected, inOrder, newLength, checkWhole, restFits, checkRest, partFits, checkEdit}
@@ -150,11 +150,11 @@ unfolding checkText
 text-utf8 t e = both-good (checkLength (length t)) (checkUtf8 t) e .1
 
 module _ (part table : List ℕ) (lines : ℕ) (ed : Edit) where
-  pub lent-long : 65535 < length part → Refused (TextTooLong (length part)) ≡ checkLent part table lines ed
+  pub lent-long : textLimit < length part → Refused (TextTooLong (length part)) ≡ checkLent part table lines ed
   unfolding checkLent checkLength refuseIf firstOf pick
-  lent-long h = rw (lt-ltb 65535 (length part) h)
+  lent-long h = rw (lt-ltb textLimit (length part) h)
 
-  module _ (short : length part ≤ 65535) (c : Checked) (c-is : c ≡ checkTable lines table) where
+  module _ (short : length part ≤ textLimit) (c : Checked) (c-is : c ≡ checkTable lines table) where
     pub lent-whole : (r : Refusal) → checkWhole c (entriesIn lines table) ed ≡ Refused r → Refused r ≡ checkLent part table lines ed
     unfolding checkLent firstOf
     lent-whole r h = rw (length-good (length part) short, ← c-is, h)

@@ -12,7 +12,7 @@ use Rattle.basis.specs.Choice.{pick, by-test, and-true}
 use Rattle.basis.specs.Order.{by-le}
 use Rattle.unicode.specs.Decoding.{decodeAll}
 use Rattle.unicode.specs.Places.{boundary}
-use Rattle.meaning.specs.Checks.{firstOf, checkSettings, checkLength, checkUtf8}
+use Rattle.meaning.specs.Checks.{textLimit, firstOf, checkSettings, checkLength, checkUtf8}
 use Rattle.meaning.specs.Table.{entryNumbers, entryIn, entriesIn}
 use Rattle.meaning.specs.WellFormed.{textLength, nothing, line, checkTable}
 use Rattle.meaning.specs.Edit.{keptFrom, unaffected, affected, inOrder, newLength, checkWhole, restFits, partFits, again}
@@ -89,9 +89,9 @@ module _ (s : Settings) (part table : List ℕ) (lines : ℕ) (ed : Edit) (g : A
     pub is-affected : k < lines
     is-affected = by-le lines k (λ h. absurd (no-refusal _ (no-line table lines ed k k-is part h))) (λ h. h)
 
-    pub short-part : length part ≤ 65535
+    pub short-part : length part ≤ textLimit
     unfolding checkLength
-    short-part = ltb-false 65535 (length part) (refuse-good (ltb 65535 (length part)) (TextTooLong (length part)) (g .short))
+    short-part = ltb-false textLimit (length part) (refuse-good (ltb textLimit (length part)) (TextTooLong (length part)) (g .short))
 
     module _ (e : Entry) (e-is : e ≡ entryIn (drop (entryNumbers * k) table)) where
       pub rest-good : restFits e cs ≡ true
@@ -119,11 +119,11 @@ module _ (s : Settings) (part table : List ℕ) (lines : ℕ) (ed : Edit) (g : A
           (leb-true (ed .from .0) (ed .to .0) (b .0), leb-true (ed .to .0) (textLength old) (b .1))
 
       -- The edited whole is short.
-      whole-short : newLength old ed ≤ 65535
+      whole-short : newLength old ed ≤ textLimit
       unfolding checkWhole checkLength pick
       whole-short =
           let c = rw (g .table-is, in-order) at (g .whole) in
-          ltb-false 65535 (newLength old ed) (refuse-good (ltb 65535 (newLength old ed)) (TextTooLong (newLength old ed)) c)
+          ltb-false textLimit (newLength old ed) (refuse-good (ltb textLimit (newLength old ed)) (TextTooLong (newLength old ed)) c)
 
       pub few-inserted : ed .inserted .0 ≤ 131071
       unfolding newLength

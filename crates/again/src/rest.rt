@@ -14,7 +14,7 @@ ghost use mathlib.Core.Bool.{true};
 ghost use lib.ListN.{length};
 ghost use Rattle.unicode.specs.Decoding.{decodeAll};
 ghost use Rattle.unicode.specs.Places.{boundary};
-ghost use Rattle.meaning.specs.Checks.{checkUtf8};
+ghost use Rattle.meaning.specs.Checks.{textLimit, checkUtf8};
 ghost use Rattle.meaning.specs.Edit.{charsIn, restFits};
 ghost use Rattle.meaning.specs.declared.refusals.Checked.the-variants.{Good};
 ghost use Rattle.again.specs.HeldRest.{restEnd, resumedOf};
@@ -51,7 +51,7 @@ pub fn rest_fits(part: &[u8], e: Entry) -> bool
 
 // The rest of an entry that fits.
 pub fn held_of(part: &[u8], e: Entry) -> Resumed
-    requires { ⌜ (checkUtf8 (now part) ≡ Good) × (restFits e (decodeAll (now part)) ≡ true) × (length (now part) ≤ 65535) ⌝ }
+    requires { ⌜ (checkUtf8 (now part) ≡ Good) × (restFits e (decodeAll (now part)) ≡ true) × (length (now part) ≤ textLimit) ⌝ }
     ensures { λ r. ⌜ r ≡ resumedOf e (decodeAll (now (part .entry))) ⌝ }
 {
     if has_no_rest(e) {

@@ -6,6 +6,7 @@ use mathlib.Core.Path.{_≡_, refl, sym, ap, _∙_}
 use mathlib.Core.Bool.{true, false}
 use mathlib.Core.List.{List}
 use lib.ListN.{length, length-append}
+use Rattle.meaning.specs.Checks.{textLimit}
 use Rattle.meaning.specs.Line.{layLine, entryAt}
 use Rattle.meaning.specs.declared.settings.Settings.{Settings}
 use Rattle.meaning.specs.declared.line.Entry.{Entry}
@@ -41,7 +42,7 @@ draw-start s t ev₀ p h e =
     }
 
 -- A line that can be laid can be drawn.
-line-room : (s : Settings) (t : List ℕ) (p : Stand) (k : ℕ) (e : Entry) → LineReady s t (p .at .0) (p .rest) → k ≤ 65535
+line-room : (s : Settings) (t : List ℕ) (p : Stand) (k : ℕ) (e : Entry) → LineReady s t (p .at .0) (p .rest) → k ≤ textLimit
     → e ≡ lineAt s t p .entry → DrawRoom s (placeIn s e) t (p .at .0) (p .rest) (e .left .0) k
 unfolding placeIn lineFrom lineAtOf entryAt
 line-room s t p k e c h is =

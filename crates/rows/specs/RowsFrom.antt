@@ -8,6 +8,7 @@ use mathlib.Core.Bool.{true, false}
 use mathlib.Core.List.{List, [], _∷_, map}
 use lib.ListN.{length, take, drop, length-map}
 use Rattle.unicode.specs.Encoding.{size}
+use Rattle.meaning.specs.Checks.{textLimit}
 use Rattle.meaning.specs.Line.{Line, layLine, entryAt}
 use Rattle.meaning.specs.Layout.{Row, rowAt, unlessEnded, rowsBy, rows, entryOfRow}
 use Rattle.meaning.specs.Calls.{textRows, textEntries}
@@ -124,7 +125,7 @@ entry-here s t p x z =
 -- What the public call has checked.
 pub record TextReady (s : Settings) (t : List ℕ) : Type 0 where
   pub settings : FineSettings s
-  pub short : length t ≤ 65535
+  pub short : length t ≤ textLimit
 
 -- The entries of a text, and those from a stand on.
 unfoldable pub entriesOf : Settings → List ℕ → List Entry

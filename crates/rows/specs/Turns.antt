@@ -6,6 +6,7 @@ use mathlib.Core.Path.{_≡_, refl, sym, ap, _∙_}
 use mathlib.Core.Bool.{true, false}
 use mathlib.Core.List.{List, [], _∷_}
 use lib.ListN.{length}
+use Rattle.meaning.specs.Checks.{textLimit}
 use Rattle.meaning.specs.Table.{entryNumbers, ofEntry, ofAll, written}
 use Rattle.meaning.specs.declared.settings.Settings.{Settings}
 use Rattle.meaning.specs.declared.line.Entry.{Entry}
@@ -44,7 +45,7 @@ module _ (s : Settings) (t : List ℕ) (n : ℕ) (p : Stand) (c : Counted s t n 
   one-left = omega (arith, c .left, some-entries s t 0 p)
 
   -- No count of lines wraps.
-  pub count-low : n ≤ 65535
+  pub count-low : n ≤ textLimit
   count-low = omega (arith, one-left, few-entries s t, c .ready .line .short)
 
   module _ (x : LaidRow) (z : Step s t p x) where

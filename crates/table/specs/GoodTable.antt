@@ -9,6 +9,7 @@ use borrow.Author.Tests.{leb-true, eqb-true}
 use lib.Dec.{leb}
 use lib.ListN.{length}
 use Rattle.basis.specs.Order.{within, within-true}
+use Rattle.meaning.specs.Checks.{textLimit}
 use Rattle.meaning.specs.Table.{entryNumbers, capacityOf, entriesIn}
 use Rattle.meaning.specs.WellFormed.{lastReach, textLength, nothing, line, startGood, checkLines, checkEntries, checkTable}
 use Rattle.meaning.specs.declared.line.Entry.{Entry}
@@ -54,7 +55,7 @@ module _ (lines : ℕ) (t : List ℕ) (h : checkTable lines t ≡ Good) where
   pub table-reach : (1 ≤ lastReach old) × (lastReach old ≤ 65536)
   table-reach = within-true 1 65536 (lastReach old) (reached .0)
 
-  pub table-text : textLength old ≤ 65535
+  pub table-text : textLength old ≤ textLimit
   unfolding textLength
   table-text = omega (arith, table-reach)
 

@@ -11,6 +11,7 @@ use lib.Dec.{leb, ltb, eqb}
 use lib.ListN.{length, drop}
 use lib.Seq.{drop-nil, drop-drop}
 use Rattle.basis.specs.Choice.{and-true, by-either}
+use Rattle.meaning.specs.Checks.{textLimit}
 use Rattle.meaning.specs.Table.{entryNumbers, entryIn, entriesIn}
 use Rattle.meaning.specs.WellFormed.{lastReach, textLength, Before, nothing, line, startGood, noRest, restGood, checkLines, checkTable}
 use Rattle.meaning.specs.declared.edit.Edit.{Edit}
@@ -61,7 +62,7 @@ module _ (n : ℕ) (e : Entry) where
 
 -- ---- line after line
 
-module _ (n : ℕ) (ed : Edit) (short : n ≤ 65535) where
+module _ (n : ℕ) (ed : Edit) (short : n ≤ textLimit) where
   one : (k : ℕ) (b : Before) (e : Entry) (es : List Entry) → checkLines n k b (e ∷ es) ≡ Good → ed .to .0 ≤ e .start .0
       → e .start .0 ≤ e .reach .0
       → MovableEntry ed e

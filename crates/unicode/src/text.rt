@@ -26,8 +26,8 @@ fn all_ascii(text: &[u8], from: usize, to: usize) -> bool
     all
 }
 
-// Blocks of so many bytes below 80 are passed, while there are any.
-fn pass_blocks(text: &[u8], from: usize, block: usize) -> usize
+// Blocks of so many bytes below 80 are skipped, while there are any.
+fn skip_blocks(text: &[u8], from: usize, block: usize) -> usize
     requires { ⌜ (from ≤ length (now text)) × (0 < block) ⌝ }
     ensures { λ r. ⌜ Passed (now (text .entry)) from r ⌝ }
 {
@@ -46,13 +46,13 @@ fn pass_blocks(text: &[u8], from: usize, block: usize) -> usize
     at
 }
 
-// Bytes below 80 are passed, to the first that is none of them.
-fn pass_ascii(text: &[u8], from: usize) -> usize
+// Bytes below 80 are skipped, to the first that is none of them.
+fn skip_ascii(text: &[u8], from: usize) -> usize
     requires { ⌜ from ≤ length (now text) ⌝ }
     ensures { λ r. ⌜ Passed (now (text .entry)) from r ⌝ }
 {
-    let large = pass_blocks(text, from, 32);
-    let mut at = pass_blocks(text, large, 8);
+    let large = skip_blocks(text, from, 32);
+    let mut at = skip_blocks(text, large, 8);
     while at < text.len() {
         if 0x80 <= text[at] {
             return at;
@@ -62,8 +62,8 @@ fn pass_ascii(text: &[u8], from: usize) -> usize
     at
 }
 
-// Letters of three bytes that the fewest tests tell are passed.
-fn pass_wide(text: &[u8], from: usize) -> usize
+// Letters of three bytes that the fewest tests tell are skipped.
+fn skip_wide(text: &[u8], from: usize) -> usize
     requires { ⌜ from ≤ length (now text) ⌝ }
     ensures { λ r. ⌜ Passed (now (text .entry)) from r ⌝ }
 {
@@ -74,8 +74,8 @@ fn pass_wide(text: &[u8], from: usize) -> usize
     at
 }
 
-// All letters of two and three bytes that are told by their bytes alone are passed.
-fn pass_long(text: &[u8], from: usize) -> usize
+// All letters of two and three bytes that are told by their bytes alone are skipped.
+fn skip_long(text: &[u8], from: usize) -> usize
     requires { ⌜ from ≤ length (now text) ⌝ }
     ensures { λ r. ⌜ Passed (now (text .entry)) from r ⌝ }
 {
@@ -85,19 +85,19 @@ fn pass_long(text: &[u8], from: usize) -> usize
         if len == 0 {
             return at;
         }
-        at = pass_wide(text, at + len);
+        at = skip_wide(text, at + len);
     }
 }
 
-// Both kinds are passed, by turns.
-fn pass_common(text: &[u8], from: usize) -> usize
+// Both kinds are skipped, by turns.
+fn skip_common(text: &[u8], from: usize) -> usize
     requires { ⌜ from ≤ length (now text) ⌝ }
     ensures { λ r. ⌜ Passed (now (text .entry)) from r ⌝ }
 {
     let mut at = from;
     loop {
-        let ascii = pass_ascii(text, at);
-        at = pass_long(text, ascii);
+        let ascii = skip_ascii(text, at);
+        at = skip_long(text, ascii);
         if at == ascii {
             return at;
         }
@@ -108,11 +108,11 @@ fn pass_common(text: &[u8], from: usize) -> usize
 pub fn valid_prefix(text: &[u8]) -> usize
     ensures { λ r. ⌜ r ≡ validPrefix (now (text .entry)) ⌝ }
 {
-    let mut at = pass_common(text, 0);
+    let mut at = skip_common(text, 0);
     loop {
         match decode(text, at) {
             Decoded::Char { cp: _, len } => {
-                at = pass_common(text, at + len as usize);
+                at = skip_common(text, at + len as usize);
             }
             Decoded::Bad => {
                 return at;

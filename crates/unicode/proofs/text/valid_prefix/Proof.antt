@@ -20,11 +20,11 @@ Inv-loop text at₀ at = (validPrefix text ≡ at + validPrefix (drop at text)) 
 abbrev μ-loop : tie.MeasureT-loop
 μ-loop text at₀ at = length text - at
 
-pass-common-requires : tie.Need-pass-common-requires Inv-loop μ-loop
-pass-common-requires c κs = search needs
+skip-common-requires : tie.Need-skip-common-requires Inv-loop μ-loop
+skip-common-requires c κs = search needs
 
 loop-holds : tie.Need-loop-holds Inv-loop μ-loop
-loop-holds c = let p = c .pass-common .ensures in (omega (arith, p .prefix), p .inside)
+loop-holds c = let p = c .skip-common .ensures in (omega (arith, p .prefix), p .inside)
 
 decode-requires : tie.Need-decode-requires Inv-loop μ-loop
 decode-requires c κs = search needs
@@ -51,21 +51,21 @@ read c = sym (c .before .before .before .decode .ensures) ∙ c .before .len .gi
 room : (c : Read) → (1 ≤ N c) × (I c + N c ≤ length (S c))
 room c = decode-at-within (S c) (I c) _ (N c) (read c)
 
-cast-pass-common : tie.Need-cast-pass-common Inv-loop μ-loop
-cast-pass-common c = omega (arith, room c)
+cast-skip-common : tie.Need-cast-skip-common Inv-loop μ-loop
+cast-skip-common c = omega (arith, room c)
 
-add-pass-common : tie.Need-add-pass-common Inv-loop μ-loop
-add-pass-common c = omega (arith, room c)
+add-skip-common : tie.Need-add-skip-common Inv-loop μ-loop
+add-skip-common c = omega (arith, room c)
 
-pass-common-requires-2 : tie.Need-pass-common-requires-2 Inv-loop μ-loop
-pass-common-requires-2 c κs = omega (arith, room c)
+skip-common-requires-2 : tie.Need-skip-common-requires-2 Inv-loop μ-loop
+skip-common-requires-2 c κs = omega (arith, room c)
 
 loop-less : tie.Need-loop-less Inv-loop μ-loop
-loop-less c = let p = c .pass-common2 .ensures in omega (arith, room (c .before), p .forward, p .inside)
+loop-less c = let p = c .skip-common2 .ensures in omega (arith, room (c .before), p .forward, p .inside)
 
 loop-again : tie.Need-loop-again Inv-loop μ-loop
 loop-again c =
-    let p = c .pass-common2 .ensures in
+    let p = c .skip-common2 .ensures in
     let r = c .before in
     (omega (arith, r .before .before .before .before .loop .inv, prefix-at-more (S r) (I r) _ (N r) (read r), p .forward, p .prefix), p .inside)
 
@@ -91,13 +91,13 @@ valid-prefix-spec =
     (tie.spec
     Inv-loop
     μ-loop
-    pass-common-requires
+    skip-common-requires
     loop-holds
     decode-requires
     enum-known-len
-    cast-pass-common
-    add-pass-common
-    pass-common-requires-2
+    cast-skip-common
+    add-skip-common
+    skip-common-requires-2
     loop-less
     loop-again
     enum-told

@@ -1,4 +1,4 @@
--- `unicode::text::pass_blocks` meets its contract (refusal 4, refusal 6).
+-- `unicode::text::skip_blocks` meets its contract (refusal 4, refusal 6).
 -- Assumes nothing.
 use Prim.Native.Nat.{_-_, _≤_}
 use native.Mathlib.Omega.{arith}
@@ -6,8 +6,8 @@ use lib.ListN.{length}
 use borrow.Author.Needs.{needs}
 use borrow.Author.Tests.{not-false}
 use Rattle.unicode.specs.Ascii.{Passed, pass-none, pass-on}
-use Rattle.unicode.proofs.text.pass_blocks.Statement.{statement}
-use Rattle.unicode.proofs.text.pass_blocks.Tie as tie
+use Rattle.unicode.proofs.text.skip_blocks.Statement.{statement}
+use Rattle.unicode.proofs.text.skip_blocks.Tie as tie
 
 abbrev Inv-loop : tie.InvT-loop
 Inv-loop text from block last at₀ at = Passed text from at × (at ≤ length text)
@@ -45,8 +45,8 @@ loop-again c =
 returns-3 : tie.Need-returns-3 Inv-loop μ-loop
 returns-3 c = c .before .loop .inv .0
 
-pub pass-blocks-spec : {M : Type 1} → statement M
-pass-blocks-spec =
+pub skip-blocks-spec : {M : Type 1} → statement M
+skip-blocks-spec =
     tie.close
     (tie.spec
     Inv-loop

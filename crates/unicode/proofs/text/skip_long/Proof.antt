@@ -1,4 +1,4 @@
--- `unicode::text::pass_long` meets its contract (refusal 4, refusal 6).
+-- `unicode::text::skip_long` meets its contract (refusal 4, refusal 6).
 -- Assumes nothing.
 use Prim.Native.Nat.{_+_, _-_, _≤_}
 use native.Mathlib.Omega.{arith}
@@ -7,8 +7,8 @@ use borrow.Author.Needs.{needs}
 use Rattle.unicode.specs.Ascii.{Passed, pass-none, pass-char, pass-on}
 use Rattle.unicode.specs.Long.{Long}
 use Rattle.unicode.specs.Walk.{decode-at-within}
-use Rattle.unicode.proofs.text.pass_long.Statement.{statement}
-use Rattle.unicode.proofs.text.pass_long.Tie as tie
+use Rattle.unicode.proofs.text.skip_long.Statement.{statement}
+use Rattle.unicode.proofs.text.skip_long.Tie as tie
 
 abbrev Inv-loop : tie.InvT-loop
 Inv-loop text from at₀ at = Passed text from at × (at ≤ length text)
@@ -33,22 +33,22 @@ room : (c : tie.Else1 Inv-loop μ-loop)
     → (1 ≤ c .before .long-len .result) × (c .before .before .loop .at + c .before .long-len .result ≤ length (c .before .before .before .before .args .text .now))
 room c = let w = told c in decode-at-within _ _ (w .char) _ (w .is)
 
-add-pass-wide : tie.Need-add-pass-wide Inv-loop μ-loop
-add-pass-wide c = omega (arith, room c)
+add-skip-wide : tie.Need-add-skip-wide Inv-loop μ-loop
+add-skip-wide c = omega (arith, room c)
 
-pass-wide-requires : tie.Need-pass-wide-requires Inv-loop μ-loop
-pass-wide-requires c κs = room c .1
+skip-wide-requires : tie.Need-skip-wide-requires Inv-loop μ-loop
+skip-wide-requires c κs = room c .1
 
 loop-less : tie.Need-loop-less Inv-loop μ-loop
-loop-less c = let p = c .pass-wide .ensures in omega (arith, room (c .before), p .forward, p .inside)
+loop-less c = let p = c .skip-wide .ensures in omega (arith, room (c .before), p .forward, p .inside)
 
 loop-again : tie.Need-loop-again Inv-loop μ-loop
 loop-again c =
     let e = c .before in
     let w = told e in
-    let p = pass-on _ _ _ _ (pass-char _ _ _ (w .char) _ (w .is) (room e .1) (e .before .before .loop .inv .0)) (c .pass-wide .ensures) in
+    let p = pass-on _ _ _ _ (pass-char _ _ _ (w .char) _ (w .is) (room e .1) (e .before .before .loop .inv .0)) (c .skip-wide .ensures) in
     (p, p .inside)
 
-pub pass-long-spec : {M : Type 1} → statement M
-pass-long-spec =
-    tie.close (tie.spec Inv-loop μ-loop loop-holds long-len-requires returns add-pass-wide pass-wide-requires loop-less loop-again)
+pub skip-long-spec : {M : Type 1} → statement M
+skip-long-spec =
+    tie.close (tie.spec Inv-loop μ-loop loop-holds long-len-requires returns add-skip-wide skip-wide-requires loop-less loop-again)

@@ -1,4 +1,4 @@
--- `unicode::text::pass_wide` meets its contract (refusal 4, refusal 6).
+-- `unicode::text::skip_wide` meets its contract (refusal 4, refusal 6).
 -- Assumes nothing.
 use Prim.Native.Nat.{_+_, _-_, _≤_}
 use native.Mathlib.Omega.{arith}
@@ -7,8 +7,8 @@ use borrow.Author.Needs.{needs}
 use Rattle.unicode.specs.Ascii.{Passed, pass-none, pass-char}
 use Rattle.unicode.specs.Long.{Long}
 use Rattle.unicode.specs.Walk.{decode-at-within}
-use Rattle.unicode.proofs.text.pass_wide.Statement.{statement}
-use Rattle.unicode.proofs.text.pass_wide.Tie as tie
+use Rattle.unicode.proofs.text.skip_wide.Statement.{statement}
+use Rattle.unicode.proofs.text.skip_wide.Tie as tie
 
 abbrev Inv-loop : tie.InvT-loop
 Inv-loop text from at₀ at = Passed text from at × (at ≤ length text)
@@ -41,5 +41,5 @@ loop-again c = let w = told c in (pass-char _ _ _ (w .char) 3 (w .is) (room c) (
 returns : tie.Need-returns Inv-loop μ-loop
 returns c = c .before .before .loop .inv .0
 
-pub pass-wide-spec : {M : Type 1} → statement M
-pass-wide-spec = tie.close (tie.spec Inv-loop μ-loop loop-holds wide-at-requires add-at loop-less loop-again returns)
+pub skip-wide-spec : {M : Type 1} → statement M
+skip-wide-spec = tie.close (tie.spec Inv-loop μ-loop loop-holds wide-at-requires add-at loop-less loop-again returns)

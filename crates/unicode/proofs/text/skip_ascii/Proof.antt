@@ -1,12 +1,12 @@
--- `unicode::text::pass_ascii` meets its contract (refusal 4, refusal 6).
+-- `unicode::text::skip_ascii` meets its contract (refusal 4, refusal 6).
 -- Assumes nothing.
 use Prim.Native.Nat.{_-_, _≤_}
 use native.Mathlib.Omega.{arith}
 use lib.ListN.{length}
 use borrow.Author.Needs.{needs}
 use Rattle.unicode.specs.Ascii.{Passed, pass-one, pass-on}
-use Rattle.unicode.proofs.text.pass_ascii.Statement.{statement}
-use Rattle.unicode.proofs.text.pass_ascii.Tie as tie
+use Rattle.unicode.proofs.text.skip_ascii.Statement.{statement}
+use Rattle.unicode.proofs.text.skip_ascii.Tie as tie
 
 abbrev Inv-loop : tie.InvT-loop
 Inv-loop text from large at₀ at = Passed text from at × (at ≤ length text)
@@ -14,16 +14,16 @@ Inv-loop text from large at₀ at = Passed text from at × (at ≤ length text)
 abbrev μ-loop : tie.MeasureT-loop
 μ-loop text from large at₀ at = length text - at
 
-pass-blocks-requires : tie.Need-pass-blocks-requires Inv-loop μ-loop
-pass-blocks-requires c κs = (search needs, omega arith)
+skip-blocks-requires : tie.Need-skip-blocks-requires Inv-loop μ-loop
+skip-blocks-requires c κs = (search needs, omega arith)
 
-pass-blocks-requires-2 : tie.Need-pass-blocks-requires-2 Inv-loop μ-loop
-pass-blocks-requires-2 c κs = (c .pass-blocks .ensures .inside, omega arith)
+skip-blocks-requires-2 : tie.Need-skip-blocks-requires-2 Inv-loop μ-loop
+skip-blocks-requires-2 c κs = (c .skip-blocks .ensures .inside, omega arith)
 
 loop-holds : tie.Need-loop-holds Inv-loop μ-loop
 loop-holds c =
-    let small = c .pass-blocks2 .ensures in
-    (pass-on _ _ _ _ (c .before .pass-blocks .ensures) small, small .inside)
+    let small = c .skip-blocks2 .ensures in
+    (pass-on _ _ _ _ (c .before .skip-blocks .ensures) small, small .inside)
 
 shared-slice-read-if1 : tie.Need-shared-slice-read-if1 Inv-loop μ-loop
 shared-slice-read-if1 c = search needs
@@ -46,14 +46,14 @@ loop-again c =
 returns-2 : tie.Need-returns-2 Inv-loop μ-loop
 returns-2 c = c .before .loop .inv .0
 
-pub pass-ascii-spec : {M : Type 1} → statement M
-pass-ascii-spec =
+pub skip-ascii-spec : {M : Type 1} → statement M
+skip-ascii-spec =
     tie.close
     (tie.spec
     Inv-loop
     μ-loop
-    pass-blocks-requires
-    pass-blocks-requires-2
+    skip-blocks-requires
+    skip-blocks-requires-2
     loop-holds
     shared-slice-read-if1
     returns
