@@ -1,7 +1,5 @@
 -- Offsets and rests moved by an edit, as the code finds them.
 -- Assumes nothing.
-use Prim.Native.Nat.{ℕ, _+_, _-_}
-use native.Mathlib.Omega.{arith}
 use mathlib.Core.Path.{_≡_}
 use borrow.Author.Tests.{eq-eqb, ne-eqb}
 use Rattle.basis.specs.Choice.{pick}
@@ -10,10 +8,6 @@ use Rattle.meaning.specs.declared.edit.Edit.{Edit}
 use Rattle.meaning.specs.declared.line.Rest.{Rest}
 
 module _ (ed : Edit) where
-  pub moved-by : (x replaced to : ℕ) → replaced ≡ ed .to .0 - ed .from .0 → to ≡ x + ed .inserted .0 - replaced → to ≡ moved ed x
-  unfolding moved
-  moved-by x replaced to p q = omega arith
-
   pub end-none : (r : Rest) → r .end .0 ≡ 0 → 0 ≡ movedRest ed r .end .0
   unfolding movedRest pick
   end-none r h = rw (eq-eqb (r .end .0) 0 h)

@@ -1,6 +1,5 @@
 // Standard input, read to its end.
 use libc::STDIN_FILENO;
-use meaning::sizes::TEXT_LIMIT;
 ghost use Prim.Native.Nat.{_+_, _^_, _≤_};
 ghost use lib.ListN.{length};
 
@@ -36,7 +35,7 @@ pub fn fill(buffer: &mut [u8]) -> Read
 }
 
 // The bytes of io's large buffer.
-const LARGE: usize = TEXT_LIMIT + 1;
+const LARGE: usize = 65536;
 
 // Reads as many bytes as such a buffer has, or as are left, and forgets them.
 fn skip() -> Read

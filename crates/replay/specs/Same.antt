@@ -4,10 +4,10 @@ use Prim.Native.Nat.{ℕ, zero, suc}
 use mathlib.Core.Path.{_≡_, refl}
 use mathlib.Core.Bool.{Bool, true, false, _&&_, false≢true}
 use mathlib.Core.List.{List, [], _∷_, _++_}
-use borrow.Author.Tests.{eqb-true, eq-eqb}
+use borrow.Author.Tests.{eqb-true}
 use lib.Dec.{eqb}
 use lib.ListN.{take, drop}
-use Rattle.basis.specs.Choice.{and-true, and-both}
+use Rattle.basis.specs.Choice.{and-true}
 use Rattle.meaning.specs.Table.{entryNumbers}
 
 unfoldable pub equal : List ℕ → List ℕ → Bool
@@ -27,11 +27,6 @@ equal-true (x ∷ xs) (y ∷ ys) e =
     let first = eqb-true x y (both .0) in
     let more = equal-true xs ys (both .1) in
     λ i. first i ∷ more i
-
-pub equal-refl : (xs : List ℕ) → equal xs xs ≡ true
-unfolding equal
-equal-refl [] = refl
-equal-refl (x ∷ xs) = and-both (eqb x x) (equal xs xs) (eq-eqb x x refl) (equal-refl xs)
 
 -- The first eight of each ten numbers.
 unfoldable pub eights : (lines : ℕ) → List ℕ → List ℕ

@@ -11,10 +11,9 @@ use lib.Dec.{leb}
 use lib.ListN.{length, take, drop, set, length-append, length-take, length-drop}
 use lib.Seq.{sets, sets-eq, take-at, drop-drop, drop-append-add}
 use Rattle.basis.specs.Choice.{pick, pick-true, pick-false}
-use Rattle.meaning.specs.Table.{entryNumbers, eventNumbers, ofEntry, ofEvent, ofAll, written}
-use Rattle.meaning.specs.declared.line.Entry.{Entry}
+use Rattle.meaning.specs.Table.{eventNumbers, ofEvent, ofAll, written}
 use Rattle.meaning.specs.declared.line.Event.{Event}
-use Rattle.laws.specs.TableLaws.{entry-numbers, event-numbers, events-numbers, all-numbers, all-append, written-length}
+use Rattle.laws.specs.TableLaws.{event-numbers, events-numbers, all-numbers, all-append, written-length}
 
 -- A buffer with these numbers from place i on: what lies before and behind them is as it was.
 unfoldable pub putNumbers : List ℕ → ℕ → List ℕ → List ℕ
@@ -52,10 +51,6 @@ put-length t i xs h = simp (length-append, length-take, length-drop) (omega arit
 
 -- ---- row after row
 
-pub nothing-written : (t : List ℕ) → written t [] ≡ t
-unfolding written
-nothing-written t = refl
-
 -- Numbers put just behind those that were written are written too.
 put-behind : (t xs ys : List ℕ) → putNumbers (written t xs) (length xs) ys ≡ written t (xs ++ ys)
 unfolding putNumbers written
@@ -75,11 +70,7 @@ module _ {ℓ} {X : Type ℓ} (f : X → List ℕ) (n : ℕ) (width : (x : X) �
   put-next t xs x =
       rw (← all-numbers f n width xs, all-append f xs (x ∷ []), append-nil (f x)) (put-behind t (ofAll f xs) (f x))
 
--- Ten numbers a line, six an event.
-pub put-next-entry : (t : List ℕ) (es : List Entry) (e : Entry)
-    → putNumbers (written t (ofAll ofEntry es)) (entryNumbers * length es) (ofEntry e) ≡ written t (ofAll ofEntry (es ++ (e ∷ [])))
-put-next-entry = put-next ofEntry entryNumbers entry-numbers
-
+-- The numbers of an event.
 pub put-next-event : (t : List ℕ) (es : List Event) (e : Event)
     → putNumbers (written t (ofAll ofEvent es)) (eventNumbers * length es) (ofEvent e) ≡ written t (ofAll ofEvent (es ++ (e ∷ [])))
 put-next-event = put-next ofEvent eventNumbers event-numbers

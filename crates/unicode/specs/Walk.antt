@@ -121,10 +121,6 @@ module _ (t : List ℕ) (i c n : ℕ) (e : decodeAt t i ≡ Char c n) where
   unfolding decodeAt
   decode-at-bytes = head-bytes (drop i t) c n e
 
-  pub decode-at-scalar : Scalar c
-  unfolding decodeAt
-  decode-at-scalar = encode-decode (drop i t) c n e .0
-
 pub decode-at-none : (t : List ℕ) (i : ℕ) → isChar (decodeAt t i) ≡ false → decodeAll (drop i t) ≡ []
 unfolding decodeAt
 decode-at-none t i e = all-none (drop i t) e
