@@ -13,9 +13,9 @@ use Rattle.meaning.specs.declared.line.Entry.{Entry}
 use Rattle.table.specs.Numbers.{putEvents}
 use Rattle.parser.specs.Lexing.{charsFrom}
 use Rattle.steps.specs.FineSteps.{start-fine}
-use Rattle.line.specs.Laying.{LineReady}
-use Rattle.line.specs.LineFrom.{heldIn, lineAtOf, lineFrom}
-use Rattle.line.specs.LineLaws.{placed-fine}
+use Rattle.passes.specs.Laying.{LineReady}
+use Rattle.passes.specs.LineFrom.{heldIn, lineAtOf, lineFrom}
+use Rattle.passes.specs.LineLaws.{placed-fine}
 use Rattle.drawing.specs.Sheet.{put-append}
 use Rattle.drawing.specs.PassDrawn.{DrawRoom}
 use Rattle.rows.specs.Standing.{atStart, StandReady, lineAt, Step, entry-is, ready-next}

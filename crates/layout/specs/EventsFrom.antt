@@ -24,7 +24,7 @@ use Rattle.laws.specs.RowInduction.{FitsIn, each-row}
 use Rattle.parser.specs.Lexing.{charsFrom}
 use Rattle.steps.specs.Lexed.{chars-within}
 use Rattle.steps.specs.Knowing.{KnownFits}
-use Rattle.line.specs.LineFrom.{lineAtOf, lineFrom}
+use Rattle.passes.specs.LineFrom.{lineAtOf, lineFrom}
 use Rattle.drawing.specs.Drawn.{drawnFrom, eventsFrom}
 use Rattle.drawing.specs.PassDrawn.{DrawRoom}
 use Rattle.drawing.specs.DrawnBounds.{line-few}

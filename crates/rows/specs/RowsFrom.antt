@@ -25,8 +25,8 @@ use Rattle.parser.specs.Lexing.{charsFrom}
 use Rattle.steps.specs.Fine.{FineSettings}
 use Rattle.steps.specs.Lexed.{chars-within}
 use Rattle.steps.specs.Pending.{RestFits}
-use Rattle.line.specs.LineFrom.{heldIn, lineAtOf, lineFrom}
-use Rattle.line.specs.LineLaws.{next-start, next-held, next-chars}
+use Rattle.passes.specs.LineFrom.{heldIn, lineAtOf, lineFrom}
+use Rattle.passes.specs.LineLaws.{next-start, next-held, next-chars}
 use Rattle.rows.specs.Standing.{atStart, Step, ends, goes-on, entry-is, next-at, next-rest-is}
 use Rattle.rows.specs.declared.stand.Stand.{Stand}
 use Rattle.rows.specs.declared.stand.LaidRow.{LaidRow}

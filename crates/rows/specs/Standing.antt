@@ -11,12 +11,12 @@ use Rattle.meaning.specs.declared.line.LineEnd.{LineEnd}
 use Rattle.meaning.specs.declared.line.LineEnd.the-variants.{NewLine, CarriageReturn, EndOfText, LineBreak}
 use Rattle.steps.specs.Unrolled.{nothingResumed}
 use Rattle.steps.specs.Knowing.{KnownFits, nothingKnown}
-use Rattle.line.specs.Laying.{LineReady}
-use Rattle.line.specs.LineFrom.{lineFrom}
-use Rattle.line.specs.LineLaws.{next-within, next-further, next-rest}
+use Rattle.passes.specs.Laying.{LineReady}
+use Rattle.passes.specs.LineFrom.{lineFrom}
+use Rattle.passes.specs.LineLaws.{next-within, next-further, next-rest}
 use Rattle.steps.specs.declared.step.Resumed.{Resumed}
 use Rattle.steps.specs.declared.first.Known.{Known}
-use Rattle.line.specs.declared.line.LineAt.{LineAt}
+use Rattle.passes.specs.declared.line.LineAt.{LineAt}
 use Rattle.rows.specs.declared.stand.Stand.{Stand}
 use Rattle.rows.specs.declared.stand.LaidRow.{LaidRow}
 

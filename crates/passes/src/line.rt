@@ -1,0 +1,149 @@
+// A line is measured, placed and drawn (rule 10).
+use crate::alignment::place_line;
+use crate::alignment::plain_spaces;
+use crate::cut::cut_line;
+use crate::entry::entry_at;
+use crate::pass::run_pass;
+use crate::quick::Quick;
+use crate::quick::quick_line;
+use meaning::counts::Offset;
+use meaning::counts::Pixels;
+use meaning::line::Entry;
+use meaning::line::LineEnd;
+use meaning::line::Placed;
+use meaning::settings::Settings;
+use steps::first::Known;
+use steps::first::known_here;
+use steps::measure::measured_count;
+use steps::measure::measured_width;
+use steps::measure::nothing_measured;
+use steps::place::start_place;
+use steps::step::Ended;
+use steps::step::Resumed;
+ghost use Prim.Native.Nat.{_≤_};
+ghost use mathlib.Core.Path.{_≡_};
+ghost use Rattle.meaning.specs.Line.{measuredWidth, measuredCount};
+ghost use Rattle.steps.specs.Fine.{FineSettings, FineSpaces};
+ghost use Rattle.steps.specs.Knowing.{KnownFits};
+ghost use Rattle.passes.specs.LineFrom.{lineFrom};
+ghost use Rattle.passes.specs.Laying.{LineReady, passedFrom, plainly, asMeasured, placedBy, laidAt};
+
+// A laid line: its entry, how it ended, where the next line starts and what that line resumes.
+pub struct LineAt {
+    pub entry: Entry,
+    pub ended: LineEnd,
+    pub next: Offset,
+    pub rest: Resumed,
+}
+
+// How a line is placed to be measured: at the box's left, with plain spaces.
+fn placed_plainly(s: Settings) -> Placed
+    ensures { λ r. ⌜ r ≡ plainly s ⌝ }
+{
+    let spaces = plain_spaces(s);
+    Placed {
+        left: Pixels(0),
+        spaces,
+    }
+}
+
+// Whether a line is placed as it was measured.
+fn as_measured(s: Settings, p: Placed) -> bool
+    ensures { λ r. ⌜ r ≡ asMeasured s p ⌝ }
+{
+    if p.left.0 != 0 {
+        return false;
+    }
+    if p.spaces.extra.0 != 0 {
+        return false;
+    }
+    p.spaces.width.0 == s.glyph.0
+}
+
+// Where a line is placed whose measuring pass ended so.
+fn placed_by(s: Settings, e: Ended) -> Placed
+    requires { ⌜ FineSettings s × (measuredCount s (e .measure) ≤ 65535) ⌝ }
+    ensures { λ r. ⌜ r ≡ placedBy s e ⌝ }
+{
+    let ended = e.ended;
+    let m = e.measure;
+    let width = measured_width(s, m);
+    let count = measured_count(s, m);
+    place_line(s, ended, width, count)
+}
+
+// The pass over a line that is so placed.
+fn pass_over(text: &[u8], s: Settings, at: usize, rest: Resumed, p: Placed, known: Known) -> Ended
+    requires { ⌜ LineReady s (now text) at rest × FineSpaces (p .spaces) × (p .left .0 ≤ s .width .0) × KnownFits (now text) known ⌝ }
+    ensures { λ r. ⌜ r ≡ passedFrom s (now (text .entry)) at rest p ⌝ }
+{
+    let left = p.left;
+    let spaces = p.spaces;
+    let start = start_place(s, left, spaces);
+    run_pass(text, s, start, at, rest, nothing_measured(), known)
+}
+
+// The line itself.
+fn laid_at(at: Offset, rest: Resumed, p: Placed, width: Pixels, looked: Offset, e: Ended) -> LineAt
+    ensures { λ r. ⌜ r ≡ laidAt (at .0) rest p (width .0) (looked .0) e ⌝ }
+{
+    let entry = entry_at(at, rest, p, width, looked, e);
+    let ended = e.ended;
+    let next = e.next;
+    let held = e.rest;
+    LineAt {
+        entry,
+        ended,
+        next,
+        rest: held,
+    }
+}
+
+// The line whose drawing pass ends as its measuring pass did.
+fn laid_alike(s: Settings, at: Offset, rest: Resumed, e: Ended) -> LineAt
+    requires { ⌜ FineSettings s × (measuredCount s (e .measure) ≤ 65535) ⌝ }
+    ensures { λ r. ⌜ r ≡ laidAt (at .0) rest (placedBy s e) (measuredWidth s (e .measure)) (e .reach .0) e ⌝ }
+{
+    let m = e.measure;
+    let width = measured_width(s, m);
+    let p = placed_by(s, e);
+    let looked = e.reach;
+    laid_at(at, rest, p, width, looked, e)
+}
+
+// The line in two passes. One that is placed as it was measured is drawn as it was.
+fn lay_twice(text: &[u8], s: Settings, at: usize, rest: Resumed, known: Known) -> LineAt
+    requires { ⌜ LineReady s (now text) at rest × KnownFits (now text) known ⌝ }
+    ensures { λ r. ⌜ r ≡ lineFrom s (now (text .entry)) at rest ⌝ }
+{
+    let first = pass_over(text, s, at, rest, placed_plainly(s), known);
+    let m = first.measure;
+    let width = measured_width(s, m);
+    let p = placed_by(s, first);
+    let looked = first.reach;
+    let start = at as u32;
+    if as_measured(s, p) {
+        return laid_at(Offset(start), rest, p, width, looked, first);
+    }
+    let drawn = pass_over(text, s, at, rest, p, known);
+    laid_at(Offset(start), rest, p, width, looked, drawn)
+}
+
+// The line at an offset of a text, after a rest that it resumes, where a word may be known.
+pub fn lay_line(text: &[u8], s: Settings, at: usize, rest: Resumed, known: Known) -> LineAt
+    requires { ⌜ LineReady s (now text) at rest × KnownFits (now text) known ⌝ }
+    ensures { λ r. ⌜ r ≡ lineFrom s (now (text .entry)) at rest ⌝ }
+{
+    let start = at as u32;
+    if rest.chars.0 == 0 {
+        if let Quick::Line(e) = quick_line(text, s, at, known) {
+            return laid_alike(s, Offset(start), rest, e);
+        }
+        let here = known_here(text, at, known);
+        if let Quick::Line(e) = cut_line(text, s, at, here) {
+            return laid_alike(s, Offset(start), rest, e);
+        }
+        return lay_twice(text, s, at, rest, here);
+    }
+    lay_twice(text, s, at, rest, known)
+}
