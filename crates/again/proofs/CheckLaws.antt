@@ -1,23 +1,20 @@
 -- The tests of an edit and of the lent part, on each way through them.
 -- Assumes nothing.
-use Prim.Native.Nat.{ℕ, _+_, _-_, _*_, _≤_, _<_}
+use Prim.Native.Nat.{ℕ, _+_, _-_, _*_, _<_}
 use mathlib.Core.Path.{_≡_, ap, _∙_}
 use mathlib.Core.Bool.{true, false, _&&_}
 use mathlib.Core.List.{List}
-use borrow.Author.Tests.{lt-ltb, le-ltb, le-leb, lt-leb}
-use lib.Dec.{eqb}
 use lib.ListN.{length, drop}
-use Rattle.basis.specs.Choice.{pick}
 use Rattle.unicode.specs.Decoding.{decodeAll}
 use Rattle.unicode.specs.Places.{boundaryAt}
-use Rattle.meaning.specs.Checks.{refuseIf, checkLength, checkUtf8}
+use Rattle.meaning.specs.Checks.{checkUtf8}
 use Rattle.meaning.specs.Table.{entryNumbers, entryIn, entriesIn}
 use Rattle.meaning.specs.WellFormed.{textLength}
 use Rattle.meaning.specs.Edit.{unaffected, checkWhole, restFits, partFits}
 use Rattle.meaning.specs.declared.edit.Edit.{Edit}
 use Rattle.meaning.specs.declared.line.Entry.{Entry}
 use Rattle.meaning.specs.declared.refusals.Refusal.{Refusal}
-use Rattle.meaning.specs.declared.refusals.Refusal.the-variants.{TextTooLong, BadEdit}
+use Rattle.meaning.specs.declared.refusals.Refusal.the-variants.{BadEdit}
 use Rattle.meaning.specs.declared.refusals.Checked.{Checked}
 use Rattle.meaning.specs.declared.refusals.Checked.the-variants.{Good, Refused}
 use Rattle.again.specs.PartChars.{part-boundary}

@@ -20,8 +20,8 @@ use Rattle.meaning.specs.declared.line.Entry.{Entry}
 use Rattle.parser.specs.Lexing.{charsFrom}
 use Rattle.passes.specs.LineFrom.{heldIn}
 use Rattle.steps.specs.declared.step.Resumed.{Resumed}
-use Rattle.rows.specs.Standing.{atFront, StandReady, Step}
-use Rattle.rows.specs.RowsFrom.{rowsFrom, rowHere, first-row, few-rows, last-row, more-rows, entriesFrom}
+use Rattle.rows.specs.Standing.{StandsAt, textFront, StandReady, laidRow}
+use Rattle.rows.specs.RowsFrom.{rowsFrom, rowHere, front-rows, first-row, few-rows, last-row, more-rows, entriesFrom}
 use Rattle.rows.specs.declared.stand.Stand.{Stand}
 use Rattle.rows.specs.declared.stand.LaidRow.{LaidRow}
 use Rattle.again.specs.Behind.{restBehind, rest-behind}
@@ -58,13 +58,13 @@ by-rows (suc n) s ed old start h cs =
     (ap (againUnlessEnded (l .ended)) (by-rows n s ed old next (l .held) more)
     ∙ sym (until-ended ed old (l .ended) (rowsBy n s next (l .held) more)))
 
-pub again-front : (s : Settings) (t : List ℕ) (ed : Edit) (old : List Entry) (base : ℕ) (r : Resumed)
-    → againBy (suc (length (charsFrom t 0))) s ed old base (heldIn r) (charsFrom t 0) ≡ againFrom s t ed old base (atFront r)
-unfolding rowsFrom
-again-front s t ed old base r =
+pub again-front : (s : Settings) (t : List ℕ) (ed : Edit) (old : List Entry) (base : ℕ) (r : Resumed) (p : Stand) → StandsAt t textFront r p
+    → againBy (suc (length (charsFrom t 0))) s ed old base (heldIn r) (charsFrom t 0) ≡ againFrom s t ed old base p
+again-front s t ed old base r p f =
     let cs = charsFrom t 0 in
     by-rows (suc (length cs)) s ed old base (heldIn r) cs
     ∙ ap (λ (n : ℕ). untilKept ed old (rowsBy (suc (length cs)) s n (heldIn r) cs)) (sym (add-zero base))
+    ∙ ap (untilKept ed old) (sym (front-rows s t base r p f))
 
 -- ---- what is laid are the first of the lines
 
@@ -123,7 +123,7 @@ module _ (s : Settings) (t : List ℕ) (ed : Edit) (old : List Entry) (base : �
     again-stop e es k =
         first-row s t base p (λ rs. untilKept ed old rs ≡ record { laid = []; kept = map (movedEntry ed) (e ∷ es) }) (λ rs. looked rs ∙ rw k)
 
-    module _ (none : keptFrom ed (base + p .at .0) (restBehind base (p .rest)) old ≡ []) (x : LaidRow) (z : Step s t p x) where
+    module _ (none : keptFrom ed (base + p .at .0) (restBehind base (p .rest)) old ≡ []) (x : LaidRow) (is : x ≡ laidRow s t p) where
       go-on : (rs : List Row) → untilKept ed old (rowHere s t base p ∷ rs) ≡ oneMore (rowHere s t base p) (untilKept ed old rs)
       unfolding unlessKept
       go-on rs = looked rs ∙ rw none
@@ -131,8 +131,9 @@ module _ (s : Settings) (t : List ℕ) (ed : Edit) (old : List Entry) (base : �
       -- The line that ends the text.
       pub again-last : x .last ≡ true → againFrom s t ed old base p ≡ record { laid = rowHere s t base p ∷ []; kept = [] }
       unfolding untilKept
-      again-last h = ap (untilKept ed old) (last-row s t base p x z h) ∙ go-on []
+      again-last h = ap (untilKept ed old) (last-row s t base p ready x is h) ∙ go-on []
 
       -- Any other, and what follows it.
-      pub again-more : x .last ≡ false → againFrom s t ed old base p ≡ oneMore (rowHere s t base p) (againFrom s t ed old base (x .next))
-      again-more h = ap (untilKept ed old) (more-rows s t base p x z h) ∙ go-on (rowsFrom s t base (x .next))
+      pub again-more : (q : Stand) → StandsAt t (x .next) (x .rest) q → x .last ≡ false
+          → againFrom s t ed old base p ≡ oneMore (rowHere s t base p) (againFrom s t ed old base q)
+      again-more q n h = ap (untilKept ed old) (more-rows s t base p ready x is q n h) ∙ go-on (rowsFrom s t base q)

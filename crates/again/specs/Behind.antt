@@ -23,7 +23,7 @@ use Rattle.parser.specs.Lexing.{charsFrom}
 use Rattle.passes.specs.LineFrom.{heldIn, lineAtOf, lineFrom}
 use Rattle.steps.specs.Pending.{RestFits}
 use Rattle.steps.specs.declared.step.Resumed.{Resumed}
-use Rattle.rows.specs.Standing.{Step, entry-is}
+use Rattle.rows.specs.Standing.{StandReady, laidRow, entry-is}
 use Rattle.rows.specs.RowsFrom.{rowHere}
 use Rattle.rows.specs.declared.stand.Stand.{Stand}
 use Rattle.rows.specs.declared.stand.LaidRow.{LaidRow}
@@ -42,14 +42,14 @@ entry-behind : (base at : ℕ) (h : Held) (cs : List ℕ) (l : Line) → h .char
 entry-behind base at h cs l k = rw (moved-behind base at) at (entry-moved (behind base) at h cs l (omega arith) k)
 
 -- Such a line is the first of those from its stand on.
-pub row-behind : (s : Settings) (t : List ℕ) (base : ℕ) (p : Stand) (x : LaidRow) → Step s t p x
+pub row-behind : (s : Settings) (t : List ℕ) (base : ℕ) (p : Stand) → StandReady s t p → (x : LaidRow) → x ≡ laidRow s t p
     → movedEntry (behind base) (x .entry) ≡ rowHere s t base p .entry
 unfolding rowHere rowAt lineFrom lineAtOf
-row-behind s t base p x z =
+row-behind s t base p c x is =
     let h = heldIn (p .rest) in
     let cs = charsFrom t (p .at .0) in
-    ap (movedEntry (behind base)) (entry-is s t p x z)
-    ∙ sym (entry-behind base (p .at .0) h cs (layLine s h cs) (z .ready .line .rest .within))
+    ap (movedEntry (behind base)) (entry-is s t p c x is)
+    ∙ sym (entry-behind base (p .at .0) h cs (layLine s h cs) (c .line .rest .within))
 
 -- What is held before such a line, as an entry of the whole says it.
 unfoldable pub restBehind : (base : ℕ) → Resumed → Rest

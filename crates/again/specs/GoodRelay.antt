@@ -17,6 +17,7 @@ use Rattle.meaning.specs.Table.{entryNumbers, entryIn, entriesIn}
 use Rattle.meaning.specs.WellFormed.{textLength, nothing, line, checkTable}
 use Rattle.meaning.specs.Edit.{keptFrom, unaffected, affected, inOrder, newLength, checkWhole, restFits, partFits, again}
 use Rattle.meaning.specs.declared.settings.Settings.{Settings}
+use Rattle.meaning.specs.declared.counts.Offset.{Offset}
 use Rattle.meaning.specs.declared.edit.Edit.{Edit}
 use Rattle.meaning.specs.declared.line.Entry.{Entry}
 use Rattle.meaning.specs.declared.refusals.Refusal.{Refusal}
@@ -25,12 +26,11 @@ use Rattle.meaning.specs.declared.refusals.Checked.{Checked}
 use Rattle.meaning.specs.declared.refusals.Checked.the-variants.{Good, Refused}
 use Rattle.laws.specs.Calls3.{refuse-good}
 use Rattle.parser.specs.Lexing.{charsFrom}
-use Rattle.steps.specs.Knowing.{nothingKnown, nothing-fits}
 use Rattle.table.specs.LinesFrom.{linesFrom, lines-more}
 use Rattle.table.specs.GoodTable.{table-room, table-text, table-lines}
 use Rattle.table.specs.Moving.{AllMovable}
 use Rattle.table.specs.MovableLines.{table-movable}
-use Rattle.rows.specs.Standing.{atFront, StandReady}
+use Rattle.rows.specs.Standing.{StandsAt, textFront, StandReady, stand-ready}
 use Rattle.rows.specs.GoodInput.{fine-settings}
 use Rattle.rows.specs.declared.stand.Stand.{Stand}
 use Rattle.again.specs.Behind.{behind}
@@ -146,30 +146,27 @@ module _ (s : Settings) (part table : List ℕ) (lines : ℕ) (ed : Edit) (g : A
           ∙ ap (keptFrom ed later rest) (affected-drop a old ∙ ap (λ (n : ℕ). drop n old) (sym k-is))
 
       -- Laying starts with it, at the part's front.
-      module _ (p : Stand) (p-is : p ≡ atFront (resumedOf e cs)) where
-        pub stand-ready : StandReady s part p
-        stand-ready =
-            rw p-is
+      module _ (p : Stand) (p-is : StandsAt part textFront (resumedOf e cs) p) where
+        pub front-ready : StandReady s part p
+        front-ready =
+            stand-ready s part textFront (resumedOf e cs) p
             (record {
-              line =
-                  record {
-                    settings = fine-settings s (g .settings);
-                    short = short-part;
-                    inside = omega arith;
-                    rest = resumed-fits part e (g .utf8) rest-good;
-                  };
-              known = nothing-fits part nothingKnown refl;
+              settings = fine-settings s (g .settings);
+              short = short-part;
+              inside = omega arith;
+              rest = resumed-fits part e (g .utf8) rest-good;
             })
+            p-is
 
         pub find-ready : FindReady s part table lines k (e .start .0) ed p
         find-ready =
             record {
-              stand = stand-ready;
+              stand = front-ready;
               room = table-room lines table (g .table-is);
               low = start-low;
               first = few-before table lines ed k k-is;
               rising = rises (textLength old) 0 nothing old (table-lines lines table (g .table-is));
-              passed = λ later rest h. passed later rest (omega arith);
+              passed = λ later rest h. passed later rest (omega (arith, ap (λ (o : Offset). o .0) (p-is .at-is)));
             }
 
         pub again-is : again s ed old (affected (ed .from .0) old) cs ≡ againFrom s part ed old (e .start .0) p
@@ -178,6 +175,5 @@ module _ (s : Settings) (part table : List ℕ) (lines : ℕ) (ed : Edit) (g : A
             rw (
               first-affected table lines ed k k-is is-affected ∙ ap (λ (x : Entry). x ∷ linesFrom table lines (k + 1)) (sym e-is),
               ← resumed-held e cs,
-              p-is,
             )
-            (again-front s part ed old (e .start .0) (resumedOf e cs))
+            (again-front s part ed old (e .start .0) (resumedOf e cs) p p-is)

@@ -23,7 +23,7 @@ use Rattle.table.specs.LinesFrom.{linesFrom, lines-more, lines-end}
 use Rattle.table.specs.GoodTable.{table-room, table-count}
 use Rattle.table.specs.Moving.{linesMoved, AllMovable, Movable}
 use Rattle.table.specs.MovableLines.{table-movable}
-use Rattle.rows.specs.Standing.{atFront}
+use Rattle.rows.specs.Standing.{StandsAt, textFront}
 use Rattle.rows.specs.RowsFrom.{entriesFrom}
 use Rattle.rows.specs.Writing.{linesPut}
 use Rattle.rows.specs.declared.stand.Stand.{Stand}
@@ -35,7 +35,7 @@ use Rattle.again.specs.KeptLines.{StartsBehind, kept-few, kept-are, kept
 use Rattle.again.specs.Writing.{WriteReady}
 use Rattle.again.specs.Written.{put-written, put-both}
 use Rattle.again.specs.Checking.{checkBefore, few-before}
-use Rattle.again.specs.GoodRelay.{AllGood, all-good, short-part, order, few-inserted, start-low, stand-ready, again-is}
+use Rattle.again.specs.GoodRelay.{AllGood, all-good, short-part, order, few-inserted, start-low, front-ready, again-is}
 use Rattle.again.specs.Answering.{Answers, too-small, laid-again}
 use Rattle.again.specs.declared.stop.Found.{Found}
 
@@ -45,7 +45,7 @@ pub record Sought (s : Settings) (part table : List ℕ) (lines : ℕ) (ed : Edi
   pub good : checkBefore s part table lines ed ≡ Good
   pub first : k ≡ length (unaffected (ed .from .0) (entriesIn lines table))
   pub entry : e ≡ entryIn (drop (entryNumbers * k) table)
-  pub stand : p ≡ atFront (resumedOf e (decodeAll part))
+  pub stand : StandsAt part textFront (resumedOf e (decodeAll part)) p
   pub finds : found ≡ foundIn lines (againFrom s part ed (entriesIn lines table) (e .start .0) p)
 
 module _ (s : Settings) (part table : List ℕ) (lines : ℕ) (ed : Edit) (k : ℕ) (e : Entry) (p : Stand) (found : Found)
@@ -166,7 +166,7 @@ module _ (s : Settings) (part table : List ℕ) (lines : ℕ) (ed : Edit) (k : �
         pub write-ready : WriteReady s part u (e .start .0) k (found .laid) p
         write-ready =
             record {
-              stand = stand-ready s part table lines ed g k (q .first) e (q .entry) p (q .stand);
+              stand = front-ready s part table lines ed g k (q .first) e (q .entry) p (q .stand);
               low = start-low s part table lines ed g k (q .first) e (q .entry);
               enough = omega (arith, laid-is, laid-within s part ed old (e .start .0) p);
               room = omega arith;

@@ -18,7 +18,7 @@ use Rattle.laws.specs.PassBounds.{size-take}
 use Rattle.parser.specs.Lexing.{charsFrom}
 use Rattle.steps.specs.Lexed.{chars-within}
 use Rattle.table.specs.LinesFrom.{linesFrom}
-use Rattle.rows.specs.Standing.{StandReady, Step, ready-next, further}
+use Rattle.rows.specs.Standing.{StandsAt, StandReady, laidRow, ready-next, further}
 use Rattle.rows.specs.declared.stand.Stand.{Stand}
 use Rattle.rows.specs.declared.stand.LaidRow.{LaidRow}
 use Rattle.again.specs.Behind.{restBehind, RestLow}
@@ -116,7 +116,7 @@ module _ (s : Settings) (part table : List ℕ) (lines base : ℕ) (ed : Edit) (
             λ k. record { laid = laid k; kept = kept k }
 
         -- It is not: nothing is kept yet, and a line is laid.
-        module _ (m : meetsFirst ed (base + p .at .0) rest (linesFrom table lines i) ≡ false) (rising : Rising old) (x : LaidRow) (z : Step s part p x) where
+        module _ (m : meetsFirst ed (base + p .at .0) rest (linesFrom table lines i) ≡ false) (rising : Rising old) (x : LaidRow) (is : x ≡ laidRow s part p) where
           none : keptFrom ed (base + p .at .0) (restBehind base (p .rest)) old ≡ []
           none =
               passed-on (base + p .at .0) (restBehind base (p .rest)) (omega arith)
@@ -127,19 +127,19 @@ module _ (s : Settings) (part table : List ℕ) (lines base : ℕ) (ed : Edit) (
           pub finds-last : x .last ≡ true → record { laid = n + 1; kept = lines } ≡ foundIn lines whole
           unfolding foundIn
           finds-last h =
-              let a = again-last s part ed old base p (c .ready) none x z h in
+              let a = again-last s part ed old base p (c .ready) none x is h in
               let laid : n + 1 ≡ length (whole .laid) = omega (arith, c .count, ap (λ (y : Again). length (y .laid)) a) in
               let left = ap length (sym (c .kept) ∙ ap (λ (y : Again). y .kept) a) in
               let kept : lines ≡ lines - length (whole .kept) = omega (arith, left) in
               λ k. record { laid = laid k; kept = kept k }
 
           -- Any other.
-          pub seeks-on : x .last ≡ false → Seeking s part table lines base ed p₀ (n + 1) i (x .next)
-          seeks-on h =
-              let a = again-more s part ed old base p (c .ready) none x z h in
-              let f = further s part p x z h in
+          pub seeks-on : (q : Stand) → StandsAt part (x .next) (x .rest) q → x .last ≡ false → Seeking s part table lines base ed p₀ (n + 1) i q
+          seeks-on q on h =
+              let a = again-more s part ed old base p (c .ready) none x is q on h in
+              let f = further s part p (c .ready) x is q on h in
               record {
-                ready = ready-next s part p x z;
+                ready = ready-next s part p (c .ready) x is q on;
                 inside = still-inside;
                 passed = λ later rest b. passed-on later rest (omega arith);
                 count = omega (arith, c .count, ap (λ (y : Again). length (y .laid)) a);

@@ -13,7 +13,7 @@ use Rattle.meaning.specs.declared.line.Entry.{Entry}
 use Rattle.passes.specs.LineLaws.{entry-small}
 use Rattle.table.specs.Numbers.{putNumbers}
 use Rattle.table.specs.Moving.{MovableEntry}
-use Rattle.rows.specs.Standing.{StandReady, Step, entry-is, ready-next}
+use Rattle.rows.specs.Standing.{StandsAt, StandReady, laidRow, entry-is, ready-next}
 use Rattle.rows.specs.RowsFrom.{rowHere, entriesFrom, last-entry, more-entries}
 use Rattle.rows.specs.Writing.{linesPut, none-put, first-put}
 use Rattle.rows.specs.declared.stand.Stand.{Stand}
@@ -49,13 +49,13 @@ module _ (s : Settings) (part t : List ℕ) (base k laid : ℕ) (p₀ : Stand) w
         let e : laid - n ≡ 0 = omega arith in
         sym (none-put u (k + n)) ∙ rw e at (c .left)
 
-    module _ (x : LaidRow) (z : Step s part p x) where
+    module _ (x : LaidRow) (is : x ≡ laidRow s part p) where
       -- No number of the line's entry is large, so that it can be moved.
       pub line-movable : MovableEntry (behind base) (x .entry)
       line-movable =
           let r = c .ready .line in
           let a = entry-small s part (p .at .0) (p .rest) (r .rest) (r .settings) (r .short) (r .inside) in
-          rw (entry-is s part p x z)
+          rw (entry-is s part p (c .ready) x is)
           (record {
             start = (omega arith, omega (arith, a .start, r .short));
             rest = λ some. (omega arith, omega (arith, a .end, r .short));
@@ -69,38 +69,39 @@ module _ (s : Settings) (part t : List ℕ) (base k laid : ℕ) (p₀ : Stand) w
           abbrev onward : ℕ
           onward = laid - (n + 1)
 
-          -- The line, and those that are still to be written: none if it ends the text.
-          pub record Rest (onward : ℕ) : Type 0 where
-            pub is : take (suc onward) (entriesFrom s part base p) ≡ e ∷ take onward (entriesFrom s part base (x .next))
-            pub enough : onward ≤ length (entriesFrom s part base (x .next))
-
           here : e ≡ rowHere s part base p .entry
-          here = e-is ∙ row-behind s part base p x z
+          here = e-is ∙ row-behind s part base p (c .ready) x is
 
-          rest : Rest onward
-          rest =
-              by-test (x .last)
-              (λ h.
-              let f = last-entry s part base p x z e here h in
-              let none : onward ≡ 0 = omega (arith, c .enough, ap length f) in
-              rw none (record { is = rw f; enough = omega arith }))
-              (λ h.
-              let f = more-entries s part base p x z e here h in
-              record { is = rw f; enough = omega (arith, c .enough, ap length f) })
+          module _ (q : Stand) (on : StandsAt part (x .next) (x .rest) q) where
+            -- The line, and those that are still to be written: none if it ends the text.
+            record Rest (m : ℕ) : Type 0 where
+              pub taken : take (suc m) (entriesFrom s part base p) ≡ e ∷ take m (entriesFrom s part base q)
+              pub enough : m ≤ length (entriesFrom s part base q)
 
-          pub write-next : Wrote s part t v base k laid p₀ (n + 1) (x .next)
-          write-next =
-              let es = take onward (entriesFrom s part base (x .next)) in
-              let m : laid - n ≡ suc onward = omega arith in
-              let i : k + (n + 1) ≡ k + n + 1 = omega arith in
-              record {
-                ready = ready-next s part p x z;
-                some = omega arith;
-                enough = rest .enough;
-                same = kept ∙ c .same;
-                left = rw i
-                    (ap (λ (y : List ℕ). linesPut y (k + n + 1) es) put
-                    ∙ sym (first-put u (k + n) e es (omega arith))
-                    ∙ ap (linesPut u (k + n)) (sym (rest .is))
-                    ∙ rw m at (c .left));
-              }
+            rest : Rest onward
+            rest =
+                by-test (x .last)
+                (λ h.
+                let f = last-entry s part base p (c .ready) x is e here h in
+                let none : onward ≡ 0 = omega (arith, c .enough, ap length f) in
+                rw none (record { taken = rw f; enough = omega arith }))
+                (λ h.
+                let f = more-entries s part base p (c .ready) x is e here q on h in
+                record { taken = rw f; enough = omega (arith, c .enough, ap length f) })
+
+            pub write-next : Wrote s part t v base k laid p₀ (n + 1) q
+            write-next =
+                let es = take onward (entriesFrom s part base q) in
+                let m : laid - n ≡ suc onward = omega arith in
+                let i : k + (n + 1) ≡ k + n + 1 = omega arith in
+                record {
+                  ready = ready-next s part p (c .ready) x is q on;
+                  some = omega arith;
+                  enough = rest .enough;
+                  same = kept ∙ c .same;
+                  left = rw i
+                      (ap (λ (y : List ℕ). linesPut y (k + n + 1) es) put
+                      ∙ sym (first-put u (k + n) e es (omega arith))
+                      ∙ ap (linesPut u (k + n)) (sym (rest .taken))
+                      ∙ rw m at (c .left));
+                }

@@ -35,7 +35,7 @@ fn lay_lines(
     ensures { λ r. ⌜ now (table .exit) ≡ relayTable s (now (part .entry)) (now (table .entry)) lines edit ⌝ }
 {
     let e = read_entry(table, k);
-    let front = at_front(held_of(part, e));
+    let front = at_front(part, held_of(part, e));
     let base = e.start;
     let found = find_stop(part, s, table, lines, k, base, edit, front);
     let kept = found.kept;

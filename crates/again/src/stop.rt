@@ -9,6 +9,7 @@ use meaning::settings::Settings;
 use meaning::sizes::ENTRY_NUMBERS;
 use rows::stand::Stand;
 use rows::stand::lay_row;
+use rows::stand::next_stand;
 use steps::step::Resumed;
 use table::entries::read_entry;
 ghost use Prim.Native.Nat.{_+_, _*_, _≤_};
@@ -103,7 +104,6 @@ pub fn find_stop(
                 kept: lines,
             };
         }
-        let next = row.next;
-        stand = next;
+        stand = next_stand(part, stand, row);
     }
 }

@@ -5,6 +5,7 @@ use meaning::line::Entry;
 use meaning::settings::Settings;
 use rows::stand::Stand;
 use rows::stand::lay_row;
+use rows::stand::next_stand;
 use table::entries::write_entry;
 use table::moving::moved_entry;
 ghost use Prim.Native.Nat.{_≤_};
@@ -51,7 +52,6 @@ pub fn write_again(
         let whole = entry_behind(base, entry);
         write_entry(table, k + n, whole);
         n += 1;
-        let next = row.next;
-        stand = next;
+        stand = next_stand(part, stand, row);
     }
 }

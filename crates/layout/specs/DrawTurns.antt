@@ -13,12 +13,13 @@ use Rattle.meaning.specs.declared.line.Entry.{Entry}
 use Rattle.table.specs.Numbers.{putEvents}
 use Rattle.parser.specs.Lexing.{charsFrom}
 use Rattle.steps.specs.FineSteps.{start-fine}
+use Rattle.steps.specs.Unrolled.{nothingResumed}
 use Rattle.passes.specs.Laying.{LineReady}
 use Rattle.passes.specs.LineFrom.{heldIn, lineAtOf, lineFrom}
 use Rattle.passes.specs.LineLaws.{placed-fine}
 use Rattle.drawing.specs.Sheet.{put-append}
 use Rattle.drawing.specs.PassDrawn.{DrawRoom}
-use Rattle.rows.specs.Standing.{atStart, StandReady, lineAt, Step, entry-is, ready-next}
+use Rattle.rows.specs.Standing.{StandsAt, textFront, StandReady, lineAt, laidRow, entry-is, ready-next}
 use Rattle.rows.specs.RowsFrom.{TextReady}
 use Rattle.rows.specs.Turns.{start-ready}
 use Rattle.rows.specs.declared.stand.Stand.{Stand}
@@ -32,13 +33,13 @@ pub record Drew (s : Settings) (t ev₀ ev : List ℕ) (k : ℕ) (p : Stand) : T
   pub same : length ev ≡ length ev₀
   pub puts : putEvents ev k (eventsAfter s t p) ≡ putEvents ev₀ 0 (eventsOf s t)
 
-pub draw-start : (s : Settings) (t ev₀ : List ℕ) (p : Stand) → TextReady s t → p ≡ atStart → Drew s t ev₀ ev₀ 0 p
-draw-start s t ev₀ p h e =
+pub draw-start : (s : Settings) (t ev₀ : List ℕ) (p : Stand) → TextReady s t → StandsAt t textFront nothingResumed p → Drew s t ev₀ ev₀ 0 p
+draw-start s t ev₀ p h f =
     record {
-      ready = start-ready s t p h e;
-      left = rw e (omega (arith, ap length (all-events s t)));
+      ready = start-ready s t p h f;
+      left = omega (arith, ap length (all-events s t p f));
       same = refl;
-      puts = rw e (ap (putEvents ev₀ 0) (all-events s t));
+      puts = ap (putEvents ev₀ 0) (all-events s t p f);
     }
 
 -- A line that can be laid can be drawn.
@@ -63,12 +64,15 @@ line-room s t p k e c h is =
       few = omega arith;
     })
 
-module _ (s : Settings) (t ev₀ ev : List ℕ) (k : ℕ) (p : Stand) (d : Drew s t ev₀ ev k p) (x : LaidRow) (z : Step s t p x) where
-  pub draw-ready : DrawReady s t p x k
+module _ (s : Settings) (t ev₀ ev : List ℕ) (k : ℕ) (p : Stand) (d : Drew s t ev₀ ev k p) (x : LaidRow) (is : x ≡ laidRow s t p) where
+  abbrev c : StandReady s t p
+  c = d .ready
+
+  pub draw-ready : DrawReady s t p (x .entry) k
   draw-ready =
       record {
-        room = line-room s t p k (x .entry) (z .ready .line) (omega (arith, d .left, few-events s t, z .ready .line .short)) (entry-is s t p x z);
-        known = z .known;
+        room = line-room s t p k (x .entry) (c .line) (omega (arith, d .left, few-events s t, c .line .short)) (entry-is s t p c x is);
+        known = c .known;
       }
 
   -- The step's line is drawn too.
@@ -77,16 +81,16 @@ module _ (s : Settings) (t ev₀ ev : List ℕ) (k : ℕ) (p : Stand) (d : Drew 
     where
       pub draw-last : x .last ≡ true → (n ≡ length (eventsOf s t)) × (v ≡ putEvents ev₀ 0 (eventsOf s t))
       draw-last h =
-          let f = one-drawn s t p x z h in
+          let f = one-drawn s t p c x is h in
           (omega (arith, count, d .left, ap length f), put ∙ ap (putEvents ev k) (sym f) ∙ d .puts)
 
-      pub draw-next : x .last ≡ false → Drew s t ev₀ v n (x .next)
-      draw-next h =
-          let f = more-drawn s t p x z h in
+      pub draw-next : (q : Stand) → StandsAt t (x .next) (x .rest) q → x .last ≡ false → Drew s t ev₀ v n q
+      draw-next q on h =
+          let f = more-drawn s t p c x is q on h in
           let es = lineEvents s t p (x .entry) in
-          let more = eventsAfter s t (x .next) in
+          let more = eventsAfter s t q in
           record {
-            ready = ready-next s t p x z;
+            ready = ready-next s t p c x is q on;
             left = omega (arith, count, d .left, ap length f, length-append es more);
             same = kept ∙ d .same;
             puts = ap (λ (y : List ℕ). putEvents y n more) put ∙ ap (λ (m : ℕ). putEvents (putEvents ev k es) m more) count

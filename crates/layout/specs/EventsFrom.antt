@@ -24,12 +24,13 @@ use Rattle.laws.specs.RowInduction.{FitsIn, each-row}
 use Rattle.parser.specs.Lexing.{charsFrom}
 use Rattle.steps.specs.Lexed.{chars-within}
 use Rattle.steps.specs.Knowing.{KnownFits}
+use Rattle.steps.specs.Unrolled.{nothingResumed}
 use Rattle.passes.specs.LineFrom.{lineAtOf, lineFrom}
 use Rattle.drawing.specs.Drawn.{drawnFrom, eventsFrom}
 use Rattle.drawing.specs.PassDrawn.{DrawRoom}
 use Rattle.drawing.specs.DrawnBounds.{line-few}
-use Rattle.rows.specs.Standing.{atStart, Step, entry-is}
-use Rattle.rows.specs.RowsFrom.{rowsFrom, rowHere, last-row, more-rows}
+use Rattle.rows.specs.Standing.{StandsAt, textFront, StandReady, laidRow, entry-is}
+use Rattle.rows.specs.RowsFrom.{rowsFrom, rowHere, front-rows, last-row, more-rows}
 use Rattle.rows.specs.declared.stand.Stand.{Stand}
 use Rattle.rows.specs.declared.stand.LaidRow.{LaidRow}
 
@@ -45,9 +46,9 @@ pub events-are : (s : Settings) (t : List ℕ) → eventsOf s t ≡ textEvents s
 unfolding eventsOf textEvents textRows charsFrom
 events-are s t = refl
 
-pub all-events : (s : Settings) (t : List ℕ) → eventsAfter s t atStart ≡ eventsOf s t
-unfolding eventsOf eventsAfter rowsFrom rows
-all-events s t = refl
+pub all-events : (s : Settings) (t : List ℕ) (p : Stand) → StandsAt t textFront nothingResumed p → eventsAfter s t p ≡ eventsOf s t
+unfolding eventsOf eventsAfter rows
+all-events s t p f = ap allEvents (front-rows s t 0 nothingResumed p f)
 
 -- ---- one line, from its entry
 
@@ -59,9 +60,9 @@ unfoldable pub lineEvents : Settings → List ℕ → Stand → Entry → List E
 lineEvents s t p e = eventsFrom s (placeIn s e) t (p .at .0) (p .rest .chars .0) (p .rest .count .0) (e .left .0)
 
 -- What drawing it takes for granted, with so many events before it.
-pub record DrawReady (s : Settings) (t : List ℕ) (p : Stand) (x : LaidRow) (k : ℕ) : Type 0 where
-  pub room : DrawRoom s (placeIn s (x .entry)) t (p .at .0) (p .rest) (x .entry .left .0) k
-  pub known : KnownFits t (x .next .known)
+pub record DrawReady (s : Settings) (t : List ℕ) (p : Stand) (e : Entry) (k : ℕ) : Type 0 where
+  pub room : DrawRoom s (placeIn s e) t (p .at .0) (p .rest) (e .left .0) k
+  pub known : KnownFits t (p .known)
 
 -- A pass that runs at its offset has the events of the pass from the front.
 from-start : (s : Settings) (p : Place) (t : List ℕ) (at chars count x : ℕ)
@@ -94,7 +95,7 @@ module _ (s : Settings) (t : List ℕ) (p : Stand) (e : Entry) (start : Place)
     place-length =
         sym (events-length 0 (e .left .0) (drawnFrom s start t (p .at .0) (p .rest .chars .0) (p .rest .count .0))) ∙ ap length place-events
 
-module _ (s : Settings) (t : List ℕ) (p : Stand) (x : LaidRow) (z : Step s t p x) where
+module _ (s : Settings) (t : List ℕ) (p : Stand) (c : StandReady s t p) (x : LaidRow) (is : x ≡ laidRow s t p) where
   -- They are those of its row.
   row-events : lineEvents s t p (x .entry) ≡ rowHere s t 0 p .events
   unfolding lineEvents placeIn lineFrom lineAtOf entryAt rowHere rowAt layLine lineOf lineTokens
@@ -104,20 +105,21 @@ module _ (s : Settings) (t : List ℕ) (p : Stand) (x : LaidRow) (z : Step s t p
       let q = placing s (measuring s (heldTokens (r .chars .0) (r .count .0) (charsFrom t at))) in
       let start = startPlace s (q .left .0) (q .spaces) in
       let ds = process s start 0 (heldTokens (r .chars .0) (r .count .0) (charsFrom t at)) .drawn in
-      ap (lineEvents s t p) (entry-is s t p x z)
+      ap (lineEvents s t p) (entry-is s t p c x is)
       ∙ from-start s start t at (r .chars .0) (r .count .0) (q .left .0)
       ∙ ap (λ (n : ℕ). eventsAt n (q .left .0) ds) (sym (zero-add at))
 
   -- The last line's events.
   pub one-drawn : x .last ≡ true → eventsAfter s t p ≡ lineEvents s t p (x .entry)
   unfolding eventsAfter allEvents
-  one-drawn h = ap allEvents (last-row s t 0 p x z h) ∙ append-nil _ ∙ sym row-events
+  one-drawn h = ap allEvents (last-row s t 0 p c x is h) ∙ append-nil _ ∙ sym row-events
 
   -- A line's events, and those of the lines from the next stand on.
-  pub more-drawn : x .last ≡ false → eventsAfter s t p ≡ lineEvents s t p (x .entry) ++ eventsAfter s t (x .next)
+  pub more-drawn : (q : Stand) → StandsAt t (x .next) (x .rest) q → x .last ≡ false
+      → eventsAfter s t p ≡ lineEvents s t p (x .entry) ++ eventsAfter s t q
   unfolding eventsAfter allEvents
-  more-drawn h =
-      ap allEvents (more-rows s t 0 p x z h) ∙ ap (λ (es : List Event). es ++ allEvents (rowsFrom s t 0 (x .next))) (sym row-events)
+  more-drawn q n h =
+      ap allEvents (more-rows s t 0 p c x is q n h) ∙ ap (λ (es : List Event). es ++ allEvents (rowsFrom s t 0 q)) (sym row-events)
 
 -- ---- all lines
 

@@ -1,11 +1,12 @@
 // The events of a text's lines, one line after the other: counted, and drawn as each line is written (rule 10, rule 13).
 use drawing::pass::draw_pass;
 use meaning::cursor::Spaces;
+use meaning::line::Entry;
 use meaning::settings::Settings;
-use rows::stand::LaidRow;
 use rows::stand::Stand;
 use rows::stand::at_start;
 use rows::stand::lay_row;
+use rows::stand::next_stand;
 use steps::place::start_place;
 use table::entries::write_entry;
 ghost use Prim.Native.Nat.{_+_, _*_, _≤_};
@@ -16,22 +17,22 @@ ghost use Rattle.table.specs.Numbers.{putEvents};
 ghost use Rattle.rows.specs.RowsFrom.{TextReady, entriesOf};
 ghost use Rattle.layout.specs.EventsFrom.{eventsOf, lineEvents, DrawReady};
 
-// The events of the line at a stand, from the row that was laid there: events number k and on. How many there are with those before.
+// The events of the line at a stand, from its entry: events number k and on. How many there are with those before.
 fn draw_line(
     text: &[u8],
     s: Settings,
     stand: Stand,
-    row: LaidRow,
+    e: Entry,
     events: &mut [u32],
     k: usize,
 ) -> usize
-    requires { ⌜ DrawReady s (now text) stand row k ⌝ }
-    ensures { λ r. ⌜ now (events .exit) ≡ putEvents (now (events .entry)) k (lineEvents s (now (text .entry)) stand (row .entry)) ⌝ }
-    ensures { λ r. ⌜ r ≡ k + length (lineEvents s (now (text .entry)) stand (row .entry)) ⌝ }
+    requires { ⌜ DrawReady s (now text) stand e k ⌝ }
+    ensures { λ r. ⌜ now (events .exit) ≡ putEvents (now (events .entry)) k (lineEvents s (now (text .entry)) stand e) ⌝ }
+    ensures { λ r. ⌜ r ≡ k + length (lineEvents s (now (text .entry)) stand e) ⌝ }
 {
-    let left = row.entry.left;
-    let space = row.entry.space;
-    let extra = row.entry.extra;
+    let left = e.left;
+    let space = e.space;
+    let extra = e.extra;
     let spaces = Spaces {
         width: space,
         extra,
@@ -39,7 +40,7 @@ fn draw_line(
     let start = start_place(s, left, spaces);
     let at = stand.at.0 as usize;
     let rest = stand.rest;
-    let known = row.next.known;
+    let known = stand.known;
     draw_pass(text, s, start, at, rest, known, left.0, events, k)
 }
 
@@ -50,15 +51,15 @@ pub fn draw_lines(text: &[u8], s: Settings, events: &mut [u32]) -> usize
     ensures { λ r. ⌜ now (events .exit) ≡ putEvents (now (events .entry)) 0 (eventsOf s (now (text .entry))) ⌝ }
 {
     let mut k: usize = 0;
-    let mut stand = at_start();
+    let mut stand = at_start(text);
     loop {
         let row = lay_row(text, s, stand);
-        k = draw_line(text, s, stand, row, events, k);
+        let entry = row.entry;
+        k = draw_line(text, s, stand, entry, events, k);
         if row.last {
             return k;
         }
-        let next = row.next;
-        stand = next;
+        stand = next_stand(text, stand, row);
     }
 }
 
@@ -89,20 +90,19 @@ pub fn write_and_draw(text: &[u8], s: Settings, table: &mut [u32], events: &mut 
 {
     let mut lines: usize = 0;
     let mut drawn: usize = 0;
-    let mut stand = at_start();
+    let mut stand = at_start(text);
     loop {
         let row = lay_row(text, s, stand);
         let entry = row.entry;
         write_entry(table, lines, entry);
         lines += 1;
-        drawn = draw_line(text, s, stand, row, events, drawn);
+        drawn = draw_line(text, s, stand, entry, events, drawn);
         if row.last {
             return Both {
                 lines,
                 events: drawn,
             };
         }
-        let next = row.next;
-        stand = next;
+        stand = next_stand(text, stand, row);
     }
 }

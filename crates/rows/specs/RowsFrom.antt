@@ -16,18 +16,20 @@ use Rattle.meaning.specs.declared.settings.Settings.{Settings}
 use Rattle.meaning.specs.declared.line.LineEnd.the-variants.{EndOfText}
 use Rattle.meaning.specs.declared.line.Entry.{Entry}
 use Rattle.laws.specs.LineBounds.{line-rest, line-held}
-use Rattle.laws.specs.LayoutBounds.{rows-length}
+use Rattle.laws.specs.LayoutBounds.{rows-length, few-lines}
 use Rattle.laws.specs.Fuel.{rows-fuel}
-use Rattle.laws.specs.Stands.{unless-both, next-fewer}
+use Rattle.laws.specs.Stands.{next-fewer}
 use Rattle.laws.specs.RowInduction.{unless-cases}
 use Rattle.laws.specs.TokenLaws.{length-size}
 use Rattle.parser.specs.Lexing.{charsFrom}
 use Rattle.steps.specs.Fine.{FineSettings}
 use Rattle.steps.specs.Lexed.{chars-within}
 use Rattle.steps.specs.Pending.{RestFits}
+use Rattle.steps.specs.Unrolled.{nothingResumed}
+use Rattle.steps.specs.declared.step.Resumed.{Resumed}
 use Rattle.passes.specs.LineFrom.{heldIn, lineAtOf, lineFrom}
 use Rattle.passes.specs.LineLaws.{next-start, next-held, next-chars}
-use Rattle.rows.specs.Standing.{atStart, Step, ends, goes-on, entry-is, next-at, next-rest-is}
+use Rattle.rows.specs.Standing.{StandsAt, textFront, StandReady, laidRow, ends, goes-on, entry-is, next-at, next-rest-is}
 use Rattle.rows.specs.declared.stand.Stand.{Stand}
 use Rattle.rows.specs.declared.stand.LaidRow.{LaidRow}
 
@@ -63,62 +65,64 @@ module _ (s : Settings) (t : List ℕ) (base : ℕ) (p : Stand) where
   pub first-row : (P : List Row → Type 0) → ((rs : List Row) → P (rowHere s t base p ∷ rs)) → P (rowsFrom s t base p)
   first-row P f = subst P (sym off-front) (f _)
 
-  some-rows : 1 ≤ length (rowsFrom s t base p)
-  some-rows = first-row (λ rs. 1 ≤ length rs) (λ rs. omega arith)
-
   -- At most one more than bytes.
   pub few-rows : length (rowsFrom s t base p) ≤ length t + 1
   unfolding rowsFrom
   few-rows =
       omega (arith, rows-length (suc (length cs)) s (base + p .at .0) (heldIn (p .rest)) cs, length-size cs, chars-within t (p .at .0))
 
-  module _ (x : LaidRow) (z : Step s t p x) where
-    abbrev ready-rest : RestFits t (p .at .0) (p .rest)
-    ready-rest = z .ready .line .rest
-
-    -- What is left when the line is laid.
-    after-line : (line .ended ≡ EndOfText → ⊥)
-        → rowsBy (length cs) s (base + p .at .0 + size (take (line .chars) cs)) (line .held) (drop (line .chars) cs) ≡ rowsFrom s t base (x .next)
-    unfolding rowsFrom
-    after-line d =
-        let at = p .at .0 in
-        let h = heldIn (p .rest) in
-        let more = drop (line .chars) cs in
-        let start : base + x .next .at .0 ≡ base + at + size (take (line .chars) cs) =
-        omega (arith, next-at s t p x z, next-start s t at (p .rest)) in
-        let chars : charsFrom t (x .next .at .0) ≡ more = ap (charsFrom t) (next-at s t p x z) ∙ next-chars s t at (p .rest) in
-        let held : heldIn (x .next .rest) ≡ line .held = ap heldIn (next-rest-is s t p x z) ∙ next-held s t at (p .rest) in
-        rw (start, chars, held)
-        (rows-fuel (length cs) (suc (length more)) s (base + at + size (take (line .chars) cs)) (line .held) more
-        (line-rest s h cs (ready-rest .within) (ready-rest .counts)) (line-held s h cs (ready-rest .within) (ready-rest .counts))
-        (next-fewer s h cs (ready-rest .within) (ready-rest .counts) d (length cs) (omega arith)) (omega arith))
-
-    rows-step : rowsFrom s t base p ≡ rowHere s t base p ∷ unlessEnded (line .ended) (rowsFrom s t base (x .next))
-    rows-step = off-front ∙ ap (λ (rs : List Row). rowHere s t base p ∷ rs) (unless-both _≡_ (line .ended) _ _ (λ _. refl) after-line)
-
+  module _ (c : StandReady s t p) (x : LaidRow) (is : x ≡ laidRow s t p) where
     -- The line that ends the text is the last of them.
     pub last-row : x .last ≡ true → rowsFrom s t base p ≡ rowHere s t base p ∷ []
     unfolding lineFrom lineAtOf
     last-row h =
-        rows-step
+        off-front
         ∙ ap (λ (rs : List Row). rowHere s t base p ∷ rs)
-        (unless-cases (λ rs. rs ≡ []) (line .ended) _ (λ _. refl) (λ d. absurd (d (ends s t p x z h))))
+        (unless-cases (λ rs. rs ≡ []) (line .ended) _ (λ _. refl) (λ d. absurd (d (ends s t p c x is h))))
 
-    -- Any other is followed by those from the next stand on.
-    pub more-rows : x .last ≡ false → rowsFrom s t base p ≡ rowHere s t base p ∷ rowsFrom s t base (x .next)
-    unfolding lineFrom lineAtOf
-    more-rows h =
-        rows-step
-        ∙ ap (λ (rs : List Row). rowHere s t base p ∷ rs)
-        (unless-cases (λ rs. rs ≡ rowsFrom s t base (x .next)) (line .ended) _ (λ e. absurd (goes-on s t p x z h e)) (λ _. refl))
+    module _ (q : Stand) (n : StandsAt t (x .next) (x .rest) q) where
+      abbrev ready-rest : RestFits t (p .at .0) (p .rest)
+      ready-rest = c .line .rest
+
+      -- What is left when the line is laid.
+      after-line : (line .ended ≡ EndOfText → ⊥)
+          → rowsBy (length cs) s (base + p .at .0 + size (take (line .chars) cs)) (line .held) (drop (line .chars) cs) ≡ rowsFrom s t base q
+      unfolding rowsFrom
+      after-line d =
+          let at = p .at .0 in
+          let h = heldIn (p .rest) in
+          let more = drop (line .chars) cs in
+          let at-is = next-at s t p c x is q n in
+          let start : base + q .at .0 ≡ base + at + size (take (line .chars) cs) = omega (arith, at-is, next-start s t at (p .rest)) in
+          let chars : charsFrom t (q .at .0) ≡ more = ap (charsFrom t) at-is ∙ next-chars s t at (p .rest) in
+          let held : heldIn (q .rest) ≡ line .held = ap heldIn (next-rest-is s t p c x is q n) ∙ next-held s t at (p .rest) in
+          rw (start, chars, held)
+          (rows-fuel (length cs) (suc (length more)) s (base + at + size (take (line .chars) cs)) (line .held) more
+          (line-rest s h cs (ready-rest .within) (ready-rest .counts)) (line-held s h cs (ready-rest .within) (ready-rest .counts))
+          (next-fewer s h cs (ready-rest .within) (ready-rest .counts) d (length cs) (omega arith)) (omega arith))
+
+      -- Any other is followed by those from the next stand on.
+      pub more-rows : x .last ≡ false → rowsFrom s t base p ≡ rowHere s t base p ∷ rowsFrom s t base q
+      unfolding lineFrom lineAtOf
+      more-rows h =
+          let d = goes-on s t p c x is h in
+          off-front
+          ∙ ap (λ (rs : List Row). rowHere s t base p ∷ rs)
+          (unless-cases (λ rs. rs ≡ rowsFrom s t base q) (line .ended) _ (λ e. absurd (d e)) after-line)
+
+-- At a text's front they are the lines that the characters there make.
+pub front-rows : (s : Settings) (t : List ℕ) (base : ℕ) (r : Resumed) (p : Stand) → StandsAt t textFront r p
+    → rowsFrom s t base p ≡ rowsBy (suc (length (charsFrom t 0))) s (base + 0) (heldIn r) (charsFrom t 0)
+unfolding rowsFrom
+front-rows s t base r p f = rw (f .at-is, f .rest-is)
 
 -- Where nothing stands before the text, the first of them is the line that the step answers.
-pub entry-here : (s : Settings) (t : List ℕ) (p : Stand) (x : LaidRow) → Step s t p x → x .entry ≡ rowHere s t 0 p .entry
+pub entry-here : (s : Settings) (t : List ℕ) (p : Stand) → StandReady s t p → (x : LaidRow) → x ≡ laidRow s t p → x .entry ≡ rowHere s t 0 p .entry
 unfolding rowHere rowAt lineFrom lineAtOf
-entry-here s t p x z =
+entry-here s t p c x is =
     let h = heldIn (p .rest) in
     let cs = charsFrom t (p .at .0) in
-    entry-is s t p x z ∙ ap (λ (n : ℕ). entryAt n h cs (layLine s h cs)) (sym (zero-add (p .at .0)))
+    entry-is s t p c x is ∙ ap (λ (n : ℕ). entryAt n h cs (layLine s h cs)) (sym (zero-add (p .at .0)))
 
 -- ---- their entries
 
@@ -134,33 +138,32 @@ entriesOf s t = map entryOfRow (rows s (charsFrom t 0))
 unfoldable pub entriesFrom : Settings → List ℕ → (base : ℕ) → Stand → List Entry
 entriesFrom s t base p = map entryOfRow (rowsFrom s t base p)
 
-pub all-entries : (s : Settings) (t : List ℕ) → entriesFrom s t 0 atStart ≡ entriesOf s t
-unfolding entriesOf entriesFrom rowsFrom rows
-all-entries s t = refl
+pub all-entries : (s : Settings) (t : List ℕ) (p : Stand) → StandsAt t textFront nothingResumed p → entriesFrom s t 0 p ≡ entriesOf s t
+unfolding entriesOf entriesFrom rows
+all-entries s t p f = ap (map entryOfRow) (front-rows s t 0 nothingResumed p f)
 
 -- The entries that the definitions of the call speak of.
 pub entries-are : (s : Settings) (t : List ℕ) → entriesOf s t ≡ textEntries s t
 unfolding entriesOf textEntries textRows charsFrom
 entries-are s t = refl
 
+-- At most one line more than bytes.
+pub few-entries : (s : Settings) (t : List ℕ) → length (entriesOf s t) ≤ length t + 1
+unfolding entriesOf
+few-entries s t =
+    let cs = charsFrom t 0 in
+    rw length-map (omega (arith, few-lines s cs, length-size cs, chars-within t 0))
+
 module _ (s : Settings) (t : List ℕ) (base : ℕ) (p : Stand) where
   pub some-entries : 1 ≤ length (entriesFrom s t base p)
   unfolding entriesFrom
-  some-entries = rw length-map (some-rows s t base p)
+  some-entries = rw length-map (first-row s t base p (λ rs. 1 ≤ length rs) (λ rs. omega arith))
 
-  few-from : length (entriesFrom s t base p) ≤ length t + 1
-  unfolding entriesFrom
-  few-from = rw length-map (few-rows s t base p)
-
-  module _ (x : LaidRow) (z : Step s t p x) (e : Entry) (is : e ≡ rowHere s t base p .entry) where
+  module _ (c : StandReady s t p) (x : LaidRow) (is : x ≡ laidRow s t p) (e : Entry) (e-is : e ≡ rowHere s t base p .entry) where
     pub last-entry : x .last ≡ true → entriesFrom s t base p ≡ e ∷ []
     unfolding entriesFrom
-    last-entry h = rw is (ap (map entryOfRow) (last-row s t base p x z h))
+    last-entry h = rw e-is (ap (map entryOfRow) (last-row s t base p c x is h))
 
-    pub more-entries : x .last ≡ false → entriesFrom s t base p ≡ e ∷ entriesFrom s t base (x .next)
+    pub more-entries : (q : Stand) → StandsAt t (x .next) (x .rest) q → x .last ≡ false → entriesFrom s t base p ≡ e ∷ entriesFrom s t base q
     unfolding entriesFrom
-    more-entries h = rw is (ap (map entryOfRow) (more-rows s t base p x z h))
-
--- At most one line more than bytes.
-pub few-entries : (s : Settings) (t : List ℕ) → length (entriesOf s t) ≤ length t + 1
-few-entries s t = omega (arith, ap length (all-entries s t), few-from s t 0 atStart)
+    more-entries q n h = rw e-is (ap (map entryOfRow) (more-rows s t base p c x is q n h))

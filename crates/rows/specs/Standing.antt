@@ -6,16 +6,16 @@ use mathlib.Core.Path.{_≡_, refl, sym, ap, _∙_}
 use mathlib.Core.Bool.{Bool, true, false, false≢true}
 use mathlib.Core.List.{List}
 use lib.ListN.{length}
+use Rattle.meaning.specs.Checks.{textLimit}
 use Rattle.meaning.specs.declared.settings.Settings.{Settings}
+use Rattle.meaning.specs.declared.counts.Offset.{Offset}
 use Rattle.meaning.specs.declared.line.LineEnd.{LineEnd}
 use Rattle.meaning.specs.declared.line.LineEnd.the-variants.{NewLine, CarriageReturn, EndOfText, LineBreak}
-use Rattle.steps.specs.Unrolled.{nothingResumed}
-use Rattle.steps.specs.Knowing.{KnownFits, nothingKnown}
+use Rattle.steps.specs.Knowing.{KnownFits}
 use Rattle.passes.specs.Laying.{LineReady}
 use Rattle.passes.specs.LineFrom.{lineFrom}
 use Rattle.passes.specs.LineLaws.{next-within, next-further, next-rest}
 use Rattle.steps.specs.declared.step.Resumed.{Resumed}
-use Rattle.steps.specs.declared.first.Known.{Known}
 use Rattle.passes.specs.declared.line.LineAt.{LineAt}
 use Rattle.rows.specs.declared.stand.Stand.{Stand}
 use Rattle.rows.specs.declared.stand.LaidRow.{LaidRow}
@@ -37,17 +37,23 @@ not-last e h q = false≢true (sym h ∙ ap isLast q)
 
 -- ---- stands
 
--- At a text's front, before a line that resumes a rest; and where nothing is resumed.
-abbrev pub atFront : Resumed → Stand
-atFront r = record { at = record { 0 = 0 }; rest = r; known = nothingKnown }
+-- Before the line at an offset, which resumes a rest: a word that is known there stands in the text.
+pub record StandsAt (t : List ℕ) (at : Offset) (r : Resumed) (p : Stand) : Type 0 where
+  pub at-is : p .at ≡ at
+  pub rest-is : p .rest ≡ r
+  pub known : KnownFits t (p .known)
 
-abbrev pub atStart : Stand
-atStart = atFront nothingResumed
+abbrev pub textFront : Offset
+textFront = record { 0 = 0 }
 
--- A line can be laid there, and a word that is known stands in the text.
+-- A line can be laid there.
 pub record StandReady (s : Settings) (t : List ℕ) (p : Stand) : Type 0 where
   pub line : LineReady s t (p .at .0) (p .rest)
   pub known : KnownFits t (p .known)
+
+pub stand-ready : (s : Settings) (t : List ℕ) (at : Offset) (r : Resumed) (p : Stand) → LineReady s t (at .0) r → StandsAt t at r p
+    → StandReady s t p
+stand-ready s t at r p c q = record { line = rw (q .at-is, q .rest-is) c; known = q .known }
 
 -- ---- the step
 
@@ -55,70 +61,74 @@ pub record StandReady (s : Settings) (t : List ℕ) (p : Stand) : Type 0 where
 abbrev pub lineAt : Settings → List ℕ → Stand → LineAt
 lineAt s t p = lineFrom s t (p .at .0) (p .rest)
 
--- The step, by which a word comes to be known.
-unfoldable pub laidRow : Settings → List ℕ → Stand → Known → LaidRow
-laidRow s t p k =
+-- The step: that line, whether it ends the text, and where the next one starts.
+unfoldable pub laidRow : Settings → List ℕ → Stand → LaidRow
+laidRow s t p =
     let l = lineAt s t p in
-    record { entry = l .entry; last = isLast (l .ended); next = record { at = l .next; rest = l .rest; known = k } }
+    record { entry = l .entry; last = isLast (l .ended); next = l .next; rest = l .rest }
 
 -- It is taken by laying the line.
-pub row-is : (s : Settings) (t : List ℕ) (p : Stand) (k : Known) (l : LineAt) (b : Bool) → l ≡ lineAt s t p → b ≡ isLast (l .ended)
-    → record { entry = l .entry; last = b; next = record { at = l .next; rest = l .rest; known = k } } ≡ laidRow s t p k
+pub row-is : (s : Settings) (t : List ℕ) (p : Stand) (l : LineAt) (b : Bool) → l ≡ lineAt s t p → b ≡ isLast (l .ended)
+    → record { entry = l .entry; last = b; next = l .next; rest = l .rest } ≡ laidRow s t p
 unfolding laidRow
-row-is s t p k l b e h =
+row-is s t p l b e h =
     let g = h ∙ ap (λ (x : LineAt). isLast (x .ended)) e in
-    λ i. record { entry = e i .entry; last = g i; next = record { at = e i .next; rest = e i .rest; known = k } }
+    λ i. record { entry = e i .entry; last = g i; next = e i .next; rest = e i .rest }
 
--- A step that was taken from a stand.
-pub record Step (s : Settings) (t : List ℕ) (p : Stand) (x : LaidRow) : Type 0 where
-  pub ready : StandReady s t p
-  pub is : x ≡ laidRow s t p (x .next .known)
-  pub known : KnownFits t (x .next .known)
+-- What standing on the next line takes for granted.
+pub record NextReady (t : List ℕ) (p : Stand) (x : LaidRow) : Type 0 where
+  pub short : length t ≤ textLimit
+  pub inside : x .next .0 ≤ length t
+  pub known : KnownFits t (p .known)
 
-pub stepped : (s : Settings) (t : List ℕ) (p : Stand) (x : LaidRow) → StandReady s t p
-    → (x ≡ laidRow s t p (x .next .known)) × KnownFits t (x .next .known) → Step s t p x
-stepped s t p x r e = record { ready = r; is = e .0; known = e .1 }
-
-module _ (s : Settings) (t : List ℕ) (p : Stand) (x : LaidRow) (z : Step s t p x) where
+module _ (s : Settings) (t : List ℕ) (p : Stand) (c : StandReady s t p) (x : LaidRow) (is : x ≡ laidRow s t p) where
   pub ends : x .last ≡ true → lineAt s t p .ended ≡ EndOfText
   unfolding laidRow
-  ends h = last-is (lineAt s t p .ended) (sym (ap (λ (y : LaidRow). y .last) (z .is)) ∙ h)
+  ends h = last-is (lineAt s t p .ended) (sym (ap (λ (y : LaidRow). y .last) is) ∙ h)
 
   pub goes-on : x .last ≡ false → lineAt s t p .ended ≡ EndOfText → ⊥
   unfolding laidRow
-  goes-on h = not-last (lineAt s t p .ended) (sym (ap (λ (y : LaidRow). y .last) (z .is)) ∙ h)
+  goes-on h = not-last (lineAt s t p .ended) (sym (ap (λ (y : LaidRow). y .last) is) ∙ h)
 
   pub entry-is : x .entry ≡ lineAt s t p .entry
   unfolding laidRow
-  entry-is = ap (λ (y : LaidRow). y .entry) (z .is)
+  entry-is = ap (λ (y : LaidRow). y .entry) is
 
-  pub next-at : x .next .at .0 ≡ lineAt s t p .next .0
+  next-is : x .next ≡ lineAt s t p .next
   unfolding laidRow
-  next-at = ap (λ (y : LaidRow). y .next .at .0) (z .is)
+  next-is = ap (λ (y : LaidRow). y .next) is
 
-  pub next-rest-is : x .next .rest ≡ lineAt s t p .rest
+  rest-is : x .rest ≡ lineAt s t p .rest
   unfolding laidRow
-  next-rest-is = ap (λ (y : LaidRow). y .next .rest) (z .is)
+  rest-is = ap (λ (y : LaidRow). y .rest) is
 
-  -- The next line can be laid.
-  pub ready-next : StandReady s t (x .next)
-  ready-next =
-      let c = z .ready .line in
+  ready-after : LineReady s t (lineAt s t p .next .0) (lineAt s t p .rest)
+  ready-after =
+      let l = c .line in
       record {
-        line =
-            rw (next-at, next-rest-is)
-            (record {
-              settings = c .settings;
-              short = c .short;
-              inside = next-within s t (p .at .0) (p .rest) (c .inside);
-              rest = next-rest s t (p .at .0) (p .rest) (c .rest);
-            });
-        known = z .known;
+        settings = l .settings;
+        short = l .short;
+        inside = next-within s t (p .at .0) (p .rest) (l .inside);
+        rest = next-rest s t (p .at .0) (p .rest) (l .rest);
       }
 
-  -- It starts further on, and within the text.
-  pub further : x .last ≡ false → p .at .0 < x .next .at .0
-  further h = omega (arith, next-at, next-further s t (p .at .0) (p .rest) (z .ready .line .rest) (goes-on h))
+  pub next-ready : NextReady t p x
+  next-ready = record { short = c .line .short; inside = rw next-is (ready-after .inside); known = c .known }
 
-  pub stays : x .next .at .0 ≤ length t
-  stays = ready-next .line .inside
+  -- A stand on the next line.
+  module _ (q : Stand) (n : StandsAt t (x .next) (x .rest) q) where
+    pub next-at : q .at .0 ≡ lineAt s t p .next .0
+    next-at = ap (λ (o : Offset). o .0) (n .at-is ∙ next-is)
+
+    pub next-rest-is : q .rest ≡ lineAt s t p .rest
+    next-rest-is = n .rest-is ∙ rest-is
+
+    pub ready-next : StandReady s t q
+    ready-next = record { line = rw (next-at, next-rest-is) ready-after; known = n .known }
+
+    -- It is further on, and within the text.
+    pub further : x .last ≡ false → p .at .0 < q .at .0
+    further h = omega (arith, next-at, next-further s t (p .at .0) (p .rest) (c .line .rest) (goes-on h))
+
+    pub stays : q .at .0 ≤ length t
+    stays = ready-next .line .inside

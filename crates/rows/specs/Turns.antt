@@ -13,9 +13,8 @@ use Rattle.meaning.specs.declared.line.Entry.{Entry}
 use Rattle.table.specs.Numbers.{putNumbers}
 use Rattle.steps.specs.Unrolled.{nothingResumed}
 use Rattle.steps.specs.Running.{none-fits}
-use Rattle.steps.specs.Knowing.{nothingKnown, nothing-fits}
-use Rattle.rows.specs.Standing.{atStart, StandReady, Step, ready-next}
-use Rattle.rows.specs.RowsFrom.{TextReady, entriesOf, entriesFrom, all-entries, entry-here, some-entries, few-entries, last-entry, more-entries}
+use Rattle.rows.specs.Standing.{StandsAt, textFront, StandReady, stand-ready, laidRow, ready-next}
+use Rattle.rows.specs.RowsFrom.{rowHere, TextReady, entriesOf, entriesFrom, all-entries, entry-here, some-entries, few-entries, last-entry, more-entries}
 use Rattle.rows.specs.Writing.{linesPut, none-put, first-put, all-put}
 use Rattle.rows.specs.declared.stand.Stand.{Stand}
 use Rattle.rows.specs.declared.stand.LaidRow.{LaidRow}
@@ -27,17 +26,13 @@ pub record Counted (s : Settings) (t : List ℕ) (n : ℕ) (p : Stand) : Type 0 
   pub ready : StandReady s t p
   pub left : n + length (entriesFrom s t 0 p) ≡ length (entriesOf s t)
 
-pub start-ready : (s : Settings) (t : List ℕ) (p : Stand) → TextReady s t → p ≡ atStart → StandReady s t p
-start-ready s t p h e =
-    rw e
-    (record {
-      line = record { settings = h .settings; short = h .short; inside = omega arith; rest = none-fits t 0 nothingResumed refl };
-      known = nothing-fits t nothingKnown refl;
-    })
+pub start-ready : (s : Settings) (t : List ℕ) (p : Stand) → TextReady s t → StandsAt t textFront nothingResumed p → StandReady s t p
+start-ready s t p h f =
+    stand-ready s t textFront nothingResumed p
+    (record { settings = h .settings; short = h .short; inside = omega arith; rest = none-fits t 0 nothingResumed refl }) f
 
-pub count-start : (s : Settings) (t : List ℕ) (p : Stand) → TextReady s t → p ≡ atStart → Counted s t 0 p
-count-start s t p h e =
-    record { ready = start-ready s t p h e; left = rw e (omega (arith, ap length (all-entries s t))) }
+pub count-start : (s : Settings) (t : List ℕ) (p : Stand) → TextReady s t → StandsAt t textFront nothingResumed p → Counted s t 0 p
+count-start s t p h f = record { ready = start-ready s t p h f; left = omega (arith, ap length (all-entries s t p f)) }
 
 module _ (s : Settings) (t : List ℕ) (n : ℕ) (p : Stand) (c : Counted s t n p) where
   -- There is a next line.
@@ -48,15 +43,18 @@ module _ (s : Settings) (t : List ℕ) (n : ℕ) (p : Stand) (c : Counted s t n 
   pub count-low : n ≤ textLimit
   count-low = omega (arith, one-left, few-entries s t, c .ready .line .short)
 
-  module _ (x : LaidRow) (z : Step s t p x) where
-    pub count-last : x .last ≡ true → n + 1 ≡ length (entriesOf s t)
-    count-last h = omega (arith, c .left, ap length (last-entry s t 0 p x z (x .entry) (entry-here s t p x z) h))
+  module _ (x : LaidRow) (is : x ≡ laidRow s t p) where
+    abbrev here : x .entry ≡ rowHere s t 0 p .entry
+    here = entry-here s t p (c .ready) x is
 
-    pub count-more : x .last ≡ false → Counted s t (n + 1) (x .next)
-    count-more h =
+    pub count-last : x .last ≡ true → n + 1 ≡ length (entriesOf s t)
+    count-last h = omega (arith, c .left, ap length (last-entry s t 0 p (c .ready) x is (x .entry) here h))
+
+    pub count-more : (q : Stand) → StandsAt t (x .next) (x .rest) q → x .last ≡ false → Counted s t (n + 1) q
+    count-more q on h =
         record {
-          ready = ready-next s t p x z;
-          left = omega (arith, c .left, ap length (more-entries s t 0 p x z (x .entry) (entry-here s t p x z) h));
+          ready = ready-next s t p (c .ready) x is q on;
+          left = omega (arith, c .left, ap length (more-entries s t 0 p (c .ready) x is (x .entry) here q on h));
         }
 
 -- ---- writing
@@ -67,9 +65,9 @@ pub record Wrote (s : Settings) (t t₀ u : List ℕ) (n : ℕ) (p : Stand) : Ty
   pub same : length u ≡ length t₀
   pub left : linesPut u n (entriesFrom s t 0 p) ≡ written t₀ (ofAll ofEntry (entriesOf s t))
 
-pub write-start : (s : Settings) (t t₀ : List ℕ) (p : Stand) → TextReady s t → p ≡ atStart → Wrote s t t₀ t₀ 0 p
-write-start s t t₀ p h e =
-    record { counted = count-start s t p h e; same = refl; left = rw (e, all-entries s t) (all-put t₀ (entriesOf s t)) }
+pub write-start : (s : Settings) (t t₀ : List ℕ) (p : Stand) → TextReady s t → StandsAt t textFront nothingResumed p → Wrote s t t₀ t₀ 0 p
+write-start s t t₀ p h f =
+    record { counted = count-start s t p h f; same = refl; left = rw (all-entries s t p f) (all-put t₀ (entriesOf s t)) }
 
 module _ (s : Settings) (t t₀ u : List ℕ) (n : ℕ) (p : Stand) (w : Wrote s t t₀ u n p) (room : entryNumbers * length (entriesOf s t) ≤ length t₀) where
   -- There is a next line, so the table has room for it.
@@ -77,7 +75,7 @@ module _ (s : Settings) (t t₀ u : List ℕ) (n : ℕ) (p : Stand) (w : Wrote s
   room-left = omega (arith, w .same, one-left s t n p (w .counted))
 
   -- It is laid, and written too.
-  module _ (x : LaidRow) (z : Step s t p x) (v : List ℕ) (put : v ≡ putNumbers u (entryNumbers * n) (ofEntry (x .entry))) (kept : length v ≡ length u) where
+  module _ (x : LaidRow) (is : x ≡ laidRow s t p) (v : List ℕ) (put : v ≡ putNumbers u (entryNumbers * n) (ofEntry (x .entry))) (kept : length v ≡ length u) where
     one-put : (es : List Entry) → entriesFrom s t 0 p ≡ x .entry ∷ es → linesPut v (n + 1) es ≡ written t₀ (ofAll ofEntry (entriesOf s t))
     one-put es f =
         ap (λ (y : List ℕ). linesPut y (n + 1) es) put
@@ -85,13 +83,16 @@ module _ (s : Settings) (t t₀ u : List ℕ) (n : ℕ) (p : Stand) (w : Wrote s
         ∙ ap (linesPut u n) (sym f)
         ∙ w .left
 
-    pub write-last : x .last ≡ true → v ≡ written t₀ (ofAll ofEntry (entriesOf s t))
-    write-last h = sym (none-put v (n + 1)) ∙ one-put [] (last-entry s t 0 p x z (x .entry) (entry-here s t p x z) h)
+    abbrev c : Counted s t n p
+    c = w .counted
 
-    pub write-next : x .last ≡ false → Wrote s t t₀ v (n + 1) (x .next)
-    write-next h =
+    pub write-last : x .last ≡ true → v ≡ written t₀ (ofAll ofEntry (entriesOf s t))
+    write-last h = sym (none-put v (n + 1)) ∙ one-put [] (last-entry s t 0 p (c .ready) x is (x .entry) (here s t n p c x is) h)
+
+    pub write-next : (q : Stand) → StandsAt t (x .next) (x .rest) q → x .last ≡ false → Wrote s t t₀ v (n + 1) q
+    write-next q on h =
         record {
-          counted = count-more s t n p (w .counted) x z h;
+          counted = count-more s t n p c x is q on h;
           same = kept ∙ w .same;
-          left = one-put (entriesFrom s t 0 (x .next)) (more-entries s t 0 p x z (x .entry) (entry-here s t p x z) h);
+          left = one-put (entriesFrom s t 0 q) (more-entries s t 0 p (c .ready) x is (x .entry) (here s t n p c x is) q on h);
         }

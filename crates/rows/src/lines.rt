@@ -1,6 +1,7 @@
 // The lines of a text, one after the other: counted, and written to a table (rule 10).
 use crate::stand::at_start;
 use crate::stand::lay_row;
+use crate::stand::next_stand;
 use meaning::settings::Settings;
 use table::entries::write_entry;
 ghost use Prim.Native.Nat.{_*_, _≤_};
@@ -15,15 +16,14 @@ pub fn count_lines(text: &[u8], s: Settings) -> usize
     ensures { λ r. ⌜ r ≡ length (entriesOf s (now (text .entry))) ⌝ }
 {
     let mut n: usize = 0;
-    let mut stand = at_start();
+    let mut stand = at_start(text);
     loop {
         let row = lay_row(text, s, stand);
         n += 1;
         if row.last {
             return n;
         }
-        let next = row.next;
-        stand = next;
+        stand = next_stand(text, stand, row);
     }
 }
 
@@ -35,7 +35,7 @@ pub fn write_lines(text: &[u8], s: Settings, table: &mut [u32]) -> usize
     ensures { λ r. ⌜ now (table .exit) ≡ written (now (table .entry)) (ofAll ofEntry (entriesOf s (now (text .entry)))) ⌝ }
 {
     let mut n: usize = 0;
-    let mut stand = at_start();
+    let mut stand = at_start(text);
     loop {
         let row = lay_row(text, s, stand);
         let entry = row.entry;
@@ -44,7 +44,6 @@ pub fn write_lines(text: &[u8], s: Settings, table: &mut [u32]) -> usize
         if row.last {
             return n;
         }
-        let next = row.next;
-        stand = next;
+        stand = next_stand(text, stand, row);
     }
 }

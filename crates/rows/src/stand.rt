@@ -9,42 +9,52 @@ use steps::first::Known;
 use steps::first::known_from;
 use steps::first::nothing_known;
 use steps::step::Resumed;
+ghost use Prim.Native.Nat.{_≤_};
 ghost use mathlib.Core.Path.{_≡_};
+ghost use lib.ListN.{length};
+ghost use Rattle.meaning.specs.Checks.{textLimit};
 ghost use Rattle.steps.specs.Knowing.{KnownFits};
-ghost use Rattle.rows.specs.Standing.{isLast, atFront, atStart, StandReady, laidRow};
+ghost use Rattle.steps.specs.Unrolled.{nothingResumed};
+ghost use Rattle.rows.specs.Standing.{isLast, textFront, StandsAt, StandReady, laidRow, NextReady};
 
-// Where a line is to be laid: its offset, the rest that it resumes, and a word that may be known from the line before.
+// Where a line is to be laid: its offset, the rest that it resumes, and a word that may be known there.
 pub struct Stand {
     pub at: Offset,
     pub rest: Resumed,
     pub known: Known,
 }
 
-// A line that is laid: its entry, whether it ends the text, and where the next one is to be laid. The word that is known there is the
-// one that this line was laid with.
+// A line that is laid: its entry, whether it ends the text, where the next line starts and what that one resumes.
 pub struct LaidRow {
     pub entry: Entry,
     pub last: bool,
-    pub next: Stand,
+    pub next: Offset,
+    pub rest: Resumed,
+}
+
+// Before the line at an offset, which resumes a rest, where a word may be known from the line before.
+fn stand_at(text: &[u8], at: Offset, rest: Resumed, before: Known) -> Stand
+    requires { ⌜ (length (now text) ≤ textLimit) × (at .0 ≤ length (now text)) × KnownFits (now text) before ⌝ }
+    ensures { λ r. ⌜ StandsAt (now (text .entry)) at rest r ⌝ }
+{
+    let known = known_from(text, at.0 as usize, rest, before);
+    Stand { at, rest, known }
 }
 
 // At a text's front, before a line that resumes a rest.
-pub fn at_front(rest: Resumed) -> Stand
-    ensures { λ r. ⌜ r ≡ atFront rest ⌝ }
+pub fn at_front(text: &[u8], rest: Resumed) -> Stand
+    requires { ⌜ length (now text) ≤ textLimit ⌝ }
+    ensures { λ r. ⌜ StandsAt (now (text .entry)) textFront rest r ⌝ }
 {
-    let known = nothing_known();
-    Stand {
-        at: Offset(0),
-        rest,
-        known,
-    }
+    stand_at(text, Offset(0), rest, nothing_known())
 }
 
 // At a text's front, where nothing is resumed.
-pub fn at_start() -> Stand
-    ensures { λ r. ⌜ r ≡ atStart ⌝ }
+pub fn at_start(text: &[u8]) -> Stand
+    requires { ⌜ length (now text) ≤ textLimit ⌝ }
+    ensures { λ r. ⌜ StandsAt (now (text .entry)) textFront nothingResumed r ⌝ }
 {
-    at_front(nothing_left())
+    at_front(text, nothing_left())
 }
 
 // Nothing follows the line that ends the text.
@@ -59,26 +69,35 @@ fn is_last(ended: LineEnd) -> bool
     }
 }
 
-// The line at a stand, and the stand of the next.
+// The line at a stand.
 pub fn lay_row(text: &[u8], s: Settings, stand: Stand) -> LaidRow
     requires { ⌜ StandReady s (now text) stand ⌝ }
-    ensures { λ r. ⌜ r ≡ laidRow s (now (text .entry)) stand (r .next .known) ⌝ }
-    ensures { λ r. ⌜ KnownFits (now (text .entry)) (r .next .known) ⌝ }
+    ensures { λ r. ⌜ r ≡ laidRow s (now (text .entry)) stand ⌝ }
 {
     let at = stand.at.0 as usize;
-    let rest = stand.rest;
-    let word = stand.known;
-    let known = known_from(text, at, rest, word);
-    let line = lay_line(text, s, at, rest, known);
+    let held = stand.rest;
+    let known = stand.known;
+    let line = lay_line(text, s, at, held, known);
     let entry = line.entry;
     let ended = line.ended;
     let last = is_last(ended);
-    let after = line.next;
-    let held = line.rest;
-    let next = Stand {
-        at: after,
-        rest: held,
-        known,
-    };
-    LaidRow { entry, last, next }
+    let next = line.next;
+    let rest = line.rest;
+    LaidRow {
+        entry,
+        last,
+        next,
+        rest,
+    }
+}
+
+// Where the line after it is to be laid. Two functions and not one: an answer with the known word in it would go through memory twice.
+pub fn next_stand(text: &[u8], stand: Stand, row: LaidRow) -> Stand
+    requires { ⌜ NextReady (now text) stand row ⌝ }
+    ensures { λ r. ⌜ StandsAt (now (text .entry)) (row .next) (row .rest) r ⌝ }
+{
+    let next = row.next;
+    let rest = row.rest;
+    let known = stand.known;
+    stand_at(text, next, rest, known)
 }

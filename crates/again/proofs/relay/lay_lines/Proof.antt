@@ -2,8 +2,10 @@
 -- Assumes nothing.
 use Rattle.again.specs.Relaying.{Sought, kept-within, counts-low, no-room, movable, write-ready, relaid-whole}
 use native.Mathlib.Omega.{arith}
-use mathlib.Core.Path.{ap, _∙_}
-use Rattle.rows.specs.Standing.{atFront}
+use mathlib.Core.Path.{_∙_}
+use Rattle.unicode.specs.Decoding.{decodeAll}
+use Rattle.rows.specs.Standing.{StandsAt, textFront}
+use Rattle.again.specs.HeldRest.{resumedOf}
 use Rattle.table.specs.GoodTable.{table-room}
 use Rattle.again.specs.GoodRelay.{all-good, is-affected, short-part, rest-good, find-ready}
 use borrow.Author.Needs.{needs}
@@ -24,16 +26,26 @@ held-of-requires c κs =
     (g .utf8, rest-good _ _ _ _ _ g _ first _ (c .read-entry .ensures), short-part _ _ _ _ _ g _ first)
 
 at-front-requires : tie.Need-at-front-requires
-at-front-requires c κs = search needs
+at-front-requires c κs =
+    let start = c .before .before .before .before .before in
+    short-part _ _ _ _ _ (all-good _ _ _ _ _ (start .pre .0)) _ (start .pre .1)
+
+-- Where laying starts.
+stands : (f : tie.After-at-front) →
+    let h = f .before in
+    let e = h .before in
+    let a = e .before .before .before .before .args in
+    StandsAt (a .part .now) textFront (resumedOf (e .read-entry .result) (decodeAll (a .part .now))) (f .at-front .result)
+stands f =
+    let p = f .at-front .ensures in
+    record { at-is = p .at-is; rest-is = p .rest-is ∙ f .before .held-of .ensures; known = p .known }
 
 find-stop-requires : tie.Need-find-stop-requires
 find-stop-requires c κs =
     let f = c .before .before in
-    let h = f .before in
-    let e = h .before in
+    let e = f .before .before in
     let start = e .before .before .before .before in
-    find-ready _ _ _ _ _ (all-good _ _ _ _ _ (start .pre .0)) _ (start .pre .1) _ (e .read-entry .ensures) _
-    (f .at-front .ensures ∙ ap atFront (h .held-of .ensures))
+    find-ready _ _ _ _ _ (all-good _ _ _ _ _ (start .pre .0)) _ (start .pre .1) _ (e .read-entry .ensures) _ (stands f)
 
 -- What is known once laying has found where it stops.
 sought : (f : tie.After-find-stop) →
@@ -44,14 +56,13 @@ sought : (f : tie.After-find-stop) →
     (f .find-stop .result)
 sought f =
     let p = f .before .before .before in
-    let h = p .before in
-    let e = h .before in
+    let e = p .before .before in
     let start = e .before .before .before .before in
     record {
       good = start .pre .0;
       first = start .pre .1;
       entry = e .read-entry .ensures;
-      stand = p .at-front .ensures ∙ ap atFront (h .held-of .ensures);
+      stand = stands p;
       finds = f .find-stop .ensures;
     }
 

@@ -4,7 +4,7 @@ use Prim.Native.Nat.{_-_}
 use native.Mathlib.Omega.{arith}
 use mathlib.Core.Path.{sym, _∙_}
 use lib.ListN.{length}
-use Rattle.rows.specs.Standing.{stepped, further, stays}
+use Rattle.rows.specs.Standing.{next-ready, further, stays}
 use Rattle.again.specs.Seeking.{Seeking, rest-low, seek-start, seek-low, stops, finds-last, seeks-on}
 use Rattle.again.proofs.stop.find_stop.Statement.{statement}
 use Rattle.again.proofs.stop.find_stop.Tie as tie
@@ -60,16 +60,20 @@ returns-2 c =
     let m = e .before in
     let k = passed m in
     let l = turn k in
-    let i = l .loop .inv in
-    finds-last _ _ _ _ _ _ _ _ _ _ _ i (k .skip-before .ensures) _ (m .before .rest-behind .ensures)
-    (sym (m .meets-first .ensures) ∙ e .if1 .left) (l .before .before .before .pre .rising) _ (stepped _ _ _ _ (i .ready) (r .lay-row .ensures))
-    (c .if2 .taken)
+    finds-last _ _ _ _ _ _ _ _ _ _ _ (l .loop .inv) (k .skip-before .ensures) _ (m .before .rest-behind .ensures)
+    (sym (m .meets-first .ensures) ∙ e .if1 .left) (l .before .before .before .pre .rising) _ (r .lay-row .ensures) (c .if2 .taken)
+
+next-stand-requires : tie.Need-next-stand-requires Inv-loop μ-loop
+next-stand-requires c κs =
+    let r = c .before in
+    next-ready _ _ _ (turn (passed (r .before .before)) .loop .inv .ready) _ (r .lay-row .ensures)
 
 loop-less : tie.Need-loop-less Inv-loop μ-loop
 loop-less c =
     let r = c .before .before in
-    let z = stepped _ _ _ _ (turn (passed (r .before .before)) .loop .inv .ready) (r .lay-row .ensures) in
-    omega (arith, further _ _ _ _ z (c .before .if2 .left), stays _ _ _ _ z)
+    let i = turn (passed (r .before .before)) .loop .inv .ready in
+    let is = r .lay-row .ensures in
+    omega (arith, further _ _ _ i _ is _ (c .next-stand .ensures) (c .before .if2 .left), stays _ _ _ i _ is _ (c .next-stand .ensures))
 
 loop-again : tie.Need-loop-again Inv-loop μ-loop
 loop-again c =
@@ -79,9 +83,8 @@ loop-again c =
     let m = e .before in
     let k = passed m in
     let l = turn k in
-    let i = l .loop .inv in
-    seeks-on _ _ _ _ _ _ _ _ _ _ _ i (k .skip-before .ensures) _ (m .before .rest-behind .ensures)
-    (sym (m .meets-first .ensures) ∙ e .if1 .left) (l .before .before .before .pre .rising) _ (stepped _ _ _ _ (i .ready) (r .lay-row .ensures))
+    seeks-on _ _ _ _ _ _ _ _ _ _ _ (l .loop .inv) (k .skip-before .ensures) _ (m .before .rest-behind .ensures)
+    (sym (m .meets-first .ensures) ∙ e .if1 .left) (l .before .before .before .pre .rising) _ (r .lay-row .ensures) _ (c .next-stand .ensures)
     (on .if2 .left)
 
 pub find-stop-spec : {M : Type 1} → statement M
@@ -99,5 +102,6 @@ find-stop-spec =
     lay-row-requires
     add-n
     returns-2
+    next-stand-requires
     loop-less
     loop-again)

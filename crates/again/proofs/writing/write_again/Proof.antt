@@ -2,7 +2,7 @@
 -- Assumes nothing.
 use Prim.Native.Nat.{_-_}
 use native.Mathlib.Omega.{arith}
-use Rattle.rows.specs.Standing.{stepped}
+use Rattle.rows.specs.Standing.{next-ready}
 use Rattle.again.specs.Writing.{Wrote, write-start, write-end, line-movable, write-next}
 use borrow.Author.Needs.{needs}
 use Rattle.again.proofs.writing.write_again.Statement.{statement}
@@ -25,7 +25,7 @@ entry-behind-requires c κs =
     let r = c .before in
     let l = r .before .before in
     let i = l .loop .inv in
-    (l .before .before .before .pre .low, line-movable _ _ _ _ _ _ _ _ _ _ i _ (stepped _ _ _ _ (i .ready) (r .lay-row .ensures)))
+    (l .before .before .before .pre .low, line-movable _ _ _ _ _ _ _ _ _ _ i _ (r .lay-row .ensures))
 
 -- The line is one of those that the table has room for.
 add-write-entry : tie.Need-add-write-entry Inv-loop μ-loop
@@ -46,6 +46,11 @@ add-n c =
     let start = i .before .before .before .before in
     omega (arith, i .loop-test .taken, start .pre .room, start .good .1 .1 .0 .0)
 
+next-stand-requires : tie.Need-next-stand-requires Inv-loop μ-loop
+next-stand-requires c κs =
+    let r = c .before .before .before .before .before .before in
+    next-ready _ _ _ (r .before .before .loop .inv .ready) _ (r .lay-row .ensures)
+
 loop-less : tie.Need-loop-less Inv-loop μ-loop
 loop-less c = search needs
 
@@ -57,9 +62,9 @@ loop-again c =
     let i = r .before in
     let l = i .before in
     let v = l .loop .inv in
-    write-next _ _ _ _ _ _ _ _ _ _ v _ (stepped _ _ _ _ (v .ready) (r .lay-row .ensures)) (i .loop-test .taken)
+    write-next _ _ _ _ _ _ _ _ _ _ v _ (r .lay-row .ensures) (i .loop-test .taken)
     (omega (arith, i .loop-test .taken, l .before .before .before .pre .room, v .same)) _ (b .entry-behind .ensures) _ (w .write-entry .ensures)
-    (w .write-entry .kept .0)
+    (w .write-entry .kept .0) _ (c .next-stand .ensures)
 
 same-length : tie.Need-same-length Inv-loop μ-loop
 same-length c = c .before .loop .inv .same
@@ -79,6 +84,7 @@ write-again-spec =
     add-write-entry
     write-entry-requires
     add-n
+    next-stand-requires
     loop-less
     loop-again
     same-length

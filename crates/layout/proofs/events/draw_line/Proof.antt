@@ -18,7 +18,7 @@ draw-pass-requires : tie.Need-draw-pass-requires
 draw-pass-requires c κs =
     let p = c .before .before .before .before in
     let a = p .before .before .before .before .before .before in
-    (place-room (a .args .s) (a .args .text .now) (a .args .stand) (a .args .row .entry) _ (p .start-place .ensures) (a .args .k) (a .pre .room), a .pre .known)
+    (place-room (a .args .s) (a .args .text .now) (a .args .stand) (a .args .e) _ (p .start-place .ensures) (a .args .k) (a .pre .room), a .pre .known)
 
 same-length : tie.Need-same-length
 same-length c = search needs
@@ -28,8 +28,8 @@ returns c =
     let d = c .before .before in
     let p = d .before .before .before .before .before in
     let a = p .before .before .before .before .before .before .args in
-    let es = place-events (a .s) (a .text .now) (a .stand) (a .row .entry) _ (p .start-place .ensures) in
-    let n = place-length (a .s) (a .text .now) (a .stand) (a .row .entry) _ (p .start-place .ensures) in
+    let es = place-events (a .s) (a .text .now) (a .stand) (a .e) _ (p .start-place .ensures) in
+    let n = place-length (a .s) (a .text .now) (a .stand) (a .e) _ (p .start-place .ensures) in
     (d .draw-pass .ensures .0 ∙ ap (putEvents (a .events .now) (a .k)) es, d .draw-pass .ensures .1 ∙ ap (λ (m : ℕ). a .k + m) n)
 
 pub draw-line-spec : {M : Type 1} → statement M

@@ -5,8 +5,7 @@ use Prim.Native.Nat.{_-_}
 use native.Mathlib.Omega.{arith}
 use mathlib.Core.Path.{_∙_}
 use lib.ListN.{length}
-use borrow.Author.Needs.{needs}
-use Rattle.rows.specs.Standing.{stepped, further, stays}
+use Rattle.rows.specs.Standing.{next-ready, further, stays}
 use Rattle.rows.specs.Turns.{Wrote, write-start, room-left, count-low, count-last, write-last, write-next}
 use Rattle.layout.specs.DrawTurns.{Drew, draw-start, draw-ready, draw-last, draw-next}
 use Rattle.layout.proofs.events.write_and_draw.Statement.{statement}
@@ -30,7 +29,7 @@ abbrev laid : Drawn → tie.After-lay-row Inv-loop μ-loop
 laid c = written c .before .before .before
 
 at-start-requires : tie.Need-at-start-requires Inv-loop μ-loop
-at-start-requires c κs = search needs
+at-start-requires c κs = c .before .before .before .pre .0 .short
 
 loop-holds : tie.Need-loop-holds Inv-loop μ-loop
 loop-holds c =
@@ -51,8 +50,7 @@ add-lines c = omega (arith, count-low _ _ _ _ (c .before .before .before .before
 draw-line-requires : tie.Need-draw-line-requires Inv-loop μ-loop
 draw-line-requires c κs =
     let r = c .before .before .before .before .before .before in
-    let i = r .before .loop .inv .1 in
-    draw-ready _ _ _ _ _ _ i _ (stepped _ _ _ _ (i .ready) (r .lay-row .ensures))
+    draw-ready _ _ _ _ _ _ (r .before .loop .inv .1) _ (r .lay-row .ensures)
 
 same-length : tie.Need-same-length Inv-loop μ-loop
 same-length c = let d = c .before .before .before in written d .write-entry .kept .0 ∙ laid d .before .loop .inv .0 .same
@@ -68,17 +66,23 @@ returns c =
     let l = r .before in
     let i = l .loop .inv in
     let h = c .if1 .taken in
-    let z = stepped _ _ _ _ (i .1 .ready) (r .lay-row .ensures) in
-    let drew = draw-last _ _ _ _ _ _ (i .1) _ z _ _ (d .draw-line .ensures .0) (d .draw-line .ensures .1) (d .draw-line .kept .1 .1 .1 .1 .0) h in
-    let wrote = write-last _ _ _ _ _ _ (i .0) (l .before .before .before .before .before .pre .1) _ z _ (w .write-entry .ensures) (w .write-entry .kept .0) h in
-    (count-last _ _ _ _ (i .0 .counted) _ z h, (drew .0, (wrote, drew .1)))
+    let is = r .lay-row .ensures in
+    let drew = draw-last _ _ _ _ _ _ (i .1) _ is _ _ (d .draw-line .ensures .0) (d .draw-line .ensures .1) (d .draw-line .kept .1 .1 .1 .1 .0) h in
+    let wrote = write-last _ _ _ _ _ _ (i .0) (l .before .before .before .before .before .pre .1) _ is _ (w .write-entry .ensures) (w .write-entry .kept .0) h in
+    (count-last _ _ _ _ (i .0 .counted) _ is h, (drew .0, (wrote, drew .1)))
+
+next-stand-requires : tie.Need-next-stand-requires Inv-loop μ-loop
+next-stand-requires c κs =
+    let r = laid (c .before .before .before) in
+    next-ready _ _ _ (r .before .loop .inv .1 .ready) _ (r .lay-row .ensures)
 
 loop-less : tie.Need-loop-less Inv-loop μ-loop
 loop-less c =
     let e = c .before in
     let r = laid (e .before .before .before) in
-    let z = stepped _ _ _ _ (r .before .loop .inv .1 .ready) (r .lay-row .ensures) in
-    omega (arith, further _ _ _ _ z (e .if1 .left), stays _ _ _ _ z)
+    let i = r .before .loop .inv .1 .ready in
+    let is = r .lay-row .ensures in
+    omega (arith, further _ _ _ i _ is _ (c .next-stand .ensures) (e .if1 .left), stays _ _ _ i _ is _ (c .next-stand .ensures))
 
 loop-again : tie.Need-loop-again Inv-loop μ-loop
 loop-again c =
@@ -88,10 +92,12 @@ loop-again c =
     let r = laid d in
     let l = r .before in
     let i = l .loop .inv in
-    let h = e .if1 .left in
-    let z = stepped _ _ _ _ (i .1 .ready) (r .lay-row .ensures) in (
-      write-next _ _ _ _ _ _ (i .0) (l .before .before .before .before .before .pre .1) _ z _ (w .write-entry .ensures) (w .write-entry .kept .0) h,
-      draw-next _ _ _ _ _ _ (i .1) _ z _ _ (d .draw-line .ensures .0) (d .draw-line .ensures .1) (d .draw-line .kept .1 .1 .1 .1 .0) h,
+    let is = r .lay-row .ensures in
+    let on = c .next-stand .ensures in (
+      write-next _ _ _ _ _ _ (i .0) (l .before .before .before .before .before .pre .1) _ is _ (w .write-entry .ensures) (w .write-entry .kept .0) _ on
+          (e .if1 .left),
+      draw-next _ _ _ _ _ _ (i .1) _ is _ _ (d .draw-line .ensures .0) (d .draw-line .ensures .1) (d .draw-line .kept .1 .1 .1 .1 .0) _ on
+          (e .if1 .left),
     )
 
 pub write-and-draw-spec : {M : Type 1} → statement M
@@ -109,5 +115,6 @@ write-and-draw-spec =
     same-length
     same-length-2
     returns
+    next-stand-requires
     loop-less
     loop-again)

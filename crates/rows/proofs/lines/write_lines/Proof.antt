@@ -4,8 +4,7 @@ use Prim.Native.Nat.{_-_}
 use native.Mathlib.Omega.{arith}
 use mathlib.Core.Path.{_∙_}
 use lib.ListN.{length}
-use borrow.Author.Needs.{needs}
-use Rattle.rows.specs.Standing.{stepped, further, stays}
+use Rattle.rows.specs.Standing.{next-ready, further, stays}
 use Rattle.rows.specs.Turns.{Wrote, write-start, room-left, count-low, count-last, write-last, write-next}
 use Rattle.rows.proofs.lines.write_lines.Statement.{statement}
 use Rattle.rows.proofs.lines.write_lines.Tie as tie
@@ -17,7 +16,7 @@ abbrev μ-loop : tie.MeasureT-loop
 μ-loop text s table₀ n₀ stand₀ table n stand = length text - stand .at .0
 
 at-start-requires : tie.Need-at-start-requires Inv-loop μ-loop
-at-start-requires c κs = search needs
+at-start-requires c κs = c .before .before .pre .0 .short
 
 loop-holds : tie.Need-loop-holds Inv-loop μ-loop
 loop-holds c = write-start _ _ _ _ (c .before .before .before .pre .0) (c .at-start .ensures)
@@ -42,16 +41,22 @@ returns c =
     let r = w .before .before .before in
     let l = r .before in
     let i = l .loop .inv in
-    let z = stepped _ _ _ _ (i .counted .ready) (r .lay-row .ensures) in (
-      count-last _ _ _ _ (i .counted) _ z (c .if1 .taken),
-      write-last _ _ _ _ _ _ i (l .before .before .before .before .pre .1) _ z _ (w .write-entry .ensures) (w .write-entry .kept .0) (c .if1 .taken),
+    let is = r .lay-row .ensures in (
+      count-last _ _ _ _ (i .counted) _ is (c .if1 .taken),
+      write-last _ _ _ _ _ _ i (l .before .before .before .before .pre .1) _ is _ (w .write-entry .ensures) (w .write-entry .kept .0) (c .if1 .taken),
     )
+
+next-stand-requires : tie.Need-next-stand-requires Inv-loop μ-loop
+next-stand-requires c κs =
+    let r = c .before .before .before .before .before .before in
+    next-ready _ _ _ (r .before .loop .inv .counted .ready) _ (r .lay-row .ensures)
 
 loop-less : tie.Need-loop-less Inv-loop μ-loop
 loop-less c =
     let r = c .before .before .before .before .before .before .before in
-    let z = stepped _ _ _ _ (r .before .loop .inv .counted .ready) (r .lay-row .ensures) in
-    omega (arith, further _ _ _ _ z (c .before .if1 .left), stays _ _ _ _ z)
+    let i = r .before .loop .inv .counted .ready in
+    let is = r .lay-row .ensures in
+    omega (arith, further _ _ _ i _ is _ (c .next-stand .ensures) (c .before .if1 .left), stays _ _ _ i _ is _ (c .next-stand .ensures))
 
 loop-again : tie.Need-loop-again Inv-loop μ-loop
 loop-again c =
@@ -59,9 +64,8 @@ loop-again c =
     let w = e .before .before .before in
     let r = w .before .before .before in
     let l = r .before in
-    let i = l .loop .inv in
-    let z = stepped _ _ _ _ (i .counted .ready) (r .lay-row .ensures) in
-    write-next _ _ _ _ _ _ i (l .before .before .before .before .pre .1) _ z _ (w .write-entry .ensures) (w .write-entry .kept .0) (e .if1 .left)
+    write-next _ _ _ _ _ _ (l .loop .inv) (l .before .before .before .before .pre .1) _ (r .lay-row .ensures) _ (w .write-entry .ensures)
+    (w .write-entry .kept .0) _ (c .next-stand .ensures) (e .if1 .left)
 
 pub write-lines-spec : {M : Type 1} → statement M
 write-lines-spec =
@@ -76,5 +80,6 @@ write-lines-spec =
     add-n
     same-length
     returns
+    next-stand-requires
     loop-less
     loop-again)

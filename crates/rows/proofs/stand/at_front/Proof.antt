@@ -1,5 +1,7 @@
 -- `rows::stand::at_front` meets its contract (rule 10).
 -- Assumes nothing.
+use native.Mathlib.Omega.{arith}
+use Rattle.steps.specs.Knowing.{nothing-fits}
 use borrow.Author.Needs.{needs}
 use Rattle.rows.proofs.stand.at_front.Statement.{statement}
 use Rattle.rows.proofs.stand.at_front.Tie as tie
@@ -7,10 +9,11 @@ use Rattle.rows.proofs.stand.at_front.Tie as tie
 nothing-known-requires : tie.Need-nothing-known-requires
 nothing-known-requires c κs = search needs
 
+stand-at-requires : tie.Need-stand-at-requires
+stand-at-requires c κs = (c .before .before .pre, omega arith, nothing-fits _ _ (c .nothing-known .ensures))
+
 returns : tie.Need-returns
-returns c =
-    let k = c .nothing-known .ensures in
-    λ i. record { at = record { 0 = 0 }; rest = c .before .args .rest; known = k i }
+returns c = c .stand-at .ensures
 
 pub at-front-spec : {M : Type 1} → statement M
-at-front-spec = tie.close (tie.spec nothing-known-requires returns)
+at-front-spec = tie.close (tie.spec nothing-known-requires stand-at-requires returns)

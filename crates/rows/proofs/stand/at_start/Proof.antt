@@ -1,7 +1,6 @@
 -- `rows::stand::at_start` meets its contract (rule 10).
 -- Assumes nothing.
-use mathlib.Core.Path.{ap, _∙_}
-use Rattle.rows.specs.Standing.{atFront}
+use mathlib.Core.Path.{_∙_}
 use borrow.Author.Needs.{needs}
 use Rattle.rows.proofs.stand.at_start.Statement.{statement}
 use Rattle.rows.proofs.stand.at_start.Tie as tie
@@ -13,7 +12,9 @@ at-front-requires : tie.Need-at-front-requires
 at-front-requires c κs = search needs
 
 returns : tie.Need-returns
-returns c = c .at-front .ensures ∙ ap atFront (c .before .nothing-left .ensures)
+returns c =
+    let f = c .at-front .ensures in
+    record { at-is = f .at-is; rest-is = f .rest-is ∙ c .before .nothing-left .ensures; known = f .known }
 
 pub at-start-spec : {M : Type 1} → statement M
 at-start-spec = tie.close (tie.spec nothing-left-requires at-front-requires returns)

@@ -8,9 +8,6 @@ use Rattle.rows.proofs.stand.lay_row.Tie as tie
 cast-at : tie.Need-cast-at
 cast-at c = search needs
 
-known-from-requires : tie.Need-known-from-requires
-known-from-requires c κs = search needs
-
 lay-line-requires : tie.Need-lay-line-requires
 lay-line-requires c κs = search needs
 
@@ -20,9 +17,7 @@ is-last-requires c κs = search needs
 returns : tie.Need-returns
 returns c =
     let last = c .before .before in
-    let line = last .before .before in
-    (row-is _ _ _ _ _ _ (line .lay-line .ensures) (last .is-last .ensures), line .before .known-from .ensures)
+    row-is _ _ _ _ _ (last .before .before .lay-line .ensures) (last .is-last .ensures)
 
 pub lay-row-spec : {M : Type 1} → statement M
-lay-row-spec =
-    tie.close (tie.spec cast-at known-from-requires lay-line-requires is-last-requires returns)
+lay-row-spec = tie.close (tie.spec cast-at lay-line-requires is-last-requires returns)
