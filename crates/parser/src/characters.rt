@@ -30,7 +30,7 @@ fn ascii_in_word(c: u32) -> bool
     c < 0x09
 }
 
-// Does a word go on with a character. The table of white space is walked only from U+0080 on.
+// Does a word go on with a character. White space is asked for only from U+0080 on.
 pub fn in_word(c: u32) -> bool
     ensures { λ r. ⌜ r ≡ inWord c ⌝ }
 {

@@ -1,2 +1,3 @@
+pub mod Ranges
 pub mod Reading
 pub mod Steps

@@ -8,10 +8,9 @@ use native.Mathlib.Numerals.{add-one}
 use lib.Dec.{eqb}
 use lib.ListN.{length, getD, drop, drop-of-length-le}
 use lib.Seq.{drop-cons}
-use borrow.Author.Tests.{eq-eqb, ne-eqb, lt-ltb, le-ltb}
+use borrow.Author.Tests.{lt-ltb, le-ltb}
 use Rattle.basis.specs.Choice.{pick}
 use Rattle.unicode.specs.Places.{cont, boundaryAt, countChars}
-use Rattle.unicode.specs.WhiteSpace.{member}
 
 module _ (s : List ℕ) (i : ℕ) where
   -- Is a position a boundary.
@@ -35,17 +34,3 @@ module _ (s : List ℕ) (i : ℕ) where
   pub count-end : length s ≤ i → countChars (drop i s) ≡ 0
   unfolding countChars
   count-end h = rw (drop-of-length-le s h)
-
-  -- Is a number one of the list's from a position on.
-  module _ (c : ℕ) where
-    pub member-here : i < length s → getD s i 0 ≡ c → member c (drop i s) ≡ true
-    unfolding member
-    member-here h e = rw (drop-cons s i 0 h) (simp (eq-eqb _ _ e))
-
-    pub member-later : i < length s → (getD s i 0 ≡ c → ⊥) → member c (drop i s) ≡ member c (drop (i + 1) s)
-    unfolding member
-    member-later h n = rw (add-one, drop-cons s i 0 h) (simp (ne-eqb _ _ n))
-
-    pub member-end : length s ≤ i → member c (drop i s) ≡ false
-    unfolding member
-    member-end h = rw (drop-of-length-le s h)
