@@ -14,7 +14,8 @@
  *
  * Those that take twelve settings have a twin bisquemop_settings_.. that takes a struct of them.
  *
- * Link with libbisquemop.a (x86-64 Linux). The header is C99, and C++ can include it too.
+ * Link with libbisquemop.a (x86-64 Linux). The header is C99, and C++ can include it too. It is the same on every
+ * machine: counts have 64 bits on machines of 32 bits too.
  *
  * What holds of every call:
  *  - It returns 0 when done, and else the number of the first test that failed (enum bisquemop_refusal).
@@ -30,12 +31,23 @@
 #ifndef BISQUEMOP_H
 #define BISQUEMOP_H
 
-#include <stddef.h>
 #include <stdint.h>
 
 #ifdef __cplusplus
 extern "C" {
 #endif
+
+/* What the calls rest on besides the machine's own way to pass numbers and pointers: that numbers stand at multiples of
+   their size, since the library reads and writes them whole, and that a pointer has 32 or 64 bits. On a machine where
+   that is not so this does not compile. */
+struct bisquemop_placed {
+    uint8_t byte;
+    uint32_t four;
+    uint8_t another;
+    uint64_t eight;
+};
+typedef char bisquemop_numbers_stand_at_multiples_of_their_size[sizeof(struct bisquemop_placed) == 24 ? 1 : -1];
+typedef char bisquemop_pointers_have_32_or_64_bits[sizeof(void *) == 4 || sizeof(void *) == 8 ? 1 : -1];
 
 /* Why a call refused what it was given, and what *value then is. The tests are made in the order of these numbers. */
 enum bisquemop_refusal {
@@ -196,7 +208,7 @@ static inline uint32_t bisquemop_settings_check(const struct bisquemop_settings 
  *   BISQUEMOP_TEXT_TOO_LONG  it has more bytes than that, UTF-8 or not; *value is `len`
  *   BISQUEMOP_NOT_UTF8       it is not UTF-8; *value is the length in bytes of its longest prefix that is
  */
-uint32_t bisquemop_check_text(const uint8_t *text, size_t len, uint64_t *value);
+uint32_t bisquemop_check_text(const uint8_t *text, uint64_t len, uint64_t *value);
 
 /*
  * Splits the `len` bytes at `text` into tokens, which follow one another and cover the text, and writes four numbers
@@ -207,7 +219,7 @@ uint32_t bisquemop_check_text(const uint8_t *text, size_t len, uint64_t *value);
  *   BISQUEMOP_NOT_UTF8       as by bisquemop_check_text; *value is the length of its longest valid prefix
  *   BISQUEMOP_TOO_SMALL      `tokens` has no room for all; *value is how many tokens there are
  */
-uint32_t bisquemop_tokens(const uint8_t *text, size_t len, uint32_t *tokens, size_t tokens_len, uint64_t *value);
+uint32_t bisquemop_tokens(const uint8_t *text, uint64_t len, uint32_t *tokens, uint64_t tokens_len, uint64_t *value);
 
 /*
  * Lays the `len` bytes at `text` by the twelve settings, and writes ten numbers (enum bisquemop_line_column) for each
@@ -223,12 +235,12 @@ uint32_t bisquemop_tokens(const uint8_t *text, size_t len, uint32_t *tokens, siz
  */
 uint32_t bisquemop_layout(uint32_t glyph, uint32_t width, uint32_t tab, uint32_t spacing, uint32_t paragraph,
                           uint32_t base, uint32_t height, int32_t top, uint32_t alignment, uint32_t vertical,
-                          uint32_t leading, uint32_t trailing, const uint8_t *text, size_t len, uint32_t *table,
-                          size_t table_len, uint64_t *value);
+                          uint32_t leading, uint32_t trailing, const uint8_t *text, uint64_t len, uint32_t *table,
+                          uint64_t table_len, uint64_t *value);
 
 /* The same for settings in a struct, which must not be NULL. */
-static inline uint32_t bisquemop_settings_layout(const struct bisquemop_settings *s, const uint8_t *text, size_t len,
-                                                 uint32_t *table, size_t table_len, uint64_t *value)
+static inline uint32_t bisquemop_settings_layout(const struct bisquemop_settings *s, const uint8_t *text, uint64_t len,
+                                                 uint32_t *table, uint64_t table_len, uint64_t *value)
 {
     return bisquemop_layout(s->glyph, s->width, s->tab, s->spacing, s->paragraph, s->base, s->height, s->top,
                             s->alignment, s->vertical, s->leading, s->trailing, text, len, table, table_len, value);
@@ -250,14 +262,14 @@ static inline uint32_t bisquemop_settings_layout(const struct bisquemop_settings
  */
 uint32_t bisquemop_layout_events(uint32_t glyph, uint32_t width, uint32_t tab, uint32_t spacing, uint32_t paragraph,
                                  uint32_t base, uint32_t height, int32_t top, uint32_t alignment, uint32_t vertical,
-                                 uint32_t leading, uint32_t trailing, const uint8_t *text, size_t len, uint32_t *table,
-                                 size_t table_len, uint32_t *events, size_t events_len, uint64_t *value,
-                                 uint64_t *event_count);
+                                 uint32_t leading, uint32_t trailing, const uint8_t *text, uint64_t len,
+                                 uint32_t *table, uint64_t table_len, uint32_t *events, uint64_t events_len,
+                                 uint64_t *value, uint64_t *event_count);
 
 /* The same for settings in a struct, which must not be NULL. */
 static inline uint32_t bisquemop_settings_layout_events(const struct bisquemop_settings *s, const uint8_t *text,
-                                                        size_t len, uint32_t *table, size_t table_len,
-                                                        uint32_t *events, size_t events_len, uint64_t *value,
+                                                        uint64_t len, uint32_t *table, uint64_t table_len,
+                                                        uint32_t *events, uint64_t events_len, uint64_t *value,
                                                         uint64_t *event_count)
 {
     return bisquemop_layout_events(s->glyph, s->width, s->tab, s->spacing, s->paragraph, s->base, s->height, s->top,
@@ -286,7 +298,7 @@ static inline uint32_t bisquemop_settings_layout_events(const struct bisquemop_s
  * An edited text that is too long is looked for only where the table and the edit are good, so 5 and 6 can be returned
  * whatever `inserted` is.
  */
-uint32_t bisquemop_first_affected(const uint32_t *table, size_t table_len, uint64_t lines, uint32_t a, uint32_t b,
+uint32_t bisquemop_first_affected(const uint32_t *table, uint64_t table_len, uint64_t lines, uint32_t a, uint32_t b,
                                   uint32_t inserted, uint64_t *value);
 
 /*
@@ -317,15 +329,15 @@ uint32_t bisquemop_first_affected(const uint32_t *table, size_t table_len, uint6
  */
 uint32_t bisquemop_lay_again(uint32_t glyph, uint32_t width, uint32_t tab, uint32_t spacing, uint32_t paragraph,
                              uint32_t base, uint32_t height, int32_t top, uint32_t alignment, uint32_t vertical,
-                             uint32_t leading, uint32_t trailing, const uint8_t *part, size_t part_len, uint32_t *table,
-                             size_t table_len, uint64_t lines, uint32_t a, uint32_t b, uint32_t inserted,
-                             uint64_t *value, uint64_t *laid);
+                             uint32_t leading, uint32_t trailing, const uint8_t *part, uint64_t part_len,
+                             uint32_t *table, uint64_t table_len, uint64_t lines, uint32_t a, uint32_t b,
+                             uint32_t inserted, uint64_t *value, uint64_t *laid);
 
 /* The same for settings in a struct, which must not be NULL. */
 static inline uint32_t bisquemop_settings_lay_again(const struct bisquemop_settings *s, const uint8_t *part,
-                                                    size_t part_len, uint32_t *table, size_t table_len, uint64_t lines,
-                                                    uint32_t a, uint32_t b, uint32_t inserted, uint64_t *value,
-                                                    uint64_t *laid)
+                                                    uint64_t part_len, uint32_t *table, uint64_t table_len,
+                                                    uint64_t lines, uint32_t a, uint32_t b, uint32_t inserted,
+                                                    uint64_t *value, uint64_t *laid)
 {
     return bisquemop_lay_again(s->glyph, s->width, s->tab, s->spacing, s->paragraph, s->base, s->height, s->top,
                                s->alignment, s->vertical, s->leading, s->trailing, part, part_len, table, table_len,
@@ -343,12 +355,12 @@ static inline uint32_t bisquemop_settings_lay_again(const struct bisquemop_setti
  */
 uint32_t bisquemop_height(uint32_t glyph, uint32_t width, uint32_t tab, uint32_t spacing, uint32_t paragraph,
                           uint32_t base, uint32_t height, int32_t top, uint32_t alignment, uint32_t vertical,
-                          uint32_t leading, uint32_t trailing, const uint32_t *table, size_t table_len, uint64_t lines,
-                          uint64_t *value);
+                          uint32_t leading, uint32_t trailing, const uint32_t *table, uint64_t table_len,
+                          uint64_t lines, uint64_t *value);
 
 /* The same for settings in a struct, which must not be NULL. */
 static inline uint32_t bisquemop_settings_height(const struct bisquemop_settings *s, const uint32_t *table,
-                                                 size_t table_len, uint64_t lines, uint64_t *value)
+                                                 uint64_t table_len, uint64_t lines, uint64_t *value)
 {
     return bisquemop_height(s->glyph, s->width, s->tab, s->spacing, s->paragraph, s->base, s->height, s->top,
                             s->alignment, s->vertical, s->leading, s->trailing, table, table_len, lines, value);
@@ -371,12 +383,12 @@ static inline uint32_t bisquemop_settings_height(const struct bisquemop_settings
  */
 uint32_t bisquemop_line_y(uint32_t glyph, uint32_t width, uint32_t tab, uint32_t spacing, uint32_t paragraph,
                           uint32_t base, uint32_t height, int32_t top, uint32_t alignment, uint32_t vertical,
-                          uint32_t leading, uint32_t trailing, const uint32_t *table, size_t table_len, uint64_t lines,
-                          uint64_t line, uint64_t *value, int32_t *y);
+                          uint32_t leading, uint32_t trailing, const uint32_t *table, uint64_t table_len,
+                          uint64_t lines, uint64_t line, uint64_t *value, int32_t *y);
 
 /* The same for settings in a struct, which must not be NULL. */
 static inline uint32_t bisquemop_settings_line_y(const struct bisquemop_settings *s, const uint32_t *table,
-                                                 size_t table_len, uint64_t lines, uint64_t line, uint64_t *value,
+                                                 uint64_t table_len, uint64_t lines, uint64_t line, uint64_t *value,
                                                  int32_t *y)
 {
     return bisquemop_line_y(s->glyph, s->width, s->tab, s->spacing, s->paragraph, s->base, s->height, s->top,

@@ -63,27 +63,27 @@ mod c {
 
     with_settings! {
         bisquemop_check_settings(value: *mut u64);
-        bisquemop_layout(text: *const u8, len: usize, table: *mut u32, table_len: usize, value: *mut u64);
+        bisquemop_layout(text: *const u8, len: u64, table: *mut u32, table_len: u64, value: *mut u64);
         bisquemop_layout_events(
-            text: *const u8, len: usize, table: *mut u32, table_len: usize, events: *mut u32, events_len: usize,
+            text: *const u8, len: u64, table: *mut u32, table_len: u64, events: *mut u32, events_len: u64,
             value: *mut u64, event_count: *mut u64
         );
         bisquemop_lay_again(
-            part: *const u8, len: usize, table: *mut u32, table_len: usize, lines: u64, a: u32, b: u32, inserted: u32,
+            part: *const u8, len: u64, table: *mut u32, table_len: u64, lines: u64, a: u32, b: u32, inserted: u32,
             value: *mut u64, laid: *mut u64
         );
-        bisquemop_height(table: *const u32, table_len: usize, lines: u64, value: *mut u64);
+        bisquemop_height(table: *const u32, table_len: u64, lines: u64, value: *mut u64);
         bisquemop_line_y(
-            table: *const u32, table_len: usize, lines: u64, line: u64, value: *mut u64, y: *mut i32
+            table: *const u32, table_len: u64, lines: u64, line: u64, value: *mut u64, y: *mut i32
         );
     }
 
     extern "C" {
-        pub fn bisquemop_check_text(text: *const u8, len: usize, value: *mut u64) -> u32;
-        pub fn bisquemop_tokens(text: *const u8, len: usize, tokens: *mut u32, tokens_len: usize, value: *mut u64) -> u32;
+        pub fn bisquemop_check_text(text: *const u8, len: u64, value: *mut u64) -> u32;
+        pub fn bisquemop_tokens(text: *const u8, len: u64, tokens: *mut u32, tokens_len: u64, value: *mut u64) -> u32;
         pub fn bisquemop_first_affected(
             table: *const u32,
-            table_len: usize,
+            table_len: u64,
             lines: u64,
             a: u32,
             b: u32,
@@ -135,6 +135,11 @@ fn with<T: PartialEq>(number: u32, value: u64, second: T, unwritten: T) -> Resul
 const UNWRITTEN: u64 = u64::MAX;
 const NO_PLACE: i32 = i32::MIN;
 
+/// The number of elements of a lent slice, as the calls take it.
+fn len_of<T>(lent: &[T]) -> u64 {
+    lent.len() as u64
+}
+
 pub fn check_settings(settings: &Settings) -> Result<(), Refusal> {
     let mut value = 0;
     // SAFETY: only numbers and a number of ours to write are lent.
@@ -145,7 +150,7 @@ pub fn check_settings(settings: &Settings) -> Result<(), Refusal> {
 pub fn check_text(text: &[u8]) -> Result<(), Refusal> {
     let mut value = 0;
     // SAFETY: the pointer and the length are those of a slice that is lent for reading.
-    let number = unsafe { c::bisquemop_check_text(text.as_ptr(), text.len(), &mut value) };
+    let number = unsafe { c::bisquemop_check_text(text.as_ptr(), len_of(text), &mut value) };
     nothing(number, value)
 }
 
@@ -153,7 +158,7 @@ pub fn check_text(text: &[u8]) -> Result<(), Refusal> {
 pub fn tokens(text: &[u8], tokens: &mut [u32]) -> Result<u64, Refusal> {
     let mut value = 0;
     // SAFETY: pointers and lengths are those of two slices, one lent for reading and one for writing, which cannot overlap.
-    let number = unsafe { c::bisquemop_tokens(text.as_ptr(), text.len(), tokens.as_mut_ptr(), tokens.len(), &mut value) };
+    let number = unsafe { c::bisquemop_tokens(text.as_ptr(), len_of(text), tokens.as_mut_ptr(), len_of(tokens), &mut value) };
     answer(number, value)
 }
 
@@ -162,7 +167,7 @@ pub fn layout(settings: &Settings, text: &[u8], table: &mut [u32]) -> Result<u64
     let mut value = 0;
     // SAFETY: pointers and lengths are those of two slices, one lent for reading and one for writing, which cannot overlap.
     let number =
-        unsafe { call!(bisquemop_layout, settings, text.as_ptr(), text.len(), table.as_mut_ptr(), table.len(), &mut value) };
+        unsafe { call!(bisquemop_layout, settings, text.as_ptr(), len_of(text), table.as_mut_ptr(), len_of(table), &mut value) };
     answer(number, value)
 }
 
@@ -175,11 +180,11 @@ pub fn layout_events(settings: &Settings, text: &[u8], table: &mut [u32], events
             bisquemop_layout_events,
             settings,
             text.as_ptr(),
-            text.len(),
+            len_of(text),
             table.as_mut_ptr(),
-            table.len(),
+            len_of(table),
             events.as_mut_ptr(),
-            events.len(),
+            len_of(events),
             &mut value,
             &mut count
         )
@@ -192,7 +197,7 @@ pub fn first_affected(table: &[u32], lines: u64, edit: Edit) -> Result<u64, Refu
     let mut value = 0;
     // SAFETY: the pointer and the length are those of a slice that is lent for reading.
     let number =
-        unsafe { c::bisquemop_first_affected(table.as_ptr(), table.len(), lines, edit.a, edit.b, edit.inserted, &mut value) };
+        unsafe { c::bisquemop_first_affected(table.as_ptr(), len_of(table), lines, edit.a, edit.b, edit.inserted, &mut value) };
     answer(number, value)
 }
 
@@ -205,9 +210,9 @@ pub fn lay_again(settings: &Settings, part: &[u8], table: &mut [u32], lines: u64
             bisquemop_lay_again,
             settings,
             part.as_ptr(),
-            part.len(),
+            len_of(part),
             table.as_mut_ptr(),
-            table.len(),
+            len_of(table),
             lines,
             edit.a,
             edit.b,
@@ -223,7 +228,7 @@ pub fn lay_again(settings: &Settings, part: &[u8], table: &mut [u32], lines: u64
 pub fn height(settings: &Settings, table: &[u32], lines: u64) -> Result<u64, Refusal> {
     let mut value = 0;
     // SAFETY: the pointer and the length are those of a slice that is lent for reading.
-    let number = unsafe { call!(bisquemop_height, settings, table.as_ptr(), table.len(), lines, &mut value) };
+    let number = unsafe { call!(bisquemop_height, settings, table.as_ptr(), len_of(table), lines, &mut value) };
     answer(number, value)
 }
 
@@ -231,7 +236,7 @@ pub fn height(settings: &Settings, table: &[u32], lines: u64) -> Result<u64, Ref
 pub fn line_y(settings: &Settings, table: &[u32], lines: u64, line: u64) -> Result<Option<Place>, Refusal> {
     let (mut value, mut y) = (0, NO_PLACE);
     // SAFETY: the pointer and the length are those of a slice that is lent for reading.
-    let number = unsafe { call!(bisquemop_line_y, settings, table.as_ptr(), table.len(), lines, line, &mut value, &mut y) };
+    let number = unsafe { call!(bisquemop_line_y, settings, table.as_ptr(), len_of(table), lines, line, &mut value, &mut y) };
     let found = answer(number, value)?;
     assert!(found <= 2, "the library answered {found} for a line's place");
     assert!((found == 2) == (y == NO_PLACE), "the library wrote a y that it should not, or did not write it");

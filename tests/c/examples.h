@@ -4,6 +4,8 @@
 
 #include "bisquemop.h"
 
+#include <stddef.h>
+
 enum { LEFT = BISQUEMOP_ALIGN_LEFT, CENTRE, RIGHT, JUSTIFIED };
 enum { SPACE = BISQUEMOP_DRAWN_SPACE, PRINTED, MOVE };
 

@@ -4,6 +4,8 @@
 
 #include "bisquemop.h"
 
+#include <stddef.h>
+
 /* One case that needs no call: what it is about, and whether it holds. */
 void expect(const char *what, int holds);
 

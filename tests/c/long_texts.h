@@ -4,6 +4,8 @@
 
 #include "bisquemop.h"
 
+#include <stddef.h>
+
 struct long_text {
     const char *what;
     struct bisquemop_settings settings;

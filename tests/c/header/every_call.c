@@ -9,10 +9,10 @@
 struct lent {
     struct bisquemop_settings settings;
     const uint8_t *text;
-    size_t len;
+    uint64_t len;
     uint32_t *tokens;
     uint32_t *table;
-    size_t table_len;
+    uint64_t table_len;
     uint32_t *events;
     uint64_t lines, value, count;
     int32_t y;
