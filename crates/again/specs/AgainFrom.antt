@@ -18,7 +18,7 @@ use Rattle.meaning.specs.declared.line.LineEnd.{LineEnd}
 use Rattle.meaning.specs.declared.line.LineEnd.the-variants.{NewLine, CarriageReturn, EndOfText, LineBreak}
 use Rattle.meaning.specs.declared.line.Entry.{Entry}
 use Rattle.parser.specs.Lexing.{charsFrom}
-use Rattle.passes.specs.LineFrom.{heldIn}
+use Rattle.placing.specs.LineFrom.{heldIn}
 use Rattle.steps.specs.declared.step.Resumed.{Resumed}
 use Rattle.rows.specs.Standing.{StandsAt, textFront, StandReady, laidRow}
 use Rattle.rows.specs.RowsFrom.{rowsFrom, rowHere, front-rows, first-row, few-rows, last-row, more-rows, entriesFrom}

@@ -20,7 +20,7 @@ use Rattle.meaning.specs.declared.line.Rest.{Rest}
 use Rattle.laws.specs.Moved.{entry-moved}
 use Rattle.laws.specs.Rests.{rest-none, rest-some}
 use Rattle.parser.specs.Lexing.{charsFrom}
-use Rattle.passes.specs.LineFrom.{heldIn, lineAtOf, lineFrom}
+use Rattle.placing.specs.LineFrom.{heldIn, lineAtOf, lineFrom}
 use Rattle.steps.specs.Pending.{RestFits}
 use Rattle.steps.specs.declared.step.Resumed.{Resumed}
 use Rattle.rows.specs.Standing.{StandReady, laidRow, entry-is}

@@ -19,7 +19,7 @@ use Rattle.laws.specs.Calls3.{chars-within}
 use Rattle.parser.specs.Lexing.{charsFrom}
 use Rattle.steps.specs.Unrolled.{nothingResumed}
 use Rattle.steps.specs.Running.{none-fits}
-use Rattle.passes.specs.LineFrom.{heldIn}
+use Rattle.placing.specs.LineFrom.{heldIn}
 use Rattle.steps.specs.Pending.{RestFits}
 use Rattle.steps.specs.declared.step.Resumed.{Resumed}
 use Rattle.again.specs.PartChars.{cut-size}

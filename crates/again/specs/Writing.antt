@@ -10,7 +10,7 @@ use Rattle.meaning.specs.Table.{entryNumbers, ofEntry}
 use Rattle.meaning.specs.Edit.{movedEntry}
 use Rattle.meaning.specs.declared.settings.Settings.{Settings}
 use Rattle.meaning.specs.declared.line.Entry.{Entry}
-use Rattle.passes.specs.LineLaws.{entry-small}
+use Rattle.placing.specs.LineLaws.{entry-small}
 use Rattle.table.specs.Numbers.{putNumbers}
 use Rattle.table.specs.Moving.{MovableEntry}
 use Rattle.rows.specs.Standing.{StandsAt, StandReady, laidRow, entry-is, ready-next}

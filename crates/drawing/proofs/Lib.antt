@@ -1,11 +1,4 @@
-pub mod StretchLaws
-pub mod WordLoop
-pub mod RunEvents
-pub mod TabEvents
-pub mod WordEvents
-pub mod PrintEvents
 pub mod StrideEvents
 pub mod OnwardEvents
-pub mod TokenEvents
 pub mod TakenEvents
 pub mod PassLoop

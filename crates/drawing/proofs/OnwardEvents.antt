@@ -17,10 +17,10 @@ use Rattle.meaning.specs.declared.line.EventKind.the-variants.{Space, Printed}
 use Rattle.meaning.specs.declared.line.Measure.{Measure}
 use Rattle.meaning.specs.declared.tokens.TokenKind.the-variants.{Word}
 use Rattle.parser.specs.Lexing.{charsFrom, lexedAt}
-use Rattle.parser.specs.Pairs.{oneSpace, PairAt}
+use Rattle.pairs.specs.Pairs.{oneSpace, PairAt}
 use Rattle.parser.specs.declared.lexeme.Lexeme.{Lexeme}
 use Rattle.parser.specs.declared.lexeme.Lexed.the-variants.{Token}
-use Rattle.steps.specs.FineLaws.{fits-room}
+use Rattle.moves.specs.FineLaws.{fits-room}
 use Rattle.steps.specs.Unrolled.{nothingResumed}
 use Rattle.steps.specs.Running.{PassReady}
 use Rattle.steps.specs.Stopping.{wordPlace}
@@ -30,16 +30,16 @@ use Rattle.steps.specs.declared.look.Foreseen.{Foreseen}
 use Rattle.steps.specs.declared.step.Resumed.{Resumed}
 use Rattle.strides.specs.declared.going.Waiting.{Waiting}
 use Rattle.steps.specs.WordLaws.{wordAt}
-use Rattle.parser.specs.PlainLaws.{plainWord, plain-read}
+use Rattle.pairs.specs.PlainLaws.{plainWord, plain-read}
 use Rattle.strides.specs.OnwardLaws.{read-pending, unmeasured-ready}
 use Rattle.strides.specs.First.{Beginning}
 use Rattle.strides.specs.declared.first.Begun.{Begun}
 use Rattle.strides.specs.StrideLaws.{fits-in, word-onward}
 use Rattle.strides.specs.GoesLaws.{rest-none}
 use Rattle.drawing.specs.Drawn.{drawnFrom}
-use Rattle.drawing.specs.Sheet.{Sheet, sheet, drawnOn, on-append, widths, pen-after}
+use Rattle.ink.specs.Sheet.{Sheet, sheet, drawnOn, on-append, widths, pen-after}
 use Rattle.drawing.specs.DrawingOn.{PenReady, Drew, inkedAt, Strode}
-use Rattle.drawing.specs.declared.pen.Pen.{Pen}
+use Rattle.ink.specs.declared.pen.Pen.{Pen}
 use Rattle.drawing.specs.declared.inked.Inked.{Inked}
 use Rattle.drawing.proofs.StrideEvents.{one-word, here, word-first, space-shown}
 

@@ -25,7 +25,7 @@ use Rattle.meaning.specs.declared.cursor.Place.{Place}
 use Rattle.meaning.specs.declared.line.EventKind.the-variants.{Space, Printed}
 use Rattle.meaning.specs.declared.line.Measure.{Measure}
 use Rattle.parser.specs.Lexing.{charsFrom, lexedAt}
-use Rattle.parser.specs.Pairs.{oneSpace, PairAt}
+use Rattle.pairs.specs.Pairs.{oneSpace, PairAt}
 use Rattle.parser.specs.declared.lexeme.Lexeme.{Lexeme}
 use Rattle.parser.specs.declared.lexeme.Lexed.the-variants.{Token}
 use Rattle.steps.specs.Ahead.{lookAt}
@@ -50,12 +50,12 @@ use Rattle.strides.specs.OnwardLaws.{read-pending, read-ready}
 use Rattle.strides.specs.StrideLaws.{stays, behind, looks-all, looks-word, space-goes}
 use Rattle.strides.specs.WaitLaws.{over-full}
 use Rattle.drawing.specs.Drawn.{drawnFrom}
-use Rattle.drawing.specs.Sheet.{widths}
-use Rattle.drawing.specs.TokenDrawn.{tokDrawn, grownBy, runDrawn}
+use Rattle.ink.specs.Sheet.{widths}
+use Rattle.ink.specs.TokenDrawn.{tokDrawn, grownBy, runDrawn}
 use Rattle.drawing.specs.PassDrawn.{go-drawn, stop-drawn}
 use Rattle.drawing.specs.DrawnBounds.{tok-few}
-use Rattle.drawing.proofs.TokenEvents.{run-drawn, tok-narrow}
-use Rattle.drawing.proofs.PrintEvents.{one-print}
+use Rattle.ink.specs.TokenEvents.{run-drawn, tok-narrow}
+use Rattle.ink.specs.PrintEvents.{one-print}
 
 -- ---- a word
 

@@ -28,10 +28,10 @@ use Rattle.strides.specs.declared.next.Taken.{Taken}
 use Rattle.strides.specs.OnwardLaws.{read-pending}
 use Rattle.strides.specs.StrideLaws.{fits-in}
 use Rattle.strides.specs.NextLaws.{pair-numbers}
-use Rattle.drawing.specs.Sheet.{sheet, drawnOn}
-use Rattle.drawing.specs.Stretching.{WordRoom}
+use Rattle.ink.specs.Sheet.{sheet, drawnOn}
+use Rattle.ink.specs.Stretching.{WordRoom}
 use Rattle.drawing.specs.DrawingOn.{PenReady, Drew}
-use Rattle.drawing.specs.declared.pen.Pen.{Pen}
+use Rattle.ink.specs.declared.pen.Pen.{Pen}
 use Rattle.drawing.proofs.StrideEvents.{one-word}
 use Rattle.drawing.proofs.OnwardEvents.{drew-on, drew-letters, drew-space}
 

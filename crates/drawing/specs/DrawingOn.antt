@@ -7,12 +7,12 @@ use Rattle.meaning.specs.Line.{unmeasured}
 use Rattle.meaning.specs.declared.settings.Settings.{Settings}
 use Rattle.meaning.specs.declared.cursor.Place.{Place}
 use Rattle.steps.specs.Running.{PassReady}
-use Rattle.parser.specs.PlainWords.{Found}
+use Rattle.pairs.specs.PlainWords.{Found}
 use Rattle.strides.specs.Strides.{waitingAt, Waits}
 use Rattle.steps.specs.declared.step.Resumed.{Resumed}
 use Rattle.drawing.specs.Drawn.{drawnFrom}
-use Rattle.drawing.specs.Sheet.{sheet, drawnOn}
-use Rattle.drawing.specs.declared.pen.Pen.{Pen}
+use Rattle.ink.specs.Sheet.{sheet, drawnOn}
+use Rattle.ink.specs.declared.pen.Pen.{Pen}
 use Rattle.drawing.specs.declared.inked.Inked.{Inked}
 
 -- What drawing takes for granted between two tokens: the pass can run from there, and the pen has room for all bytes of a text.

@@ -31,8 +31,8 @@ use Rattle.parser.specs.Lexing.{charsFrom}
 use Rattle.parser.specs.declared.lexeme.Lexeme.{Lexeme}
 use Rattle.steps.specs.Stepping.{tokOf}
 use Rattle.steps.specs.Pending.{Pending}
-use Rattle.drawing.specs.WordDrawn.{word-few}
-use Rattle.drawing.specs.TokenDrawn.{drawnOf, tokDrawn}
+use Rattle.ink.specs.WordDrawn.{word-few}
+use Rattle.ink.specs.TokenDrawn.{drawnOf, tokDrawn}
 
 -- ---- one token
 

@@ -1,5 +1,5 @@
 // Where the drawing of a line stands between two tokens, and what waits there for the next line (rule 8, rule 13).
-use crate::pen::Pen;
+use ink::pen::Pen;
 use meaning::cursor::Place;
 use strides::going::Waiting;
 use strides::going::nothing_waits;

@@ -1,21 +1,21 @@
 // The events of a line: the running pass again, token by token or in strides, each drawn (rule 7, rule 8, rule 9 and rule 13).
-use crate::pen::Pen;
 use crate::striding::draw_unless;
-use crate::tokens::draw_token;
 use crate::waiting::draw_waiting;
+use blanks::ahead::look_after;
+use blanks::token::step_token;
+use ink::pen::Pen;
+use ink::tokens::draw_token;
 use meaning::counts::Pixels;
 use meaning::cursor::Place;
 use meaning::settings::Settings;
+use moves::measure::nothing_measured;
 use parser::lexeme::Lexed;
-use steps::ahead::look_after;
 use steps::ending::nothing_left;
 use steps::first::Known;
 use steps::first::first_token;
 use steps::look::Foreseen;
-use steps::measure::nothing_measured;
 use steps::step::Resumed;
 use steps::step::Stepped;
-use steps::token::step_token;
 ghost use Prim.Native.Nat.{_+_};
 ghost use mathlib.Core.Path.{_≡_};
 ghost use lib.ListN.{length};

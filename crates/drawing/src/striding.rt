@@ -3,13 +3,13 @@
 // Rule 8, rule 13.
 use crate::inked::Inked;
 use crate::inked::inked_at;
-use crate::pen::Pen;
-use crate::pen::put_one;
 use crate::taken::draw_taken;
+use ink::pen::Pen;
+use ink::pen::put_one;
 use meaning::cursor::Place;
 use meaning::line::EventKind;
 use meaning::settings::Settings;
-use parser::pair::pair_at;
+use pairs::pair::pair_at;
 use steps::look::Foreseen;
 use steps::step::Resumed;
 use strides::first::First;

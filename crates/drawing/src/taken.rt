@@ -1,7 +1,7 @@
 // One space and the word behind it, drawn as they were taken (rule 8, rule 13).
-use crate::pen::Pen;
-use crate::pen::put_one;
-use crate::words::draw_word;
+use ink::pen::Pen;
+use ink::pen::put_one;
+use ink::words::draw_word;
 use meaning::cursor::Place;
 use meaning::cursor::Spaces;
 use meaning::line::EventKind;
@@ -16,8 +16,8 @@ ghost use Rattle.parser.specs.Lexing.{charsFrom, lexedAt};
 ghost use Rattle.parser.specs.Scanning.{wordOf};
 ghost use Rattle.parser.specs.declared.lexeme.Lexed.the-variants.{Token};
 ghost use Rattle.steps.specs.Unrolled.{nothingResumed};
-ghost use Rattle.drawing.specs.Sheet.{sheet, drawnOn};
-ghost use Rattle.drawing.specs.Stretching.{WordRoom};
+ghost use Rattle.ink.specs.Sheet.{sheet, drawnOn};
+ghost use Rattle.ink.specs.Stretching.{WordRoom};
 ghost use Rattle.strides.specs.Next.{Taking};
 ghost use Rattle.drawing.specs.DrawingOn.{PenReady, Drew};
 

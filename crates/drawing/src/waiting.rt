@@ -2,8 +2,8 @@
 // (strides/src/waiting.rt), and what is drawn of it is what a pass draws from there (`StrideEvents.waits-drawn`).
 // Rule 8, rule 13.
 use crate::inked::Inked;
-use crate::pen::Pen;
-use crate::pen::put_one;
+use ink::pen::Pen;
+use ink::pen::put_one;
 use meaning::line::EventKind;
 use meaning::settings::Settings;
 use strides::waiting::Trail;
@@ -12,7 +12,7 @@ ghost use mathlib.Core.Path.{_≡_};
 ghost use Rattle.steps.specs.Unrolled.{nothingResumed};
 ghost use Rattle.strides.specs.Strides.{Waits};
 ghost use Rattle.drawing.specs.Drawn.{drawnFrom};
-ghost use Rattle.drawing.specs.Sheet.{sheet, drawnOn};
+ghost use Rattle.ink.specs.Sheet.{sheet, drawnOn};
 ghost use Rattle.drawing.specs.DrawingOn.{PenReady};
 
 pub fn draw_waiting(text: &[u8], s: Settings, g: Inked, events: &mut [u32]) -> Pen

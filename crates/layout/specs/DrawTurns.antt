@@ -12,12 +12,12 @@ use Rattle.meaning.specs.declared.settings.Settings.{Settings}
 use Rattle.meaning.specs.declared.line.Entry.{Entry}
 use Rattle.table.specs.Numbers.{putEvents}
 use Rattle.parser.specs.Lexing.{charsFrom}
-use Rattle.steps.specs.FineSteps.{start-fine}
+use Rattle.moves.specs.FineSteps.{start-fine}
 use Rattle.steps.specs.Unrolled.{nothingResumed}
-use Rattle.passes.specs.Laying.{LineReady}
-use Rattle.passes.specs.LineFrom.{heldIn, lineAtOf, lineFrom}
-use Rattle.passes.specs.LineLaws.{placed-fine}
-use Rattle.drawing.specs.Sheet.{put-append}
+use Rattle.placing.specs.Laying.{LineReady}
+use Rattle.placing.specs.LineFrom.{heldIn, lineAtOf, lineFrom}
+use Rattle.placing.specs.LineLaws.{placed-fine}
+use Rattle.ink.specs.Sheet.{put-append}
 use Rattle.drawing.specs.PassDrawn.{DrawRoom}
 use Rattle.rows.specs.Standing.{StandsAt, textFront, StandReady, lineAt, laidRow, entry-is, ready-next}
 use Rattle.rows.specs.RowsFrom.{TextReady}

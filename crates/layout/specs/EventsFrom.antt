@@ -25,7 +25,7 @@ use Rattle.parser.specs.Lexing.{charsFrom}
 use Rattle.steps.specs.Lexed.{chars-within}
 use Rattle.steps.specs.Knowing.{KnownFits}
 use Rattle.steps.specs.Unrolled.{nothingResumed}
-use Rattle.passes.specs.LineFrom.{lineAtOf, lineFrom}
+use Rattle.placing.specs.LineFrom.{lineAtOf, lineFrom}
 use Rattle.drawing.specs.Drawn.{drawnFrom, eventsFrom}
 use Rattle.drawing.specs.PassDrawn.{DrawRoom}
 use Rattle.drawing.specs.DrawnBounds.{line-few}

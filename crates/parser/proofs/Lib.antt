@@ -1,4 +1,2 @@
 pub mod PartLaws
 pub mod ShorterLaws
-pub mod WriteLaws
-pub mod TokenizeLaws

@@ -1,13 +1,8 @@
 pub mod Lexing
-pub mod Reading
 pub mod Scanning
 pub mod Shorter
 pub mod Ascii
 pub mod Letters
-pub mod Pairs
-pub mod PlainWords
-pub mod Within
-pub mod Writing
 pub mod GlueLaws
 pub mod CharacterLaws
 pub mod ScanLaws
@@ -15,7 +10,4 @@ pub mod LetterLaws
 pub mod RunLaws
 pub mod LexerLaws
 pub mod NextLaws
-pub mod PairLaws
-pub mod PlainLaws
-pub mod WithinLaws
 pub mod GoodText

@@ -1,40 +1,31 @@
 // A line is measured, placed and drawn (rule 10).
-use crate::alignment::place_line;
-use crate::alignment::plain_spaces;
-use crate::cut::cut_line;
-use crate::entry::entry_at;
 use crate::pass::run_pass;
-use crate::quick::Quick;
-use crate::quick::quick_line;
 use meaning::counts::Offset;
 use meaning::counts::Pixels;
-use meaning::line::Entry;
-use meaning::line::LineEnd;
 use meaning::line::Placed;
 use meaning::settings::Settings;
+use moves::measure::measured_count;
+use moves::measure::measured_width;
+use moves::measure::nothing_measured;
+use moves::place::start_place;
+use placing::alignment::place_line;
+use placing::alignment::plain_spaces;
+use placing::cut::cut_line;
+use placing::entry::LineAt;
+use placing::entry::entry_at;
+use placing::quick::Quick;
+use placing::quick::quick_line;
 use steps::first::Known;
 use steps::first::known_here;
-use steps::measure::measured_count;
-use steps::measure::measured_width;
-use steps::measure::nothing_measured;
-use steps::place::start_place;
 use steps::step::Ended;
 use steps::step::Resumed;
 ghost use Prim.Native.Nat.{_≤_};
 ghost use mathlib.Core.Path.{_≡_};
 ghost use Rattle.meaning.specs.Line.{measuredWidth, measuredCount};
-ghost use Rattle.steps.specs.Fine.{FineSettings, FineSpaces};
+ghost use Rattle.moves.specs.Fine.{FineSettings, FineSpaces};
 ghost use Rattle.steps.specs.Knowing.{KnownFits};
-ghost use Rattle.passes.specs.LineFrom.{lineFrom};
-ghost use Rattle.passes.specs.Laying.{LineReady, passedFrom, plainly, asMeasured, placedBy, laidAt};
-
-// A laid line: its entry, how it ended, where the next line starts and what that line resumes.
-pub struct LineAt {
-    pub entry: Entry,
-    pub ended: LineEnd,
-    pub next: Offset,
-    pub rest: Resumed,
-}
+ghost use Rattle.placing.specs.LineFrom.{lineFrom};
+ghost use Rattle.placing.specs.Laying.{LineReady, passedFrom, plainly, asMeasured, placedBy, laidAt};
 
 // How a line is placed to be measured: at the box's left, with plain spaces.
 fn placed_plainly(s: Settings) -> Placed

@@ -1,5 +1,7 @@
 // One pass over a line, in strides of words where it can, else token by token (rule 8, rule 9, rule 12).
 use basis::numbers::greater;
+use blanks::ahead::look_after;
+use blanks::token::step_token;
 use meaning::counts::Chars;
 use meaning::counts::Offset;
 use meaning::cursor::Place;
@@ -7,7 +9,6 @@ use meaning::line::LineEnd;
 use meaning::line::Measure;
 use meaning::settings::Settings;
 use parser::lexeme::Lexed;
-use steps::ahead::look_after;
 use steps::ending::ends_before;
 use steps::ending::nothing_left;
 use steps::first::Known;
@@ -16,7 +17,6 @@ use steps::look::Foreseen;
 use steps::step::Ended;
 use steps::step::Resumed;
 use steps::step::Stepped;
-use steps::token::step_token;
 use strides::strides::strides_unless;
 use strides::waiting::ends_waiting;
 ghost use mathlib.Core.Path.{_≡_};

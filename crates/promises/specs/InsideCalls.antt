@@ -5,8 +5,8 @@ use Rattle.checks.proofs.settings.check_settings.Kinds as check-settings-kinds
 use Rattle.checks.proofs.settings.check_settings.Reads as check-settings-reads
 use Rattle.checks.proofs.text.check_text.Kinds as check-text-kinds
 use Rattle.checks.proofs.text.check_text.Reads as check-text-reads
-use Rattle.parser.proofs.tokenize.tokenize.Kinds as tokenize-kinds
-use Rattle.parser.proofs.tokenize.tokenize.Reads as tokenize-reads
+use Rattle.tokenizer.proofs.tokenize.tokenize.Kinds as tokenize-kinds
+use Rattle.tokenizer.proofs.tokenize.tokenize.Reads as tokenize-reads
 use Rattle.layout.proofs.fresh.layout.Kinds as layout-kinds
 use Rattle.layout.proofs.fresh.layout.Reads as layout-reads
 use Rattle.layout.proofs.drawn.layout_with_events.Kinds as layout-with-events-kinds
@@ -28,7 +28,7 @@ check-settings = callOf 0 check-settings-kinds.ps check-settings-kinds.r check-s
 abbrev pub check-text : Call
 check-text = callOf 1 check-text-kinds.ps check-text-kinds.r check-text-reads.Asked check-text-reads.Learnt
 
--- parser::tokenize::tokenize
+-- tokenizer::tokenize::tokenize
 abbrev pub tokenize : Call
 tokenize = callOf 2 tokenize-kinds.ps tokenize-kinds.r tokenize-reads.Asked tokenize-reads.Learnt
 

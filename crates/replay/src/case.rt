@@ -12,7 +12,7 @@ use meaning::settings::Settings;
 use meaning::sizes::ENTRY_NUMBERS;
 use meaning::sizes::EVENT_NUMBERS;
 use meaning::sizes::TOKEN_NUMBERS;
-use parser::tokenize::tokenize;
+use tokenizer::tokenize::tokenize;
 ghost use Prim.Native.Nat.{_≤_};
 ghost use mathlib.Core.Path.{_≡_};
 ghost use mathlib.Core.Bool.{true};

@@ -14,7 +14,7 @@ use Rattle.meaning.specs.declared.settings.Settings.{Settings}
 use Rattle.meaning.specs.declared.refusals.Refusal.the-variants.{SettingOutOfRange, UnknownAlignment}
 use Rattle.meaning.specs.declared.refusals.Checked.the-variants.{Good, Refused}
 use Rattle.parser.specs.GoodText.{good-length}
-use Rattle.steps.specs.Fine.{FineSettings}
+use Rattle.moves.specs.Fine.{FineSettings}
 use Rattle.laws.specs.GoodLines.{good-both}
 use Rattle.rows.specs.RowsFrom.{TextReady}
 

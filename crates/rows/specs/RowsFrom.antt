@@ -22,13 +22,13 @@ use Rattle.laws.specs.Stands.{next-fewer}
 use Rattle.laws.specs.RowInduction.{unless-cases}
 use Rattle.laws.specs.TokenLaws.{length-size}
 use Rattle.parser.specs.Lexing.{charsFrom}
-use Rattle.steps.specs.Fine.{FineSettings}
+use Rattle.moves.specs.Fine.{FineSettings}
 use Rattle.steps.specs.Lexed.{chars-within}
 use Rattle.steps.specs.Pending.{RestFits}
 use Rattle.steps.specs.Unrolled.{nothingResumed}
 use Rattle.steps.specs.declared.step.Resumed.{Resumed}
-use Rattle.passes.specs.LineFrom.{heldIn, lineAtOf, lineFrom}
-use Rattle.passes.specs.LineLaws.{next-start, next-held, next-chars}
+use Rattle.placing.specs.LineFrom.{heldIn, lineAtOf, lineFrom}
+use Rattle.placing.specs.LineLaws.{next-start, next-held, next-chars}
 use Rattle.rows.specs.Standing.{StandsAt, textFront, StandReady, laidRow, ends, goes-on, entry-is, next-at, next-rest-is}
 use Rattle.rows.specs.declared.stand.Stand.{Stand}
 use Rattle.rows.specs.declared.stand.LaidRow.{LaidRow}

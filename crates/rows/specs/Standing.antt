@@ -12,11 +12,11 @@ use Rattle.meaning.specs.declared.counts.Offset.{Offset}
 use Rattle.meaning.specs.declared.line.LineEnd.{LineEnd}
 use Rattle.meaning.specs.declared.line.LineEnd.the-variants.{NewLine, CarriageReturn, EndOfText, LineBreak}
 use Rattle.steps.specs.Knowing.{KnownFits}
-use Rattle.passes.specs.Laying.{LineReady}
-use Rattle.passes.specs.LineFrom.{lineFrom}
-use Rattle.passes.specs.LineLaws.{next-within, next-further, next-rest}
+use Rattle.placing.specs.Laying.{LineReady}
+use Rattle.placing.specs.LineFrom.{lineFrom}
+use Rattle.placing.specs.LineLaws.{next-within, next-further, next-rest}
 use Rattle.steps.specs.declared.step.Resumed.{Resumed}
-use Rattle.passes.specs.declared.line.LineAt.{LineAt}
+use Rattle.placing.specs.declared.entry.LineAt.{LineAt}
 use Rattle.rows.specs.declared.stand.Stand.{Stand}
 use Rattle.rows.specs.declared.stand.LaidRow.{LaidRow}
 

@@ -1,3 +1,1 @@
-pub mod MoveLaws
 pub mod RestLaws
-pub mod WidthLaws

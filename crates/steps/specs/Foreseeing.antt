@@ -19,7 +19,7 @@ use Rattle.meaning.specs.declared.cursor.Place.{Place}
 use Rattle.parser.specs.Lexing.{charsFrom}
 use Rattle.parser.specs.declared.lexeme.Lexeme.{Lexeme}
 use Rattle.steps.specs.Ahead.{whiteWidth}
-use Rattle.steps.specs.Fine.{FineSettings, FinePlace}
+use Rattle.moves.specs.Fine.{FineSettings, FinePlace}
 use Rattle.steps.specs.Stepping.{lookOf, tokOf}
 use Rattle.steps.specs.Ready.{Standing}
 use Rattle.steps.specs.declared.step.Resumed.{Resumed}

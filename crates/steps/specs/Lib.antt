@@ -1,11 +1,6 @@
 pub mod Ahead
-pub mod Fine
-pub mod Lent
-pub mod Moves
-pub mod FineLaws
 pub mod Lexed
 pub mod Stepping
-pub mod FineSteps
 pub mod Unrolled
 pub mod Ready
 pub mod Foreseeing
@@ -16,11 +11,7 @@ pub mod Running
 pub mod Runs
 pub mod KindLaws
 pub mod FitsLaws
-pub mod LookLaws
 pub mod DrawLaws
 pub mod RunLaws
-pub mod TabLaws
-pub mod BeyondLaws
-pub mod HyphenLaws
 pub mod PassLaws
 pub mod WordLaws

@@ -12,7 +12,7 @@ use Rattle.meaning.specs.declared.line.Measure.{Measure}
 use Rattle.laws.specs.Spell.{textOf, SoundTok}
 use Rattle.parser.specs.Lexing.{charsFrom, lexemeAt}
 use Rattle.parser.specs.declared.lexeme.Lexeme.{Lexeme}
-use Rattle.steps.specs.Fine.{FineSettings, FinePlace}
+use Rattle.moves.specs.Fine.{FineSettings, FinePlace}
 use Rattle.steps.specs.Stepping.{steppedAt, tokOf}
 use Rattle.steps.specs.declared.step.Stepped.{Stepped}
 

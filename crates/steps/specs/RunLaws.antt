@@ -30,7 +30,7 @@ use Rattle.laws.specs.TokenLaws.{length-size}
 use Rattle.parser.specs.Lexing.{charsFrom, lexemeAt, partOf}
 use Rattle.parser.specs.declared.lexeme.Lexeme.{Lexeme}
 use Rattle.parser.specs.declared.part.Part.{Part}
-use Rattle.steps.specs.FineLaws.{fits-room, advance-fine, spaces-fine}
+use Rattle.moves.specs.FineLaws.{fits-room, advance-fine, spaces-fine}
 use Rattle.steps.specs.Stepping.{resumedAt, steppedAt, tokOf}
 use Rattle.steps.specs.Ready.{Standing, Ready, stepFrom}
 use Rattle.steps.specs.Ahead.{whiteWidth}

@@ -18,8 +18,8 @@ use Rattle.laws.specs.TokenLaws.{tokens-cover, chars-size}
 use Rattle.laws.specs.Measuring.{measured-behind}
 use Rattle.parser.specs.Lexing.{charsFrom}
 use Rattle.parser.specs.declared.lexeme.Lexeme.{Lexeme}
-use Rattle.steps.specs.Fine.{FineSettings, FinePlace}
-use Rattle.steps.specs.FineSteps.{FineStep, step-fine}
+use Rattle.moves.specs.Fine.{FineSettings, FinePlace}
+use Rattle.moves.specs.FineSteps.{FineStep, step-fine}
 use Rattle.steps.specs.Stepping.{steppedAt, ranFrom, tokOf}
 use Rattle.steps.specs.Unrolled.{farther, farther-farther, nothingResumed, ran-end, continued, ran-step}
 use Rattle.steps.specs.Ready.{Small, stepFrom}

@@ -19,7 +19,7 @@ use Rattle.meaning.specs.declared.line.EventKind.the-variants.{Space}
 use Rattle.meaning.specs.declared.line.Measure.{Measure}
 use Rattle.parser.specs.Lexing.{charsFrom}
 use Rattle.parser.specs.declared.lexeme.Lexeme.{Lexeme}
-use Rattle.steps.specs.Fine.{FineSettings, FinePlace}
+use Rattle.moves.specs.Fine.{FineSettings, FinePlace}
 use Rattle.steps.specs.Stepping.{steppedAt, tokOf}
 use Rattle.steps.specs.Ready.{Ready}
 use Rattle.steps.specs.Foreseeing.{Foresees}

@@ -28,8 +28,8 @@ use Rattle.parser.specs.Lexing.{charsFrom, lexemeAt, partOf}
 use Rattle.parser.specs.declared.lexeme.Lexeme.{Lexeme}
 use Rattle.parser.specs.declared.part.Part.{Part}
 use Rattle.steps.specs.Stepping.{resumedAt, steppedAt, tokOf}
-use Rattle.steps.specs.Fine.{FinePlace}
-use Rattle.steps.specs.FineLaws.{times-bound}
+use Rattle.moves.specs.Fine.{FinePlace}
+use Rattle.moves.specs.FineLaws.{times-bound}
 use Rattle.steps.specs.Ready.{Standing, stepFrom}
 use Rattle.steps.specs.Stopping.{wordMeasure, wordPlace, endsBefore}
 use Rattle.steps.specs.declared.step.Stepped.{Stepped}

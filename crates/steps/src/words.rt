@@ -1,11 +1,5 @@
 // What a word does to a line (rule 7 and rule 8).
-use crate::cursor::advanced;
-use crate::cursor::fits;
-use crate::cursor::room;
 use crate::ending::ends_before;
-use crate::measure::printed_at;
-use crate::space_config::spaces_after;
-use crate::space_config::spaces_width;
 use crate::step::Stepped;
 use meaning::counts::Chars;
 use meaning::counts::Offset;
@@ -15,6 +9,12 @@ use meaning::cursor::Spaces;
 use meaning::line::LineEnd;
 use meaning::line::Measure;
 use meaning::settings::Settings;
+use moves::cursor::advanced;
+use moves::cursor::fits;
+use moves::cursor::room;
+use moves::measure::printed_at;
+use moves::space_config::spaces_after;
+use moves::space_config::spaces_width;
 use parser::lexeme::Lexeme;
 use parser::part::part_of;
 ghost use Prim.Native.Nat.{_≤_, _+_, _*_};
@@ -22,7 +22,7 @@ ghost use mathlib.Core.Path.{_≡_};
 ghost use mathlib.Core.Bool.{true, false};
 ghost use Rattle.meaning.specs.Cursor.{fitsIn};
 ghost use Rattle.meaning.specs.declared.tokens.TokenKind.the-variants.{Word};
-ghost use Rattle.steps.specs.Fine.{FineSpaces, FinePlace};
+ghost use Rattle.moves.specs.Fine.{FineSpaces, FinePlace};
 ghost use Rattle.steps.specs.Ready.{Ready, stepFrom};
 ghost use Rattle.steps.specs.Stopping.{wordMeasure, wordPlace};
 

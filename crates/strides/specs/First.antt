@@ -8,7 +8,7 @@ use Rattle.meaning.specs.Cursor.{fitsIn}
 use Rattle.meaning.specs.declared.settings.Settings.{Settings}
 use Rattle.meaning.specs.declared.cursor.Place.{Place}
 use Rattle.steps.specs.Stopping.{wordPlace}
-use Rattle.parser.specs.PlainWords.{PlainWord}
+use Rattle.pairs.specs.PlainWords.{PlainWord}
 use Rattle.strides.specs.declared.first.Begun.{Begun}
 use Rattle.strides.specs.declared.first.First.{First}
 use Rattle.strides.specs.declared.first.First.the-variants.{None, Word}

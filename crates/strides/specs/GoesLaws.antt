@@ -11,7 +11,7 @@ use Rattle.meaning.specs.declared.line.Measure.{Measure}
 use Rattle.steps.specs.Stepping.{ranFrom}
 use Rattle.steps.specs.Unrolled.{farther, nothingResumed}
 use Rattle.steps.specs.Running.{PassReady, none-fits}
-use Rattle.parser.specs.PlainWords.{Found}
+use Rattle.pairs.specs.PlainWords.{Found}
 use Rattle.strides.specs.Strides.{waitingAt, goingAt, Onward, Waits, Goes, WaitReady}
 use Rattle.steps.specs.Foreseeing.{ForeseesFrom}
 use Rattle.steps.specs.declared.look.Foreseen.{Foreseen}

@@ -14,9 +14,9 @@ use Rattle.meaning.specs.declared.cursor.Place.{Place}
 use Rattle.meaning.specs.declared.line.Measure.{Measure}
 use Rattle.laws.specs.Measuring.{printedAt}
 use Rattle.parser.specs.Scanning.{wordOf, scannedAt}
-use Rattle.parser.specs.Pairs.{PairAt}
-use Rattle.parser.specs.declared.pair.Pair.{Pair}
-use Rattle.steps.specs.Fine.{FineSpaces}
+use Rattle.pairs.specs.Pairs.{PairAt}
+use Rattle.pairs.specs.declared.pair.Pair.{Pair}
+use Rattle.moves.specs.Fine.{FineSpaces}
 use Rattle.steps.specs.Unrolled.{nothingResumed}
 use Rattle.steps.specs.Running.{PassReady}
 use Rattle.steps.specs.Stopping.{wordMeasure}

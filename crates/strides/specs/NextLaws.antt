@@ -15,19 +15,19 @@ use Rattle.meaning.specs.declared.cursor.Spaces.{Spaces}
 use Rattle.meaning.specs.declared.cursor.Place.{Place}
 use Rattle.meaning.specs.declared.line.Measure.{Measure}
 use Rattle.parser.specs.Scanning.{wordOf, scannedAt}
-use Rattle.parser.specs.Pairs.{oneSpace}
-use Rattle.parser.specs.declared.pair.Pair.{Pair}
+use Rattle.pairs.specs.Pairs.{oneSpace}
+use Rattle.pairs.specs.declared.pair.Pair.{Pair}
 use Rattle.steps.specs.Unrolled.{nothingResumed}
-use Rattle.steps.specs.FineLaws.{spaces-fine}
+use Rattle.moves.specs.FineLaws.{spaces-fine}
 use Rattle.steps.specs.Running.{PassReady}
 use Rattle.steps.specs.Stopping.{wordMeasure, wordPlace}
 use Rattle.steps.specs.WordLaws.{word-at}
-use Rattle.parser.specs.PlainWords.{Stride}
+use Rattle.pairs.specs.PlainWords.{Stride}
 use Rattle.strides.specs.Strides.{waitingAt, strodePlace, Onward}
 use Rattle.strides.specs.Next.{Read, plainPair, bothWide, fittedOf, takenMeasure, MeasureReady, Taking, Decides, DecideReady}
 use Rattle.strides.specs.declared.next.Taken.{Taken}
 use Rattle.strides.specs.declared.next.Next.the-variants.{TooWide, Fits}
-use Rattle.parser.specs.PlainLaws.{plain-pair}
+use Rattle.pairs.specs.PlainLaws.{plain-pair}
 use Rattle.strides.specs.OnwardLaws.{read-pending}
 use Rattle.strides.specs.StrideLaws.{pair-goes}
 

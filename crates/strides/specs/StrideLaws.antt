@@ -20,18 +20,18 @@ use Rattle.meaning.specs.declared.cursor.Place.{Place}
 use Rattle.meaning.specs.declared.line.EventKind.the-variants.{Space}
 use Rattle.meaning.specs.declared.line.Measure.{Measure}
 use Rattle.parser.specs.Lexing.{charsFrom, lexedAt}
-use Rattle.parser.specs.Pairs.{oneSpace, PairAt}
+use Rattle.pairs.specs.Pairs.{oneSpace, PairAt}
 use Rattle.parser.specs.declared.lexeme.Lexeme.{Lexeme}
 use Rattle.parser.specs.declared.lexeme.Lexed.the-variants.{Token}
 use Rattle.steps.specs.Ahead.{lookAt}
-use Rattle.steps.specs.Fine.{FineCursor}
+use Rattle.moves.specs.Fine.{FineCursor}
 use Rattle.steps.specs.Lexed.{lexes}
 use Rattle.steps.specs.Stepping.{lookOf}
 use Rattle.steps.specs.Unrolled.{nothingResumed}
 use Rattle.steps.specs.Runs.{wholeAnswer}
 use Rattle.steps.specs.Running.{PassReady}
 use Rattle.steps.specs.Stopping.{wordMeasure, wordPlace}
-use Rattle.parser.specs.PlainWords.{PlainWord}
+use Rattle.pairs.specs.PlainWords.{PlainWord}
 use Rattle.strides.specs.Strides.{Onward}
 use Rattle.steps.specs.declared.look.Look.{Look}
 use Rattle.steps.specs.declared.step.Stepped.the-variants.{Go}
@@ -39,7 +39,7 @@ use Rattle.steps.specs.DrawLaws.{draws-all, draws-some, whole-drawn}
 use Rattle.steps.specs.FitsLaws.{look-zero, look-word}
 use Rattle.steps.specs.RunLaws.{space-whole}
 use Rattle.steps.specs.WordLaws.{word-at, word-goes}
-use Rattle.parser.specs.PlainLaws.{plainWord, plain-read}
+use Rattle.pairs.specs.PlainLaws.{plainWord, plain-read}
 use Rattle.strides.specs.OnwardLaws.{looks-on, looks-over, read-pending, read-ready, goes-onward, onward-on}
 
 -- ---- a word

@@ -9,12 +9,12 @@ use Rattle.meaning.specs.SpaceConfig.{spacesWidth}
 use Rattle.meaning.specs.declared.settings.Settings.{Settings}
 use Rattle.meaning.specs.declared.cursor.Place.{Place}
 use Rattle.meaning.specs.declared.line.Measure.{Measure}
-use Rattle.parser.specs.Pairs.{PairAt}
+use Rattle.pairs.specs.Pairs.{PairAt}
 use Rattle.parser.specs.declared.lexeme.Lexeme.{Lexeme}
 use Rattle.steps.specs.Stepping.{ranFrom}
 use Rattle.steps.specs.Unrolled.{nothingResumed}
 use Rattle.steps.specs.Running.{PassReady}
-use Rattle.parser.specs.PlainWords.{Found}
+use Rattle.pairs.specs.PlainWords.{Found}
 use Rattle.steps.specs.declared.step.Resumed.{Resumed}
 use Rattle.strides.specs.declared.going.Waiting.{Waiting}
 use Rattle.strides.specs.declared.going.Going.{Going}

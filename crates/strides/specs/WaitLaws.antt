@@ -21,10 +21,10 @@ use Rattle.meaning.specs.declared.line.LineEnd.{LineEnd}
 use Rattle.meaning.specs.declared.line.LineEnd.the-variants.{LineBreak}
 use Rattle.meaning.specs.declared.line.Measure.{Measure}
 use Rattle.parser.specs.Lexing.{charsFrom, partOf}
-use Rattle.parser.specs.Pairs.{oneSpace}
+use Rattle.pairs.specs.Pairs.{oneSpace}
 use Rattle.steps.specs.Ahead.{lookAt}
-use Rattle.steps.specs.Fine.{FinePlace}
-use Rattle.steps.specs.FineLaws.{fits-room}
+use Rattle.moves.specs.Fine.{FinePlace}
+use Rattle.moves.specs.FineLaws.{fits-room}
 use Rattle.steps.specs.Stepping.{ranFrom}
 use Rattle.steps.specs.Unrolled.{farther, nothingResumed}
 use Rattle.steps.specs.Runs.{cutShown, CutRun, cutAnswer}

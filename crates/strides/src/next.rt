@@ -9,15 +9,15 @@ use meaning::counts::Pixels;
 use meaning::cursor::Place;
 use meaning::cursor::Spaces;
 use meaning::settings::Settings;
-use parser::pair::Pair;
-use parser::pair::stride_end;
+use moves::cursor::room;
+use moves::space_config::spaces_after;
+use moves::space_config::spaces_width;
+use pairs::pair::Pair;
+use pairs::pair::stride_end;
 use parser::scan::Scanned;
-use steps::cursor::room;
-use steps::space_config::spaces_after;
-use steps::space_config::spaces_width;
 ghost use mathlib.Core.Path.{_≡_};
 ghost use Prim.Native.Nat.{_+_, _≤_, _<_};
-ghost use Rattle.steps.specs.Fine.{FinePlace};
+ghost use Rattle.moves.specs.Fine.{FinePlace};
 ghost use Rattle.strides.specs.Next.{Read, plainPair, fittedOf, Decides, DecideReady};
 
 // What is taken: where the word starts, the word, the space's width, what the space leaves of the extra pixels, and the place

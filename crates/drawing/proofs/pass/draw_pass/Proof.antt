@@ -8,9 +8,9 @@ use Rattle.steps.specs.Ready.{Ready}
 use Rattle.steps.specs.Pending.{Pending, pending, none-pending}
 use Rattle.steps.specs.Foreseeing.{ForeseesFrom}
 use Rattle.steps.specs.Running.{none-held}
-use Rattle.steps.specs.BeyondLaws.{step-foresees}
+use Rattle.blanks.specs.BeyondLaws.{step-foresees}
 use Rattle.drawing.specs.Drawn.{drawnFrom}
-use Rattle.drawing.specs.Sheet.{Sheet, sheet, drawnOn}
+use Rattle.ink.specs.Sheet.{Sheet, sheet, drawnOn}
 use Rattle.drawing.proofs.PassLoop.{Drawing, drawing-first, drawing-strode, waits-ready, drawing-waits, pen-room, drawing-ends, token-ready, drawing-stops, drawing-goes, goal-is}
 use borrow.Author.Needs.{needs}
 use Rattle.drawing.proofs.pass.draw_pass.Statement.{statement}

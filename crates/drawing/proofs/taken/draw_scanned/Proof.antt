@@ -3,8 +3,8 @@
 use Prim.Native.Nat.{_*_, _≤_}
 use mathlib.Core.Path.{ap, _∙_}
 use native.Mathlib.Omega.{arith}
-use Rattle.steps.specs.FineLaws.{times-bound}
-use Rattle.drawing.specs.Sheet.{sheet, drawnOn}
+use Rattle.moves.specs.FineLaws.{times-bound}
+use Rattle.ink.specs.Sheet.{sheet, drawnOn}
 use Rattle.drawing.proofs.TakenEvents.{scanned-inside, scanned-print}
 use borrow.Author.Needs.{needs}
 use Rattle.drawing.proofs.taken.draw_scanned.Statement.{statement}

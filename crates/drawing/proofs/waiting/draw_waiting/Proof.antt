@@ -7,7 +7,7 @@ use Rattle.strides.specs.OnwardLaws.{read-pending}
 use Rattle.strides.specs.WaitLaws.{trail-narrow}
 use Rattle.strides.specs.declared.waiting.Trail.{Trail}
 use Rattle.drawing.specs.Drawn.{drawnFrom}
-use Rattle.drawing.specs.Sheet.{sheet, drawnOn, on-none}
+use Rattle.ink.specs.Sheet.{sheet, drawnOn, on-none}
 use Rattle.drawing.proofs.StrideEvents.{drawnBy, waits-drawn}
 use Rattle.drawing.proofs.waiting.draw_waiting.Statement.{statement}
 use Rattle.drawing.proofs.waiting.draw_waiting.Tie as tie

@@ -1,6 +1,6 @@
 -- `passes::line::as_measured` meets its contract (rule 10).
 -- Assumes nothing.
-use Rattle.passes.specs.Laying.{asMeasured}
+use Rattle.placing.specs.Laying.{asMeasured}
 use Rattle.basis.specs.Order.{tests}
 use Rattle.passes.proofs.line.as_measured.Statement.{statement}
 use Rattle.passes.proofs.line.as_measured.Tie as tie

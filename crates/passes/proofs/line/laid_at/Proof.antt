@@ -1,6 +1,6 @@
 -- `passes::line::laid_at` meets its contract (rule 10).
 -- Assumes nothing.
-use Rattle.passes.specs.Laying.{laidAt}
+use Rattle.placing.specs.Laying.{laidAt}
 use borrow.Author.Needs.{needs}
 use Rattle.passes.proofs.line.laid_at.Statement.{statement}
 use Rattle.passes.proofs.line.laid_at.Tie as tie

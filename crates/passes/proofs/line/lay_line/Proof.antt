@@ -2,8 +2,8 @@
 -- Assumes nothing.
 use mathlib.Core.Path.{subst}
 use borrow.Author.Needs.{needs}
-use Rattle.passes.specs.Quick.{DrawnAlike, QuickLine}
-use Rattle.passes.proofs.LayLaws.{rested, alike-few, laid-alike}
+use Rattle.placing.specs.Quick.{DrawnAlike, QuickLine}
+use Rattle.placing.specs.LayLaws.{rested, alike-few, laid-alike}
 use Rattle.passes.proofs.line.lay_line.Statement.{statement}
 use Rattle.passes.proofs.line.lay_line.Tie as tie
 

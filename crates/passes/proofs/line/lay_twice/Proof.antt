@@ -1,7 +1,7 @@
 -- `passes::line::lay_twice` meets its contract (rule 10).
 -- Assumes nothing.
-use Rattle.passes.proofs.LayLaws.{plain-ready, few-spaces, placed-ready, laid-twice, laid-once}
-use Rattle.passes.specs.Laying.{LineReady}
+use Rattle.placing.specs.LayLaws.{plain-ready, few-spaces, placed-ready, laid-twice, laid-once}
+use Rattle.placing.specs.Laying.{LineReady}
 use Rattle.steps.specs.Knowing.{KnownFits}
 use native.Mathlib.Omega.{arith}
 use mathlib.Core.Path.{refl, sym, _∙_}

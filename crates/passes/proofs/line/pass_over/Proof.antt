@@ -1,6 +1,6 @@
 -- `passes::line::pass_over` meets its contract (rule 10).
 -- Assumes nothing.
-use Rattle.passes.proofs.LayLaws.{start-ready, passes}
+use Rattle.placing.specs.LayLaws.{start-ready, passes}
 use borrow.Author.Needs.{needs}
 use Rattle.passes.proofs.line.pass_over.Statement.{statement}
 use Rattle.passes.proofs.line.pass_over.Tie as tie

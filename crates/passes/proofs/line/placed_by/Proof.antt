@@ -1,6 +1,6 @@
 -- `passes::line::placed_by` meets its contract (rule 10).
 -- Assumes nothing.
-use Rattle.passes.specs.Laying.{placedBy}
+use Rattle.placing.specs.Laying.{placedBy}
 use borrow.Author.Needs.{needs}
 use Rattle.passes.proofs.line.placed_by.Statement.{statement}
 use Rattle.passes.proofs.line.placed_by.Tie as tie

@@ -11,7 +11,7 @@ use Rattle.steps.specs.Ready.{Ready}
 use Rattle.steps.specs.Foreseeing.{ForeseesFrom}
 use Rattle.steps.specs.Running.{PassReady, none-fits, none-held, step-keeps, pass-goes, pass-stops, pass-ends}
 use Rattle.strides.specs.GoesLaws.{waits-ready, waits-end}
-use Rattle.steps.specs.BeyondLaws.{step-foresees}
+use Rattle.blanks.specs.BeyondLaws.{step-foresees}
 use borrow.Author.Needs.{needs}
 use Rattle.passes.proofs.pass.run_pass.Statement.{statement}
 use Rattle.passes.proofs.pass.run_pass.Tie as tie

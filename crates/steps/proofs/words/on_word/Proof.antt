@@ -3,7 +3,7 @@
 use Prim.Native.Nat.{_≤_}
 use mathlib.Core.Path.{sym, ap, _∙_}
 use native.Mathlib.Omega.{arith}
-use Rattle.steps.specs.FineLaws.{times-bound}
+use Rattle.moves.specs.FineLaws.{times-bound}
 use Rattle.steps.specs.declared.step.Stepped.the-variants.{Stop}
 use Rattle.steps.specs.WordLaws.{WordAt, word-at, word-goes, word-waits}
 use borrow.Author.Needs.{needs}

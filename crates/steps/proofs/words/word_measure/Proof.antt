@@ -2,7 +2,7 @@
 -- Assumes nothing.
 use Prim.Native.Nat.{_-_, _*_, _≤_}
 use Rattle.steps.specs.WordLaws.{letters-small}
-use Rattle.steps.specs.FineLaws.{width-bound}
+use Rattle.moves.specs.FineLaws.{width-bound}
 use Rattle.steps.specs.Stopping.{wordMeasure}
 use native.Mathlib.Omega.{arith}
 use borrow.Author.Needs.{needs}

@@ -6,7 +6,7 @@ use Prim.Native.Nat.{_-_, _*_, _/_, _≤_}
 use native.Mathlib.Omega.{arith}
 use borrow.Author.Needs.{needs}
 use Rattle.meaning.specs.Cursor.{fitsIn}
-use Rattle.parser.specs.PlainWords.{PlainWord}
+use Rattle.pairs.specs.PlainWords.{PlainWord}
 use Rattle.strides.specs.StrideLaws.{most-small, most-fits}
 use Rattle.strides.proofs.first.first_taken.Statement.{statement}
 use Rattle.strides.proofs.first.first_taken.Tie as tie

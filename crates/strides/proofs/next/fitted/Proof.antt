@@ -5,7 +5,7 @@ use native.Mathlib.Omega.{arith}
 use borrow.Author.Needs.{needs}
 use Rattle.meaning.specs.Cursor.{roomOf}
 use Rattle.meaning.specs.SpaceConfig.{spacesWidth}
-use Rattle.steps.specs.FineLaws.{times-bound}
+use Rattle.moves.specs.FineLaws.{times-bound}
 use Rattle.strides.specs.Strides.{waitingAt}
 use Rattle.strides.specs.NextLaws.{fitted-waits, fitted-takes}
 use Rattle.strides.proofs.next.fitted.Statement.{statement}

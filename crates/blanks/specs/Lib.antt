@@ -1,0 +1,4 @@
+pub mod LookLaws
+pub mod TabLaws
+pub mod BeyondLaws
+pub mod HyphenLaws

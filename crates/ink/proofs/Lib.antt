@@ -1,0 +1,5 @@
+pub mod StretchLaws
+pub mod WordLoop
+pub mod RunEvents
+pub mod TabEvents
+pub mod WordEvents

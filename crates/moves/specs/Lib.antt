@@ -1,0 +1,5 @@
+pub mod Fine
+pub mod Lent
+pub mod Moves
+pub mod FineLaws
+pub mod FineSteps

@@ -1,0 +1,6 @@
+pub mod Pairs
+pub mod PlainWords
+pub mod Within
+pub mod PairLaws
+pub mod PlainLaws
+pub mod WithinLaws

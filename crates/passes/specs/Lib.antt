@@ -1,6 +1,0 @@
-pub mod PlaceLaws
-pub mod FinePass
-pub mod LineFrom
-pub mod Laying
-pub mod LineLaws
-pub mod Quick

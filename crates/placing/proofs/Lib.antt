@@ -1,0 +1,4 @@
+pub mod CountLaws
+pub mod CountingLaws
+pub mod CutLaws
+pub mod QuickLaws

@@ -1,0 +1,155 @@
+-- `placing::quick::count_words` meets its contract (rule 8, rule 10).
+-- Assumes nothing.
+use mathlib.Core.Path.{refl}
+use Prim.Native.Nat.{_-_, _/_, _≤_}
+use native.Mathlib.Nat.{div-le-self}
+use native.Mathlib.Omega.{arith}
+use lib.ListN.{length}
+use borrow.Author.Needs.{needs}
+use Rattle.parser.specs.Scanning.{wordOf}
+use Rattle.pairs.specs.Pairs.{PairAt}
+use Rattle.placing.specs.Quick.{Counts}
+use Rattle.placing.proofs.CountingLaws.{Counting, counting-first, pair-within, counting-more, counted-none, counting-ends, counting-waits}
+use Rattle.placing.proofs.quick.count_words.Statement.{statement}
+use Rattle.placing.proofs.quick.count_words.Tie as tie
+
+abbrev Inv-loop : tie.InvT-loop
+Inv-loop text at most end₀ columns₀ spaces₀ end columns spaces = Counting text at most end columns spaces
+
+abbrev μ-loop : tie.MeasureT-loop
+μ-loop text at most end₀ columns₀ spaces₀ end columns spaces = length text - end
+
+abbrev begin : tie.At-loop Inv-loop μ-loop → tie.Start Inv-loop μ-loop
+begin c = c .before .before .before .before .before
+
+-- The words so far, with the settings that they are counted for.
+so-far : (c : tie.At-loop Inv-loop μ-loop) →
+    let a = begin c .args in
+    Counts (a .s) (a .text .now) (a .at) (c .loop .end) (c .loop .columns) (c .loop .spaces)
+so-far c = c .loop .inv .counts _ (begin c .pre .0) refl
+
+few : (c : tie.At-loop Inv-loop μ-loop) → begin c .args .s .width .0 / begin c .args .s .glyph .0 ≤ 4096
+few c =
+    let a = begin c .args .s in
+    omega (arith, div-le-self (a .width .0) (a .glyph .0), begin c .pre .0 .settings .2)
+
+-- The pair that was found.
+found : (c : tie.Else2 Inv-loop μ-loop) →
+    let n = c .before .before .before in
+    let r = n .next-pair .result in
+    PairAt (begin (n .before) .args .text .now) (n .before .loop .end) (r .from .0) (r .looked .0) (wordOf (r .word))
+found c = c .before .before .before .next-pair .ensures (omega (arith, c .if2 .left))
+
+div-most : tie.Need-div-most Inv-loop μ-loop
+div-most c = search needs
+
+first-known-requires : tie.Need-first-known-requires Inv-loop μ-loop
+first-known-requires c κs =
+    let b = c .before .before in
+    let a = b .args .s in
+    (b .pre .0 .short, omega (arith, div-le-self (a .width .0) (a .glyph .0), b .pre .0 .settings .2), b .pre .1)
+
+nothing-waits-requires : tie.Need-nothing-waits-requires Inv-loop μ-loop
+nothing-waits-requires c κs = search needs
+
+counted-at-requires : tie.Need-counted-at-requires Inv-loop μ-loop
+counted-at-requires c κs = search needs
+
+returns : tie.Need-returns Inv-loop μ-loop
+returns c = counted-none _ _ _ _ (c .counted-at .ensures)
+
+loop-holds : tie.Need-loop-holds Inv-loop μ-loop
+loop-holds c = counting-first _ (c .before .first-known .ensures (omega (arith, c .if1 .left)))
+
+cast-next-pair : tie.Need-cast-next-pair Inv-loop μ-loop
+cast-next-pair c =
+    let r = so-far c .plain .ready in
+    record { fits = omega (arith, r .inside, begin c .pre .0 .short) }
+
+next-pair-requires : tie.Need-next-pair-requires Inv-loop μ-loop
+next-pair-requires c κs = begin c .pre .0 .short
+
+nothing-waits-requires-2 : tie.Need-nothing-waits-requires-2 Inv-loop μ-loop
+nothing-waits-requires-2 c κs = search needs
+
+counted-at-requires-2 : tie.Need-counted-at-requires-2 Inv-loop μ-loop
+counted-at-requires-2 c κs = search needs
+
+returns-2 : tie.Need-returns-2 Inv-loop μ-loop
+returns-2 c =
+    let w = c .before in
+    let l = w .before .before .before .before .before in
+    λ _. counting-ends (begin l .pre .0) refl (l .loop .inv) _ _ (w .nothing-waits2 .ensures) (c .counted-at2 .ensures)
+
+sub-if3 : tie.Need-sub-if3 Inv-loop μ-loop
+sub-if3 c = c .before .before .before .before .loop .inv .fits
+
+counted-at-requires-3 : tie.Need-counted-at-requires-3 Inv-loop μ-loop
+counted-at-requires-3 c κs = search needs
+
+returns-3 : tie.Need-returns-3 Inv-loop μ-loop
+returns-3 c =
+    let i = c .before .before .before in
+    let e = i .before in
+    let l = e .before .before .before .before in
+    let w = e .before .before .before .next-pair .result .word in
+    λ _. counting-waits (begin l .pre .0) refl (l .loop .inv) _ _ w (found e) (omega (arith, i .if3 .taken)) _ (c .counted-at3 .ensures)
+
+add-columns : tie.Need-add-columns Inv-loop μ-loop
+add-columns c =
+    let l = c .before .before .before .before .before in
+    record { fits = omega (arith, c .if3 .left, few l) }
+
+add-columns-2 : tie.Need-add-columns-2 Inv-loop μ-loop
+add-columns-2 c =
+    let l = c .before .before .before .before .before in
+    record { fits = omega (arith, c .if3 .left, few l) }
+
+add-spaces : tie.Need-add-spaces Inv-loop μ-loop
+add-spaces c =
+    let e = c .before in
+    let l = e .before .before .before .before in
+    record { fits = omega (arith, pair-within _ (found e), begin l .pre .0 .short) }
+
+add-spaces-2 : tie.Need-add-spaces-2 Inv-loop μ-loop
+add-spaces-2 c =
+    let e = c .before in
+    let l = e .before .before .before .before in
+    let r = so-far l .plain .ready in
+    record { fits = omega (arith, pair-within _ (found e), r .small, r .inside, begin l .pre .0 .short) }
+
+loop-less : tie.Need-loop-less Inv-loop μ-loop
+loop-less c = omega (arith, pair-within _ (found (c .before)))
+
+loop-again : tie.Need-loop-again Inv-loop μ-loop
+loop-again c =
+    let e = c .before in
+    let n = e .before .before .before in
+    counting-more (n .next-pair .result .word) (found e) (n .before .loop .inv) (omega (arith, c .if3 .left))
+
+pub count-words-spec : {M : Type 1} → statement M
+count-words-spec =
+    tie.close
+    (tie.spec
+    Inv-loop
+    μ-loop
+    div-most
+    first-known-requires
+    nothing-waits-requires
+    counted-at-requires
+    returns
+    loop-holds
+    cast-next-pair
+    next-pair-requires
+    nothing-waits-requires-2
+    counted-at-requires-2
+    returns-2
+    sub-if3
+    counted-at-requires-3
+    returns-3
+    add-columns
+    add-columns-2
+    add-spaces
+    add-spaces-2
+    loop-less
+    loop-again)

@@ -1,0 +1,92 @@
+-- Laying a line: what its passes need, and the line that they make.
+-- Assumes nothing.
+use Prim.Native.Nat.{ℕ, _≤_}
+use native.Mathlib.Omega.{arith}
+use mathlib.Core.Path.{_≡_, refl, sym, ap, _∙_}
+use mathlib.Core.Bool.{true}
+use mathlib.Core.List.{List}
+use Rattle.meaning.specs.Line.{unmeasured, measuredWidth, measuredCount, startPlace}
+use Rattle.meaning.specs.declared.settings.Settings.{Settings}
+use Rattle.meaning.specs.declared.cursor.Place.{Place}
+use Rattle.meaning.specs.declared.line.Measure.{Measure}
+use Rattle.meaning.specs.declared.line.Placed.{Placed}
+use Rattle.moves.specs.Fine.{FineSpaces}
+use Rattle.moves.specs.FineSteps.{plain-fine, start-fine}
+use Rattle.placing.specs.PlaceLaws.{place-fine}
+use Rattle.steps.specs.Stepping.{ranFrom}
+use Rattle.steps.specs.Unrolled.{nothingResumed}
+use Rattle.steps.specs.Running.{PassReady, none-fits}
+use Rattle.placing.specs.LineFrom.{lineFrom}
+use Rattle.placing.specs.Laying.{LineReady, passedFrom, plainly, asMeasured, placedBy, laidAt, line-passes, measured-plainly}
+use Rattle.placing.specs.LineLaws.{placed-count}
+use Rattle.placing.specs.Quick.{DrawnAlike}
+use Rattle.steps.specs.declared.step.Resumed.{Resumed}
+use Rattle.steps.specs.declared.step.Ended.{Ended}
+use Rattle.placing.specs.declared.entry.LineAt.{LineAt}
+use Rattle.placing.specs.FairLaws.{laid-same}
+
+module _ {s : Settings} {t : List ℕ} {at : ℕ} {r : Resumed} (h : LineReady s t at r) where
+  -- ---- one pass
+
+  module _ (p : Placed) (start : Place) (m : Measure) (is : start ≡ startPlace s (p .left .0) (p .spaces)) (none : m ≡ unmeasured) where
+    pub start-ready : FineSpaces (p .spaces) → p .left .0 ≤ s .width .0 → PassReady s start t at r m
+    start-ready f g =
+        record {
+          settings = h .settings;
+          place = rw is (start-fine s (p .left .0) (p .spaces) (h .settings) g f);
+          short = h .short;
+          inside = h .inside;
+          rest = h .rest;
+          small = rw none (omega arith);
+        }
+
+    pub passes : (e : Ended) → e ≡ ranFrom s start t at (r .chars .0) (r .count .0) m → e ≡ passedFrom s t at r p
+    unfolding passedFrom
+    passes e f = rw (is, none) at f
+
+  -- ---- measured, and placed
+
+  module _ (plain : Placed) (first : Ended) (is : plain ≡ plainly s) (measured : first ≡ passedFrom s t at r plain) where
+    pub plain-ready : FineSpaces (plain .spaces) × (plain .left .0 ≤ s .width .0)
+    plain-ready = rw is (plain-fine s (h .settings), omega arith)
+
+    pub few-spaces : measuredCount s (first .measure) ≤ 65535
+    few-spaces = rw (measured, is) (placed-count s t at r (h .rest) (h .settings) (h .short))
+
+    pub placed-ready : (p : Placed) → p ≡ placedBy s first → FineSpaces (p .spaces) × (p .left .0 ≤ s .width .0)
+    unfolding placedBy
+    placed-ready p e = rw e (place-fine s (first .ended) (measuredWidth s (first .measure)) (measuredCount s (first .measure)) (h .settings) few-spaces)
+
+    -- ---- and drawn
+
+    module _ (width : ℕ) (p : Placed) (l : LineAt) (wide : width ≡ measuredWidth s (first .measure)) (placed : p ≡ placedBy s first) where
+      pub laid-twice : (drawn : Ended) → drawn ≡ passedFrom s t at r p → l ≡ laidAt at r p width (first .reach .0) drawn → l ≡ lineFrom s t at r
+      laid-twice drawn e f = rw (f, e, placed, wide, measured, is) (sym (line-passes s t at r (h .rest)))
+
+      -- A line that is placed as it was measured is drawn as it was.
+      pub laid-once : asMeasured s p ≡ true → l ≡ laidAt at r p width (first .reach .0) first → l ≡ lineFrom s t at r
+      laid-once e f = laid-twice first (measured ∙ ap (passedFrom s t at r) (is ∙ sym (measured-plainly s p e))) f
+
+-- ---- a line that is drawn as it was measured
+
+module _ {s : Settings} {t : List ℕ} {at : ℕ} {r : Resumed} (h : LineReady s t at r) (none : r .chars .0 ≡ 0) where
+  pub rested : LineReady s t at nothingResumed
+  rested = record { settings = h .settings; short = h .short; inside = h .inside; rest = none-fits t at nothingResumed refl }
+
+  passed-rested : (p : Placed) → passedFrom s t at nothingResumed p ≡ passedFrom s t at r p
+  unfolding passedFrom
+  passed-rested p =
+      let count : r .count .0 ≡ 0 = omega (arith, h .rest .counts) in
+      λ i. ranFrom s (startPlace s (p .left .0) (p .spaces)) t at (sym none i) (sym count i) unmeasured
+
+  module _ (e : Ended) (d : DrawnAlike s t at e) where
+    pub alike-few : measuredCount s (e .measure) ≤ 65535
+    alike-few = few-spaces h (plainly s) e refl (d .measured ∙ passed-rested (plainly s))
+
+    pub laid-alike : (l : LineAt) → l ≡ laidAt at r (placedBy s e) (measuredWidth s (e .measure)) (e .reach .0) e → l ≡ lineFrom s t at r
+    laid-alike l f =
+        let p = placedBy s e in
+        let width = measuredWidth s (e .measure) in
+        laid-twice h (plainly s) e refl (d .measured ∙ passed-rested (plainly s)) width p l refl refl
+        (passedFrom s t at nothingResumed p) (passed-rested p)
+        (f ∙ laid-same at r p width e (passedFrom s t at nothingResumed p) (d .drawn))

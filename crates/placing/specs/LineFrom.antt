@@ -1,0 +1,30 @@
+-- What laying a line answers: the line that the characters at an offset of a text begin with, after a resumed rest.
+-- Assumes nothing.
+use Prim.Native.Nat.{ℕ, _+_}
+use mathlib.Core.List.{List}
+use lib.ListN.{take}
+use Rattle.unicode.specs.Encoding.{size}
+use Rattle.meaning.specs.LineIter.{Held}
+use Rattle.meaning.specs.Line.{Line, layLine, entryAt}
+use Rattle.meaning.specs.declared.settings.Settings.{Settings}
+use Rattle.parser.specs.Lexing.{charsFrom}
+use Rattle.steps.specs.Stepping.{resumedAt}
+use Rattle.steps.specs.declared.step.Resumed.{Resumed}
+use Rattle.placing.specs.declared.entry.LineAt.{LineAt}
+
+-- What a rest that a line resumes stands for.
+abbrev pub heldIn : Resumed → Held
+heldIn r = record { chars = r .chars .0; count = r .count .0 }
+
+-- A line that starts at an offset, before the characters cs.
+unfoldable pub lineAtOf : (at : ℕ) → Held → List ℕ → Line → LineAt
+lineAtOf at h cs l =
+    record {
+      entry = entryAt at h cs l;
+      ended = l .ended;
+      next = record { 0 = at + size (take (l .chars) cs) };
+      rest = resumedAt (at + size (take (l .chars + l .held .chars) cs)) (l .held);
+    }
+
+unfoldable pub lineFrom : Settings → List ℕ → (at : ℕ) → Resumed → LineAt
+lineFrom s t at r = lineAtOf at (heldIn r) (charsFrom t at) (layLine s (heldIn r) (charsFrom t at))

@@ -1,0 +1,81 @@
+// The entry of a laid line (rule 12).
+use basis::numbers::greater;
+use meaning::counts::Chars;
+use meaning::counts::Offset;
+use meaning::counts::Pixels;
+use meaning::line::Entry;
+use meaning::line::LineEnd;
+use meaning::line::Placed;
+use meaning::line::Rest;
+use steps::step::Ended;
+use steps::step::Resumed;
+ghost use mathlib.Core.Path.{_≡_};
+ghost use Rattle.meaning.specs.Line.{endNumber};
+ghost use Rattle.placing.specs.Laying.{restIn, laidAt};
+
+// A laid line: its entry, how it ended, where the next line starts and what that line resumes.
+pub struct LineAt {
+    pub entry: Entry,
+    pub ended: LineEnd,
+    pub next: Offset,
+    pub rest: Resumed,
+}
+
+// The number of a line's end.
+fn end_number(e: LineEnd) -> u32
+    ensures { λ r. ⌜ r ≡ endNumber e ⌝ }
+{
+    match e {
+        LineEnd::NewLine => 0,
+        LineEnd::CarriageReturn => 1,
+        LineEnd::EndOfText => 2,
+        LineEnd::LineBreak => 3,
+    }
+}
+
+// What an entry says of the rest that its line resumes.
+fn rest_in(r: Resumed) -> Rest
+    ensures { λ o. ⌜ o ≡ restIn r ⌝ }
+{
+    if r.chars.0 == 0 {
+        return Rest {
+            end: Offset(0),
+            count: Chars(0),
+        };
+    }
+    let end = r.end;
+    let count = r.count;
+    Rest { end, count }
+}
+
+// The entry of a line at an offset, from its placing, its width, how far the measuring looked, and how the drawing ended.
+pub fn entry_at(
+    at: Offset,
+    rest: Resumed,
+    p: Placed,
+    width: Pixels,
+    looked: Offset,
+    e: Ended,
+) -> Entry
+    ensures { λ r. ⌜ r ≡ laidAt (at .0) rest p (width .0) (looked .0) e .entry ⌝ }
+{
+    let ended = e.ended;
+    let ending = end_number(ended);
+    let resumed = rest_in(rest);
+    let left = p.left;
+    let space = p.spaces.width;
+    let extra = p.spaces.extra;
+    let dropped = e.dropped;
+    let reach = greater(looked.0, e.reach.0);
+    Entry {
+        start: at,
+        rest: resumed,
+        ending,
+        left,
+        space,
+        extra,
+        width,
+        dropped,
+        reach: Offset(reach),
+    }
+}
