@@ -1,4 +1,2 @@
-pub mod MeetLaws
 pub mod SkipLaws
 pub mod RestLaws
-pub mod CheckLaws

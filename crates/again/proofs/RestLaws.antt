@@ -2,14 +2,13 @@
 -- Assumes nothing.
 use Prim.Native.Nat.{ℕ, _≤_}
 use native.Mathlib.Omega.{arith}
-use mathlib.Core.Path.{_≡_, sym, ap, _∙_}
+use mathlib.Core.Path.{_≡_, ap, _∙_}
 use mathlib.Core.Bool.{true, false}
 use mathlib.Core.List.{List}
-use lib.Dec.{leb}
 use lib.ListN.{length}
 use Rattle.basis.specs.Choice.{pick}
 use Rattle.unicode.specs.Decoding.{decodeAll}
-use Rattle.unicode.specs.Places.{boundary, boundaryAt}
+use Rattle.unicode.specs.Places.{boundary}
 use Rattle.meaning.specs.Checks.{checkUtf8}
 use Rattle.meaning.specs.WellFormed.{noRest}
 use Rattle.meaning.specs.Edit.{charsIn, restFits}
@@ -19,8 +18,9 @@ use Rattle.laws.specs.Calls3.{chars-within}
 use Rattle.laws.specs.TokenLaws.{length-size}
 use Rattle.steps.specs.Unrolled.{nothingResumed}
 use Rattle.steps.specs.declared.step.Resumed.{Resumed}
-use Rattle.again.specs.PartChars.{part-size, part-boundary}
-use Rattle.again.specs.HeldRest.{restEnd, resumedOf, fits-not, fits-by, fits-ends}
+use Rattle.edits.specs.PartChars.{part-size}
+use Rattle.edits.specs.RestFits.{restEnd, fits-ends}
+use Rattle.again.specs.HeldRest.{resumedOf}
 
 module _ (t : List ℕ) (e : Entry) where
   abbrev cs : List ℕ
@@ -31,15 +31,6 @@ module _ (t : List ℕ) (e : Entry) where
   resumed-none h r is = is ∙ rw h
 
   module _ (u : checkUtf8 t ≡ Good) (some : noRest e ≡ false) (n : ℕ) (is : n ≡ restEnd e) where
-    pub no-boundary : boundaryAt t n ≡ false → false ≡ restFits e cs
-    no-boundary h = fits-not e cs some (sym (part-boundary t u (restEnd e)) ∙ rw (← is) h)
-
-    pub a-boundary : boundaryAt t n ≡ true → boundary cs n ≡ true
-    a-boundary h = sym (part-boundary t u n) ∙ h
-
-    pub counts-few : (m : ℕ) → boundaryAt t n ≡ true → m ≡ charsIn cs n → leb (e .rest .count .0) m ≡ restFits e cs
-    counts-few m h p = fits-by e cs some m (p ∙ ap (charsIn cs) is) (rw (← is) (a-boundary h))
-
     pub ends-there : restFits e cs ≡ true → boundary cs n ≡ true
     ends-there h = rw is (fits-ends e cs some h)
 

@@ -12,7 +12,7 @@ use Rattle.meaning.specs.declared.edit.Edit.{Edit}
 use Rattle.meaning.specs.declared.line.Rest.{Rest}
 use Rattle.meaning.specs.declared.line.Entry.{Entry}
 use Rattle.table.specs.LinesFrom.{linesFrom, lines-more, lines-end, start-at}
-use Rattle.again.specs.Pointer.{standsBefore, passing, meetsFirst}
+use Rattle.edits.specs.Pointer.{standsBefore, passing, meetsFirst}
 
 module _ (ed : Edit) (start : ℕ) (t : List ℕ) (lines i : ℕ) where
   pub skip-past : i < lines → standsBefore ed start (getD t (entryNumbers * i) 0) ≡ true

@@ -23,7 +23,7 @@ use Rattle.meaning.specs.declared.answers.Relaid.{Relaid}
 use Rattle.meaning.specs.declared.answers.Relaid.the-variants as relaid
 use Rattle.laws.specs.Calls3.{again-takes}
 use Rattle.laws.specs.TestOrder.{first-alone}
-use Rattle.again.specs.Checking.{checkFirst, checkLent, checkBefore}
+use Rattle.edits.specs.Checking.{checkFirst, checkLent, checkBefore}
 use Rattle.again.specs.GoodRelay.{all-good, goods}
 
 -- Tests in two parts are the tests one after the other.

@@ -35,10 +35,10 @@ use Rattle.rows.specs.GoodInput.{fine-settings}
 use Rattle.rows.specs.declared.stand.Stand.{Stand}
 use Rattle.again.specs.Behind.{behind}
 use Rattle.again.specs.HeldRest.{resumedOf, resumed-held, resumed-fits}
-use Rattle.again.specs.OldLines.{rises, affected-drop, kept-affected}
+use Rattle.edits.specs.OldLines.{rises, affected-drop, kept-affected}
 use Rattle.again.specs.AgainFrom.{againFrom, again-front}
 use Rattle.again.specs.Seeking.{PassedBy, FindReady}
-use Rattle.again.specs.Checking.{checkFirst, checkLent, checkBefore, few-before, first-affected, no-line, bad-rest, bad-edit}
+use Rattle.edits.specs.Checking.{checkFirst, checkLent, checkBefore, few-before, first-affected, no-line, bad-rest, bad-edit}
 
 -- ---- each test by itself
 

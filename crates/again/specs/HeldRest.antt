@@ -1,9 +1,9 @@
 -- The rest that the first affected line resumes, from its entry and the lent part.
 -- Assumes nothing.
-use Prim.Native.Nat.{ℕ, _-_}
+use Prim.Native.Nat.{ℕ}
 use native.Mathlib.Omega.{arith}
 use mathlib.Core.Path.{_≡_}
-use mathlib.Core.Bool.{true, false}
+use mathlib.Core.Bool.{true}
 use mathlib.Core.List.{List}
 use borrow.Author.Tests.{leb-true}
 use lib.Dec.{leb}
@@ -22,11 +22,8 @@ use Rattle.steps.specs.Running.{none-fits}
 use Rattle.placing.specs.LineFrom.{heldIn}
 use Rattle.steps.specs.Pending.{RestFits}
 use Rattle.steps.specs.declared.step.Resumed.{Resumed}
-use Rattle.again.specs.PartChars.{cut-size}
-
--- Where an entry's rest ends in the part, which stands from the entry's start on.
-abbrev pub restEnd : Entry → ℕ
-restEnd e = e .rest .end .0 - e .start .0
+use Rattle.edits.specs.PartChars.{cut-size}
+use Rattle.edits.specs.RestFits.{restEnd}
 
 unfoldable pub resumedOf : Entry → List ℕ → Resumed
 resumedOf e cs =
@@ -37,27 +34,6 @@ resumedOf e cs =
 pub resumed-held : (e : Entry) (cs : List ℕ) → heldIn (resumedOf e cs) ≡ heldOf e cs
 unfolding resumedOf heldOf pick
 resumed-held e cs = by-test (noRest e) (λ t. rw t) (λ t. rw t)
-
--- ---- whether it fits
-
-module _ (e : Entry) (cs : List ℕ) where
-  pub fits-none : noRest e ≡ true → true ≡ restFits e cs
-  unfolding restFits
-  fits-none h = rw h
-
-  module _ (some : noRest e ≡ false) where
-    pub fits-not : boundary cs (restEnd e) ≡ false → false ≡ restFits e cs
-    unfolding restFits
-    fits-not h = rw (some, h)
-
-    pub fits-by : (n : ℕ) → n ≡ charsIn cs (restEnd e) → boundary cs (restEnd e) ≡ true → leb (e .rest .count .0) n ≡ restFits e cs
-    unfolding restFits
-    fits-by n is h = rw (some, h, is)
-
-    -- One that fits ends at a boundary.
-    pub fits-ends : restFits e cs ≡ true → boundary cs (restEnd e) ≡ true
-    unfolding restFits
-    fits-ends h = and-true (boundary cs (restEnd e)) (leb (e .rest .count .0) (charsIn cs (restEnd e))) (rw some at h) .0
 
 -- One that fits is the part's first characters.
 pub resumed-fits : (t : List ℕ) (e : Entry) → checkUtf8 t ≡ Good → restFits e (decodeAll t) ≡ true → RestFits t 0 (resumedOf e (decodeAll t))

@@ -1,12 +1,8 @@
 pub mod Behind
-pub mod Pointer
 pub mod AgainFrom
-pub mod OldLines
 pub mod Seeking
 pub mod Writing
-pub mod PartChars
 pub mod HeldRest
-pub mod Checking
 pub mod KeptLines
 pub mod GoodRelay
 pub mod Written

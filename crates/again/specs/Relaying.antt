@@ -28,13 +28,13 @@ use Rattle.rows.specs.RowsFrom.{entriesFrom}
 use Rattle.rows.specs.Writing.{linesPut}
 use Rattle.rows.specs.declared.stand.Stand.{Stand}
 use Rattle.again.specs.HeldRest.{resumedOf}
-use Rattle.again.specs.OldLines.{lines-drop}
+use Rattle.edits.specs.OldLines.{lines-drop}
 use Rattle.again.specs.AgainFrom.{againFrom, few-laid, laid-first, laid-within}
 use Rattle.again.specs.Seeking.{foundIn}
 use Rattle.again.specs.KeptLines.{StartsBehind, kept-few, kept-are, kept-behind}
 use Rattle.again.specs.Writing.{WriteReady}
 use Rattle.again.specs.Written.{put-written, put-both}
-use Rattle.again.specs.Checking.{checkBefore, few-before}
+use Rattle.edits.specs.Checking.{checkBefore, few-before}
 use Rattle.again.specs.GoodRelay.{AllGood, all-good, short-part, order, few-inserted, start-low, front-ready, again-is}
 use Rattle.again.specs.Answering.{Answers, too-small, laid-again}
 use Rattle.again.specs.declared.stop.Found.{Found}

@@ -22,9 +22,9 @@ use Rattle.rows.specs.Standing.{StandsAt, StandReady, laidRow, ready-next, furt
 use Rattle.rows.specs.declared.stand.Stand.{Stand}
 use Rattle.rows.specs.declared.stand.LaidRow.{LaidRow}
 use Rattle.again.specs.Behind.{restBehind, RestLow}
-use Rattle.again.specs.Pointer.{Rising, Past, passing, meetsFirst, rising-drop, kept-after, passing-few, past-passing, met-first, none-met}
+use Rattle.edits.specs.Pointer.{Rising, Past, passing, meetsFirst, rising-drop, kept-after, passing-few, past-passing, met-first, none-met}
 use Rattle.again.specs.AgainFrom.{againFrom, few-laid, again-stop, again-last, again-more}
-use Rattle.again.specs.OldLines.{lines-drop}
+use Rattle.edits.specs.OldLines.{lines-drop}
 use Rattle.again.specs.declared.stop.Found.{Found}
 
 -- What laying again finds: how many lines are laid, and the first of so many old lines that is kept.

@@ -1,8 +1,8 @@
 // Laying a text again after an edit: a public call.
-use crate::checking::check_before;
 use crate::rest::held_of;
 use crate::stop::find_stop;
 use crate::writing::write_again;
+use edits::checking::check_before;
 use meaning::answers::Affected;
 use meaning::answers::Relaid;
 use meaning::edit::Edit;
@@ -18,7 +18,7 @@ ghost use Rattle.meaning.specs.Table.{entriesIn};
 ghost use Rattle.meaning.specs.Edit.{unaffected};
 ghost use Rattle.meaning.specs.Calls.{relayAnswer, relayTable};
 ghost use Rattle.meaning.specs.declared.refusals.Checked.the-variants.{Good};
-ghost use Rattle.again.specs.Checking.{checkBefore};
+ghost use Rattle.edits.specs.Checking.{checkBefore};
 
 // Refusal 8; else the lines that are kept are moved to where they stand now, and the lines laid, from the first affected one on, line k,
 // are written before them.

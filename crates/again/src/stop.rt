@@ -1,6 +1,6 @@
 // Where laying again stops: at the first line that an old line meets, or at the text's end. Nothing is written.
-use crate::meeting::meets_line;
-use crate::meeting::stands_before;
+use edits::meeting::meets_line;
+use edits::meeting::stands_before;
 use meaning::counts::Chars;
 use meaning::counts::Offset;
 use meaning::edit::Edit;
@@ -18,7 +18,7 @@ ghost use lib.ListN.{length};
 ghost use Rattle.meaning.specs.Table.{entryNumbers, entriesIn};
 ghost use Rattle.table.specs.LinesFrom.{linesFrom};
 ghost use Rattle.again.specs.Behind.{restBehind, RestLow};
-ghost use Rattle.again.specs.Pointer.{passing, meetsFirst};
+ghost use Rattle.edits.specs.Pointer.{passing, meetsFirst};
 ghost use Rattle.again.specs.AgainFrom.{againFrom};
 ghost use Rattle.again.specs.Seeking.{FindReady, foundIn};
 

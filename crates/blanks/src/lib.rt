@@ -1,4 +1,4 @@
-// What spaces, tabs and soft hyphens do to a line, with their lookahead, and the step of any token (rules 5, 7 and 9).
+// Spaces, tabs and soft hyphens with their lookahead, and the step of any token: the crate's line_iter (rule 5, rule 7, rule 8 and rule 9).
 pub mod ahead;
 pub mod hyphens;
 pub mod line_iter;

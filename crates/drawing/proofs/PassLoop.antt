@@ -24,13 +24,13 @@ use Rattle.steps.specs.declared.step.Stepped.the-variants.{Go, Stop}
 use Rattle.table.specs.Numbers.{putEvents}
 use Rattle.drawing.specs.Drawn.{drawnFrom, eventsFrom}
 use Rattle.ink.specs.Sheet.{Sheet, sheet, drawnOn, on-append, on-none, on-is, pen-after}
-use Rattle.ink.specs.TokenDrawn.{tokDrawn, PenRoom}
+use Rattle.prints.specs.TokenDrawn.{tokDrawn, PenRoom}
 use Rattle.drawing.specs.PassDrawn.{DrawRoom, none-drawn, go-drawn, stop-drawn}
 use Rattle.drawing.specs.DrawnBounds.{tok-few}
 use Rattle.drawing.specs.DrawingOn.{PenReady, Strode}
 use Rattle.ink.specs.declared.pen.Pen.{Pen}
 use Rattle.drawing.specs.declared.inked.Inked.{Inked}
-use Rattle.ink.specs.TokenEvents.{tok-narrow}
+use Rattle.prints.specs.TokenEvents.{tok-narrow}
 use Rattle.drawing.proofs.OnwardEvents.{pen-rest}
 
 -- Between two tokens, the sheet at the end being known.

@@ -51,11 +51,11 @@ use Rattle.strides.specs.StrideLaws.{stays, behind, looks-all, looks-word, spac
 use Rattle.strides.specs.WaitLaws.{over-full}
 use Rattle.drawing.specs.Drawn.{drawnFrom}
 use Rattle.ink.specs.Sheet.{widths}
-use Rattle.ink.specs.TokenDrawn.{tokDrawn, grownBy, runDrawn}
+use Rattle.prints.specs.TokenDrawn.{tokDrawn, grownBy, runDrawn}
 use Rattle.drawing.specs.PassDrawn.{go-drawn, stop-drawn}
 use Rattle.drawing.specs.DrawnBounds.{tok-few}
-use Rattle.ink.specs.TokenEvents.{run-drawn, tok-narrow}
-use Rattle.ink.specs.PrintEvents.{one-print}
+use Rattle.prints.specs.TokenEvents.{run-drawn, tok-narrow}
+use Rattle.prints.specs.PrintEvents.{one-print}
 
 -- ---- a word
 

@@ -32,7 +32,7 @@ use Rattle.parser.specs.declared.lexeme.Lexeme.{Lexeme}
 use Rattle.steps.specs.Stepping.{tokOf}
 use Rattle.steps.specs.Pending.{Pending}
 use Rattle.ink.specs.WordDrawn.{word-few}
-use Rattle.ink.specs.TokenDrawn.{drawnOf, tokDrawn}
+use Rattle.prints.specs.TokenDrawn.{drawnOf, tokDrawn}
 
 -- ---- one token
 

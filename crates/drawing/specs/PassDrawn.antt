@@ -21,7 +21,7 @@ use Rattle.steps.specs.declared.step.Resumed.{Resumed}
 use Rattle.steps.specs.declared.step.Ended.{Ended}
 use Rattle.steps.specs.declared.step.Stepped.the-variants.{Go, Stop}
 use Rattle.drawing.specs.Drawn.{drawnFrom}
-use Rattle.ink.specs.TokenDrawn.{drawnOf, tokDrawn}
+use Rattle.prints.specs.TokenDrawn.{drawnOf, tokDrawn}
 
 -- What drawing a pass takes for granted: the pass can run, and the pen and the count of events have room.
 pub record DrawRoom (s : Settings) (p : Place) (t : List ℕ) (at : ℕ) (r : Resumed) (x k : ℕ) : Type 0 where

@@ -1,5 +1,2 @@
 pub mod StretchLaws
 pub mod WordLoop
-pub mod RunEvents
-pub mod TabEvents
-pub mod WordEvents

@@ -1,6 +1,3 @@
 pub mod Sheet
 pub mod WordDrawn
 pub mod Stretching
-pub mod TokenDrawn
-pub mod PrintEvents
-pub mod TokenEvents

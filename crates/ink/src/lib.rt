@@ -1,5 +1,3 @@
-// The events of one token, put into a lent buffer (rule 13).
-pub mod grown;
+// The pen, and a word printed by it into a lent buffer of events (rule 8 and rule 13).
 pub mod pen;
-pub mod tokens;
 pub mod words;

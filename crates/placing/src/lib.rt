@@ -1,4 +1,4 @@
-// Where a line is placed and what its entry is, and the lines that need no pass (rules 6, 10 and 12).
+// Where a line is placed, its entry, and the lines that need no pass (rule 6, rule 10 and rule 12).
 pub mod alignment;
 pub mod cut;
 pub mod entry;

@@ -1,3 +1,5 @@
-// The lines of a text, one after the other.
+// One line, measured, placed and drawn, and the lines of a text, one after the other (rule 8, rule 9 and rule 10).
+pub mod line;
 pub mod lines;
+pub mod pass;
 pub mod stand;

@@ -1,9 +1,9 @@
 // The one step that every loop over lines takes: the line where it stands is laid, and it stands on the next (rule 10).
+use crate::line::lay_line;
 use meaning::counts::Offset;
 use meaning::line::Entry;
 use meaning::line::LineEnd;
 use meaning::settings::Settings;
-use passes::line::lay_line;
 use steps::ending::nothing_left;
 use steps::first::Known;
 use steps::first::known_from;

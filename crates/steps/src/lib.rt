@@ -1,4 +1,4 @@
-// What one token does to a line: cursor, spaces, lookahead and line_iter of the crate (rules 4, 5, 7 to 9).
+// What a step is, what a line begins with, what a word does to it, and how it ends (rule 7, rule 8 and rule 9).
 pub mod ending;
 pub mod first;
 pub mod look;

@@ -5,7 +5,7 @@ use mathlib.Core.Path.{_≡_, sym, _∙_}
 use native.Mathlib.Omega.{arith}
 use borrow.Author.Tests.{not-true, not-false}
 use Rattle.table.specs.LinesFrom.{linesFrom}
-use Rattle.again.specs.Pointer.{passing}
+use Rattle.edits.specs.Pointer.{passing}
 use Rattle.again.proofs.SkipLaws.{skip-past, skip-met, skip-end}
 use borrow.Author.Needs.{needs}
 use Rattle.again.proofs.stop.skip_before.Statement.{statement}

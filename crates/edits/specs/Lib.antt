@@ -1,0 +1,5 @@
+pub mod Pointer
+pub mod OldLines
+pub mod PartChars
+pub mod Checking
+pub mod RestFits

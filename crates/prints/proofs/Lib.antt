@@ -1,0 +1,3 @@
+pub mod RunEvents
+pub mod TabEvents
+pub mod WordEvents

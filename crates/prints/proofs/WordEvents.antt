@@ -1,0 +1,61 @@
+-- The events of a word, in each of its cases.
+-- Assumes nothing.
+use Prim.Native.Nat.{ℕ, _*_, _/_, _≤_}
+use mathlib.Core.Path.{_≡_, refl, sym, _∙_}
+use mathlib.Core.Bool.{Bool, true, false, not}
+use mathlib.Core.List.{List}
+use native.Mathlib.Nat.{mul-comm, div-le-of-le-mul}
+use native.Mathlib.Omega.{arith}
+use borrow.Author.Tests.{eq-eqb, ne-eqb}
+use lib.ListN.{take}
+use lib.Seq.{take-take}
+use Rattle.basis.specs.Choice.{pick}
+use Rattle.meaning.specs.Cursor.{roomOf, fitsIn}
+use Rattle.meaning.specs.Words.{drawnWord}
+use Rattle.meaning.specs.LineIter.{cutWord, onWord, step}
+use Rattle.meaning.specs.declared.settings.Settings.{Settings}
+use Rattle.meaning.specs.declared.cursor.Place.{Place}
+use Rattle.laws.specs.Steps.{too-wide}
+use Rattle.parser.specs.Lexing.{charsFrom}
+use Rattle.parser.specs.declared.lexeme.Lexeme.{Lexeme}
+use Rattle.steps.specs.WordLaws.{WordAt, wordAt}
+use Rattle.ink.specs.Sheet.{Sheet, drawnOn}
+use Rattle.prints.specs.TokenDrawn.{tokDrawn}
+
+module _ (sh : Sheet) (s : Settings) (p : Place) (t : List ℕ) (at : ℕ) (x : Lexeme) (w : WordAt t at x) where
+  pub word-takes : fitsIn (p .cursor) (x .chars .0 * s .glyph .0) ≡ true
+      → drawnOn sh (drawnWord (s .glyph .0) (p .spaces) at (take (x .chars .0) (charsFrom t at))) ≡ drawnOn sh (tokDrawn s p t at x)
+  unfolding tokDrawn step onWord pick
+  word-takes e = rw (w .tok, ← (w .chars), e)
+
+  module _ (e : fitsIn (p .cursor) (x .chars .0 * s .glyph .0) ≡ false) where
+    pub word-waits : p .empty ≡ false → sh ≡ drawnOn sh (tokDrawn s p t at x)
+    unfolding tokDrawn step onWord pick drawnOn
+    word-waits f = rw (w .tok, ← (w .chars), e, f)
+
+    module _ (f : p .empty ≡ true) (k : ℕ) (g : k ≡ roomOf (p .cursor) / s .glyph .0) where
+      pub word-drops : k ≡ 0 → sh ≡ drawnOn sh (tokDrawn s p t at x)
+      unfolding tokDrawn step onWord cutWord pick drawnOn
+      word-drops z = rw (w .tok, ← (w .chars), e, f, eq-eqb (roomOf (p .cursor) / s .glyph .0) 0 (sym g ∙ z))
+
+      pub part-few : k ≤ x .chars .0
+      part-few =
+          rw g
+          (div-le-of-le-mul (s .glyph .0) (omega (arith, too-wide (p .cursor) (x .chars .0 * s .glyph .0) e, mul-comm (s .glyph .0) (x .chars .0))))
+
+      pub word-parts : (k ≡ 0 → ⊥)
+          → drawnOn sh (drawnWord (s .glyph .0) (p .spaces) at (take k (charsFrom t at))) ≡ drawnOn sh (tokDrawn s p t at x)
+      unfolding tokDrawn step onWord cutWord pick
+      word-parts z =
+          let same : take k (wordAt t at x) ≡ take k (charsFrom t at) = take-take k (x .chars .0) (charsFrom t at) part-few in
+          rw (w .tok, ← (w .chars), e, f, ne-eqb (roomOf (p .cursor) / s .glyph .0) 0 (λ q. z (g ∙ q)), ← g, same)
+
+-- ---- a test that was turned round
+
+pub was-false : (b : Bool) → not b ≡ true → b ≡ false
+was-false true e = sym e
+was-false false e = refl
+
+pub was-true : (b : Bool) → not b ≡ false → b ≡ true
+was-true true e = refl
+was-true false e = sym e

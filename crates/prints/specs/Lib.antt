@@ -1,0 +1,3 @@
+pub mod TokenDrawn
+pub mod PrintEvents
+pub mod TokenEvents

@@ -1,0 +1,120 @@
+-- `rows::line::lay_line` meets its contract (rule 10).
+-- Assumes nothing.
+use mathlib.Core.Path.{subst}
+use borrow.Author.Needs.{needs}
+use Rattle.placing.specs.Quick.{DrawnAlike, QuickLine}
+use Rattle.placing.specs.LayLaws.{rested, alike-few, laid-alike}
+use Rattle.rows.proofs.line.lay_line.Statement.{statement}
+use Rattle.rows.proofs.line.lay_line.Tie as tie
+
+abbrev begin : tie.Then1 → tie.Start
+begin c = c .before .before .before
+
+-- ---- words with one space between any two
+
+-- The line that is drawn as it was measured.
+alike : (c : tie.After-e) →
+    let a = begin (c .before .before .before) .args in
+    DrawnAlike (a .s) (a .text .now) (a .at) (c .e .given .0 .0)
+alike c =
+    let a = begin (c .before .before .before) .args in
+    subst (QuickLine (a .s) (a .text .now) (a .at)) (c .e .given .1) (c .before .before .quick-line .ensures)
+
+cast-start : tie.Need-cast-start
+cast-start c = search needs
+
+quick-line-requires : tie.Need-quick-line-requires
+quick-line-requires c κs = (rested (begin c .pre .0) (c .if1 .taken), begin c .pre .1)
+
+enum-known-e : tie.Need-enum-known-e
+enum-known-e c = search needs
+
+laid-alike-requires : tie.Need-laid-alike-requires
+laid-alike-requires c κs =
+    let e = c .before in
+    let i = e .before .before .before in
+    (begin i .pre .0 .settings, alike-few (begin i .pre .0) (i .if1 .taken) _ (alike e))
+
+returns : tie.Need-returns
+returns c =
+    let e = c .before .before in
+    let i = e .before .before .before in
+    laid-alike (begin i .pre .0) (i .if1 .taken) _ (alike e) _ (c .laid-alike .ensures)
+
+enum-told : tie.Need-enum-told
+enum-told c = search needs
+
+-- ---- a word that is cut
+
+abbrev unquick : tie.After-known-here → tie.Then1
+unquick c = c .before .before .before .before
+
+known-here-requires : tie.Need-known-here-requires
+known-here-requires c κs = search needs
+
+cut-line-requires : tie.Need-cut-line-requires
+cut-line-requires c κs =
+    let i = unquick c in
+    (rested (begin i .pre .0) (i .if1 .taken), c .known-here .ensures)
+
+enum-known-e-2 : tie.Need-enum-known-e-2
+enum-known-e-2 c = search needs
+
+cut-alike : (c : tie.After-e2) →
+    let a = begin (unquick (c .before .before .before)) .args in
+    DrawnAlike (a .s) (a .text .now) (a .at) (c .e2 .given .0 .0)
+cut-alike c =
+    let a = begin (unquick (c .before .before .before)) .args in
+    subst (QuickLine (a .s) (a .text .now) (a .at)) (c .e2 .given .1) (c .before .before .cut-line .ensures)
+
+laid-alike-requires-2 : tie.Need-laid-alike-requires-2
+laid-alike-requires-2 c κs =
+    let e = c .before in
+    let i = unquick (e .before .before .before) in
+    (begin i .pre .0 .settings, alike-few (begin i .pre .0) (i .if1 .taken) _ (cut-alike e))
+
+returns-2 : tie.Need-returns-2
+returns-2 c =
+    let e = c .before .before in
+    let i = unquick (e .before .before .before) in
+    laid-alike (begin i .pre .0) (i .if1 .taken) _ (cut-alike e) _ (c .laid-alike2 .ensures)
+
+enum-told-2 : tie.Need-enum-told-2
+enum-told-2 c = search needs
+
+-- ---- any other line
+
+lay-twice-requires : tie.Need-lay-twice-requires
+lay-twice-requires c κs =
+    let k = c .before .before .before in
+    (begin (unquick k) .pre .0, k .known-here .ensures)
+
+returns-3 : tie.Need-returns-3
+returns-3 c = c .lay-twice .ensures
+
+lay-twice-requires-2 : tie.Need-lay-twice-requires-2
+lay-twice-requires-2 c κs = search needs
+
+returns-4 : tie.Need-returns-4
+returns-4 c = search needs
+
+pub lay-line-spec : {M : Type 1} → statement M
+lay-line-spec =
+    tie.close
+    (tie.spec
+    cast-start
+    quick-line-requires
+    enum-known-e
+    laid-alike-requires
+    returns
+    enum-told
+    known-here-requires
+    cut-line-requires
+    enum-known-e-2
+    laid-alike-requires-2
+    returns-2
+    enum-told-2
+    lay-twice-requires
+    returns-3
+    lay-twice-requires-2
+    returns-4)

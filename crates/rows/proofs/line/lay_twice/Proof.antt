@@ -1,0 +1,85 @@
+-- `rows::line::lay_twice` meets its contract (rule 10).
+-- Assumes nothing.
+use Rattle.placing.specs.LayLaws.{plain-ready, few-spaces, placed-ready, laid-twice, laid-once}
+use Rattle.placing.specs.Laying.{LineReady}
+use Rattle.steps.specs.Knowing.{KnownFits}
+use native.Mathlib.Omega.{arith}
+use mathlib.Core.Path.{refl, sym, _∙_}
+use borrow.Author.Needs.{needs}
+use Rattle.rows.proofs.line.lay_twice.Statement.{statement}
+use Rattle.rows.proofs.line.lay_twice.Tie as tie
+
+ready : (c : tie.After-placed-plainly) →
+    let a = c .before .before .args in
+    LineReady (a .s) (a .text .now) (a .at) (a .rest)
+ready c = c .before .before .pre .0
+
+known : (c : tie.After-placed-plainly) → let a = c .before .before .args in KnownFits (a .text .now) (a .known)
+known c = c .before .before .pre .1
+
+placed-plainly-requires : tie.Need-placed-plainly-requires
+placed-plainly-requires c κs = search needs
+
+pass-over-requires : tie.Need-pass-over-requires
+pass-over-requires c κs =
+    let f = plain-ready (ready c) _ _ (c .placed-plainly .ensures) refl in
+    (ready c, f .0, f .1, known c)
+
+measured-width-requires : tie.Need-measured-width-requires
+measured-width-requires c κs = search needs
+
+placed-by-requires : tie.Need-placed-by-requires
+placed-by-requires c κs =
+    let f = c .before .before in
+    (ready (f .before) .settings, few-spaces (ready (f .before)) _ _ (f .before .placed-plainly .ensures) (f .pass-over .ensures))
+
+cast-start : tie.Need-cast-start
+cast-start c = search needs
+
+as-measured-requires : tie.Need-as-measured-requires
+as-measured-requires c κs = search needs
+
+laid-at-requires : tie.Need-laid-at-requires
+laid-at-requires c κs = search needs
+
+returns : tie.Need-returns
+returns c =
+    let i = c .before .before in
+    let p = i .before .before in
+    let f = p .before .before .before in
+    laid-once (ready (f .before)) _ _ (f .before .placed-plainly .ensures) (f .pass-over .ensures) _ _ _ (p .before .measured-width .ensures) (p .placed-by .ensures)
+    (sym (i .as-measured .ensures) ∙ c .before .if1 .taken) (c .laid-at .ensures)
+
+pass-over-requires-2 : tie.Need-pass-over-requires-2
+pass-over-requires-2 c κs =
+    let p = c .before .before .before in
+    let f = p .before .before .before in
+    let g = placed-ready (ready (f .before)) _ _ (f .before .placed-plainly .ensures) (f .pass-over .ensures) _ (p .placed-by .ensures) in
+    (ready (f .before), g .0, g .1, known (f .before))
+
+laid-at-requires-2 : tie.Need-laid-at-requires-2
+laid-at-requires-2 c κs = search needs
+
+returns-2 : tie.Need-returns-2
+returns-2 c =
+    let d = c .before in
+    let p = d .before .before .before .before in
+    let f = p .before .before .before in
+    laid-twice (ready (f .before)) _ _ (f .before .placed-plainly .ensures) (f .pass-over .ensures) _ _ _ (p .before .measured-width .ensures) (p .placed-by .ensures) _
+    (d .pass-over2 .ensures) (c .laid-at2 .ensures)
+
+pub lay-twice-spec : {M : Type 1} → statement M
+lay-twice-spec =
+    tie.close
+    (tie.spec
+    placed-plainly-requires
+    pass-over-requires
+    measured-width-requires
+    placed-by-requires
+    cast-start
+    as-measured-requires
+    laid-at-requires
+    returns
+    pass-over-requires-2
+    laid-at-requires-2
+    returns-2)
