@@ -1,5 +1,5 @@
 /*
- * A clue on a small screen: laid, drawn, edited and laid again.
+ * A clue on a small screen: laid by the old rule, which drops a word, and where words wait; drawn, edited and laid again.
  *
  * The screen is a grid of characters here. Everything else is as in an app: the library says where each line starts and
  * stands, what is drawn in it and where, what an edit changes, and how many characters a line had to drop. An app must
@@ -72,6 +72,14 @@ static void lay(struct app *app)
          bisquemop_settings_layout_events(&app->settings, app->text, app->len, app->table, TABLE_LEN, app->events,
                                           EVENTS_LEN, &app->lines, &app->event_count),
          &app->lines);
+}
+
+static void lay_all(struct app *app, enum bisquemop_wrap wrap)
+{
+    app->settings.wrap = wrap;
+    lay(app);
+    app->first = 0;
+    app->laid = app->lines;
 }
 
 /* Puts the characters of a printed event into a row, and "-" for a soft hyphen. Answers whether all have room there. */
@@ -209,9 +217,12 @@ int main(void)
     app.len = sizeof clue - 1;
     memcpy(app.text, clue, app.len);
 
-    printf("A clue with an indent as wide as the column:\n");
-    lay(&app);
-    app.laid = app.lines;
+    printf("A clue with an indent as wide as the column, by the old rule:\n");
+    lay_all(&app, BISQUEMOP_WRAP_DROP);
+    show(&app);
+
+    printf("\nThe same, and words wait for a line with room:\n");
+    lay_all(&app, BISQUEMOP_WRAP_WAIT);
     show(&app);
 
     printf("\nThe indent becomes one space:\n");

@@ -12,7 +12,7 @@
  *   bisquemop_height           how high a laid text is
  *   bisquemop_line_y           where a line stands, and whether it shows
  *
- * Those that take twelve settings have a twin bisquemop_settings_.. that takes a struct of them.
+ * Those that take thirteen settings have a twin bisquemop_settings_.. that takes a struct of them.
  *
  * Link with libbisquemop.a (x86-64 Linux). The header is C99, and C++ can include it too. It is the same on every
  * machine: counts have 64 bits on machines of 32 bits too.
@@ -75,6 +75,14 @@ enum bisquemop_vertical {
     BISQUEMOP_VERTICAL_TOP = 0,
     BISQUEMOP_VERTICAL_MIDDLE = 1,
     BISQUEMOP_VERTICAL_BOTTOM = 2
+};
+
+/* What becomes of a word of which no character fits into a line that has no word yet, as after an indent. By WAIT, left
+   aligned and in a box at least a glyph wide, no line of any text drops anything. */
+enum bisquemop_wrap {
+    BISQUEMOP_WRAP_DROP = 0, /* the line drops it, and counts its characters */
+    BISQUEMOP_WRAP_WAIT = 1  /* it stays for the next line if the cursor has left the place where it started in this
+                                one; else the next line would have no more room, and the line drops it */
 };
 
 /* The limits, both ends included. A setting whose lower limit has no name here may be 0. */
@@ -167,7 +175,8 @@ enum bisquemop_drawn {
     BISQUEMOP_DRAWN_MOVE = 2     /* a tab that does not fit, or one at a line's end where `trailing` is off */
 };
 
-/* How a text is laid: eight numbers of pixels, two alignments and two switches. */
+/* How a text is laid: eight numbers of pixels, two alignments, two switches, and what becomes of a word that has no
+   room. */
 struct bisquemop_settings {
     uint32_t glyph;     /* the width of every character: 1 to 64 */
     uint32_t width;     /* the width of the box: 0 to 4,096 */
@@ -181,24 +190,25 @@ struct bisquemop_settings {
     uint32_t vertical;  /* one of enum bisquemop_vertical */
     uint32_t leading;   /* spaces at the start of a line: 0 off, 1 on */
     uint32_t trailing;  /* spaces at the end of a line: 0 off, 1 on */
+    uint32_t wrap;      /* one of enum bisquemop_wrap: 0 or 1 */
 };
 
 /*
- * Checks the twelve settings, given one after the other in the order of struct bisquemop_settings. Returns
+ * Checks the thirteen settings, given one after the other in the order of struct bisquemop_settings. Returns
  *   BISQUEMOP_OK                    all are good; *value is 0
- *   BISQUEMOP_SETTING_OUT_OF_RANGE  one of the ten that are no alignment is out of its range; *value is 0
+ *   BISQUEMOP_SETTING_OUT_OF_RANGE  one of the eleven that are no alignment is out of its range; *value is 0
  *   BISQUEMOP_UNKNOWN_ALIGNMENT     an alignment is none of its enum; *value is the number that was given,
  *                                   and where both are unknown, that of `alignment`
  */
 uint32_t bisquemop_check_settings(uint32_t glyph, uint32_t width, uint32_t tab, uint32_t spacing, uint32_t paragraph,
                                   uint32_t base, uint32_t height, int32_t top, uint32_t alignment, uint32_t vertical,
-                                  uint32_t leading, uint32_t trailing, uint64_t *value);
+                                  uint32_t leading, uint32_t trailing, uint32_t wrap, uint64_t *value);
 
 /* The same for settings in a struct, which must not be NULL. */
 static inline uint32_t bisquemop_settings_check(const struct bisquemop_settings *s, uint64_t *value)
 {
     return bisquemop_check_settings(s->glyph, s->width, s->tab, s->spacing, s->paragraph, s->base, s->height, s->top,
-                                    s->alignment, s->vertical, s->leading, s->trailing, value);
+                                    s->alignment, s->vertical, s->leading, s->trailing, s->wrap, value);
 }
 
 /*
@@ -222,7 +232,7 @@ uint32_t bisquemop_check_text(const uint8_t *text, uint64_t len, uint64_t *value
 uint32_t bisquemop_tokens(const uint8_t *text, uint64_t len, uint32_t *tokens, uint64_t tokens_len, uint64_t *value);
 
 /*
- * Lays the `len` bytes at `text` by the twelve settings, and writes ten numbers (enum bisquemop_line_column) for each
+ * Lays the `len` bytes at `text` by the thirteen settings, and writes ten numbers (enum bisquemop_line_column) for each
  * line to `table`, which has `table_len` numbers. One line more than the text has bytes, 10 * (len + 1) numbers, is
  * surely enough. There is always a line, though the text be empty. Numbers past the last line written keep what they
  * held. The numbers do not depend on the spacings, the heights, the top and the vertical alignment. Returns
@@ -235,15 +245,16 @@ uint32_t bisquemop_tokens(const uint8_t *text, uint64_t len, uint32_t *tokens, u
  */
 uint32_t bisquemop_layout(uint32_t glyph, uint32_t width, uint32_t tab, uint32_t spacing, uint32_t paragraph,
                           uint32_t base, uint32_t height, int32_t top, uint32_t alignment, uint32_t vertical,
-                          uint32_t leading, uint32_t trailing, const uint8_t *text, uint64_t len, uint32_t *table,
-                          uint64_t table_len, uint64_t *value);
+                          uint32_t leading, uint32_t trailing, uint32_t wrap, const uint8_t *text, uint64_t len,
+                          uint32_t *table, uint64_t table_len, uint64_t *value);
 
 /* The same for settings in a struct, which must not be NULL. */
 static inline uint32_t bisquemop_settings_layout(const struct bisquemop_settings *s, const uint8_t *text, uint64_t len,
                                                  uint32_t *table, uint64_t table_len, uint64_t *value)
 {
     return bisquemop_layout(s->glyph, s->width, s->tab, s->spacing, s->paragraph, s->base, s->height, s->top,
-                            s->alignment, s->vertical, s->leading, s->trailing, text, len, table, table_len, value);
+                            s->alignment, s->vertical, s->leading, s->trailing, s->wrap, text, len, table, table_len,
+                            value);
 }
 
 /*
@@ -262,7 +273,7 @@ static inline uint32_t bisquemop_settings_layout(const struct bisquemop_settings
  */
 uint32_t bisquemop_layout_events(uint32_t glyph, uint32_t width, uint32_t tab, uint32_t spacing, uint32_t paragraph,
                                  uint32_t base, uint32_t height, int32_t top, uint32_t alignment, uint32_t vertical,
-                                 uint32_t leading, uint32_t trailing, const uint8_t *text, uint64_t len,
+                                 uint32_t leading, uint32_t trailing, uint32_t wrap, const uint8_t *text, uint64_t len,
                                  uint32_t *table, uint64_t table_len, uint32_t *events, uint64_t events_len,
                                  uint64_t *value, uint64_t *event_count);
 
@@ -273,8 +284,8 @@ static inline uint32_t bisquemop_settings_layout_events(const struct bisquemop_s
                                                         uint64_t *event_count)
 {
     return bisquemop_layout_events(s->glyph, s->width, s->tab, s->spacing, s->paragraph, s->base, s->height, s->top,
-                                   s->alignment, s->vertical, s->leading, s->trailing, text, len, table, table_len,
-                                   events, events_len, value, event_count);
+                                   s->alignment, s->vertical, s->leading, s->trailing, s->wrap, text, len, table,
+                                   table_len, events, events_len, value, event_count);
 }
 
 /*
@@ -329,7 +340,7 @@ uint32_t bisquemop_first_affected(const uint32_t *table, uint64_t table_len, uin
  */
 uint32_t bisquemop_lay_again(uint32_t glyph, uint32_t width, uint32_t tab, uint32_t spacing, uint32_t paragraph,
                              uint32_t base, uint32_t height, int32_t top, uint32_t alignment, uint32_t vertical,
-                             uint32_t leading, uint32_t trailing, const uint8_t *part, uint64_t part_len,
+                             uint32_t leading, uint32_t trailing, uint32_t wrap, const uint8_t *part, uint64_t part_len,
                              uint32_t *table, uint64_t table_len, uint64_t lines, uint32_t a, uint32_t b,
                              uint32_t inserted, uint64_t *value, uint64_t *laid);
 
@@ -340,8 +351,8 @@ static inline uint32_t bisquemop_settings_lay_again(const struct bisquemop_setti
                                                     uint64_t *value, uint64_t *laid)
 {
     return bisquemop_lay_again(s->glyph, s->width, s->tab, s->spacing, s->paragraph, s->base, s->height, s->top,
-                               s->alignment, s->vertical, s->leading, s->trailing, part, part_len, table, table_len,
-                               lines, a, b, inserted, value, laid);
+                               s->alignment, s->vertical, s->leading, s->trailing, s->wrap, part, part_len, table,
+                               table_len, lines, a, b, inserted, value, laid);
 }
 
 /*
@@ -355,7 +366,7 @@ static inline uint32_t bisquemop_settings_lay_again(const struct bisquemop_setti
  */
 uint32_t bisquemop_height(uint32_t glyph, uint32_t width, uint32_t tab, uint32_t spacing, uint32_t paragraph,
                           uint32_t base, uint32_t height, int32_t top, uint32_t alignment, uint32_t vertical,
-                          uint32_t leading, uint32_t trailing, const uint32_t *table, uint64_t table_len,
+                          uint32_t leading, uint32_t trailing, uint32_t wrap, const uint32_t *table, uint64_t table_len,
                           uint64_t lines, uint64_t *value);
 
 /* The same for settings in a struct, which must not be NULL. */
@@ -363,7 +374,8 @@ static inline uint32_t bisquemop_settings_height(const struct bisquemop_settings
                                                  uint64_t table_len, uint64_t lines, uint64_t *value)
 {
     return bisquemop_height(s->glyph, s->width, s->tab, s->spacing, s->paragraph, s->base, s->height, s->top,
-                            s->alignment, s->vertical, s->leading, s->trailing, table, table_len, lines, value);
+                            s->alignment, s->vertical, s->leading, s->trailing, s->wrap, table, table_len, lines,
+                            value);
 }
 
 /*
@@ -383,7 +395,7 @@ static inline uint32_t bisquemop_settings_height(const struct bisquemop_settings
  */
 uint32_t bisquemop_line_y(uint32_t glyph, uint32_t width, uint32_t tab, uint32_t spacing, uint32_t paragraph,
                           uint32_t base, uint32_t height, int32_t top, uint32_t alignment, uint32_t vertical,
-                          uint32_t leading, uint32_t trailing, const uint32_t *table, uint64_t table_len,
+                          uint32_t leading, uint32_t trailing, uint32_t wrap, const uint32_t *table, uint64_t table_len,
                           uint64_t lines, uint64_t line, uint64_t *value, int32_t *y);
 
 /* The same for settings in a struct, which must not be NULL. */
@@ -392,8 +404,8 @@ static inline uint32_t bisquemop_settings_line_y(const struct bisquemop_settings
                                                  int32_t *y)
 {
     return bisquemop_line_y(s->glyph, s->width, s->tab, s->spacing, s->paragraph, s->base, s->height, s->top,
-                            s->alignment, s->vertical, s->leading, s->trailing, table, table_len, lines, line, value,
-                            y);
+                            s->alignment, s->vertical, s->leading, s->trailing, s->wrap, table, table_len, lines, line,
+                            value, y);
 }
 
 #ifdef __cplusplus

@@ -2,7 +2,7 @@
 //!
 //! Offsets are bytes into the text, counts are characters, and widths and places are pixels.
 
-/// The twelve settings, in the scope's order.
+/// The thirteen settings, in the scope's order and the wrap setting last.
 #[derive(Clone, Copy, Debug, PartialEq, Eq)]
 pub struct Settings {
     /// The width of every character.
@@ -29,6 +29,9 @@ pub struct Settings {
     pub leading: u32,
     /// Trailing spaces: 0 off, 1 on.
     pub trailing: u32,
+    /// A word of which no character fits: 0 it is dropped, 1 it waits for the next line if the cursor has left its starting place.
+    /// The crate has 0 alone.
+    pub wrap: u32,
 }
 
 /// The kinds of token.

@@ -48,14 +48,14 @@ pub struct Place {
     pub shows: bool,
 }
 
-/// The calls as the header declares them. The twelve settings come first, where a call has them.
+/// The calls as the header declares them. The thirteen settings come first, where a call has them.
 mod c {
     macro_rules! with_settings {
         ($($name:ident($($more:tt)*);)*) => {
             extern "C" {
                 $(pub fn $name(
                     glyph: u32, width: u32, tab: u32, spacing: u32, paragraph: u32, base: u32, height: u32, top: i32,
-                    alignment: u32, vertical: u32, leading: u32, trailing: u32, $($more)*
+                    alignment: u32, vertical: u32, leading: u32, trailing: u32, wrap: u32, $($more)*
                 ) -> u32;)*
             }
         };
@@ -93,12 +93,12 @@ mod c {
     }
 }
 
-/// A call that has the twelve settings.
+/// A call that has the thirteen settings.
 macro_rules! call {
     ($name:ident, $s:expr $(, $more:expr)*) => {
         c::$name(
             $s.glyph, $s.width, $s.tab, $s.spacing, $s.paragraph, $s.base, $s.height, $s.top, $s.alignment, $s.vertical, $s.leading,
-            $s.trailing $(, $more)*
+            $s.trailing, $s.wrap $(, $more)*
         )
     };
 }

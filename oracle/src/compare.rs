@@ -53,6 +53,8 @@ pub struct Sides {
     pub text: model::Text,
     pub krate: Laid,
     pub model: Laid,
+    /// By the rules where words wait, which the crate does not know.
+    pub waiting: Laid,
     pub other: Laid,
     pub measure: Vec<Event>,
     crate_tokens: Vec<Token>,
@@ -86,15 +88,18 @@ impl Sides {
         self.library_tokens(text, tally);
     }
 
-    /// Lays a text, whose tokens were compared before, on every side, and compares. A deep look takes longer: the crate is also
-    /// lent the case without a guard and draws the whole text box, and heights and y are compared.
+    /// Lays a text, whose tokens were compared before, on every side, and compares; and then lays it where words wait. A deep look
+    /// takes longer: the crate is also lent the case without a guard and draws the whole text box, and heights and y are compared.
     pub fn layout(&mut self, settings: &Settings, text: &str, deep: bool, tally: &mut Tally) {
+        assert_eq!(settings.wrap, 0, "the crate knows the old rule alone");
         tally.cases += 1;
         let outside = checked::lay(settings, text, true, &mut self.krate);
         model::lay(settings, RULES, &self.text, &mut self.measure, &mut self.model);
 
         #[cfg(library)]
-        self.library_layout(settings, text, deep, outside, tally);
+        if self.library_layout(settings, text, deep, tally) && outside == Outside::default() {
+            self.library_to_crate(settings, text, tally);
+        }
 
         if deep {
             tally.unguarded += 1;
@@ -130,6 +135,7 @@ impl Sides {
                 self.whole(settings, text, tally);
             }
         }
+        self.waits(settings, text, deep, tally);
     }
 
     fn count(&mut self, settings: &Settings, tally: &mut Tally) {

@@ -17,8 +17,8 @@ use lib.IntN.{pos}
 use Rattle.meaning.specs.Examples.{Example, computed}
 use Rattle.meaning.specs.declared.settings.Settings.{Settings}
 
-abbrev sets : (glyph width tab alignment leading trailing : ℕ) → Settings
-sets glyph width tab alignment leading trailing =
+abbrev sets : (glyph width tab alignment leading trailing wrap : ℕ) → Settings
+sets glyph width tab alignment leading trailing wrap =
     record {
       glyph = record { 0 = glyph };
       width = record { 0 = width };
@@ -32,6 +32,7 @@ sets glyph width tab alignment leading trailing =
       vertical = 0;
       leading = leading;
       trailing = trailing;
+      wrap = wrap;
     }
 
 abbrev example : Settings → String → List (List ℕ) → List (List ℕ) → Example
@@ -73,12 +74,14 @@ fn settings(chance: &mut random::Chance) -> Settings {
         alignment: [0, 1, 2, 3, 3][chance.below(5) as usize],
         leading: chance.below(2),
         trailing: chance.below(2),
+        wrap: chance.below(2),
         ..EXAMPLE
     }
 }
 
 /// Writes a module of some cases to standard output. How many of them are the crate's own goes to standard error; the
-/// others are the rules' layouts, where the crate is outside the domain and where it has a way of its own that the scope does away with.
+/// others are the rules' layouts: where words wait, where the crate is outside the domain, and where it has a way of its own that
+/// the scope does away with.
 pub fn write(count: u64, seed: u64) -> bool {
     let mut chance = random::Chance(seed);
     let mut apart = model::Text::default();
@@ -90,19 +93,19 @@ pub fn write(count: u64, seed: u64) -> bool {
         let text: String = (0..chance.below(10)).map(|_| crate::runs::ALPHABET[chance.below(12) as usize]).collect();
         apart.take_apart(&text);
         model::lay(&settings, model::Ways::default(), &apart, &mut Vec::new(), &mut rules);
-        let outside = checked::lay(&settings, &text, true, &mut krate);
-        if outside == Outside::default() && crate::compare::difference(&krate, &rules).is_none() {
+        let comparable = settings.wrap == 0 && checked::lay(&settings, &text, true, &mut krate) == Outside::default();
+        if comparable && crate::compare::difference(&krate, &rules).is_none() {
             own += 1;
         } else {
             other += 1;
         }
-        let Settings { glyph, width, tab, alignment, leading, trailing, .. } = settings;
+        let Settings { glyph, width, tab, alignment, leading, trailing, wrap, .. } = settings;
         let lines = list(rules.lines.iter().zip(&rules.extents).map(|(l, e)| {
             row([l.start, l.rest_end, l.rest_count, l.end, l.left as u32, l.space, l.extra, l.width, e.dropped, e.reach])
         }));
         let events = list(rules.events.iter().map(|e| row([e.kind, e.start, e.end, e.count, e.width, e.x as u32])));
         let between = if number == 0 { "" } else { "∷ " };
-        let sets = format!("sets {glyph} {width} {tab} {alignment} {leading} {trailing}");
+        let sets = format!("sets {glyph} {width} {tab} {alignment} {leading} {trailing} {wrap}");
         writeln!(
             out,
             "    {between}example ({sets}) {}\n    {lines}\n    {events}",

@@ -182,7 +182,7 @@ pub fn run(count: u64, seed: u64) -> bool {
     let (mut measure, mut rules) = (Vec::new(), Laid::default());
     while found.edits < count && tally.unexplained.is_empty() {
         random::text(&mut chance, &mut text);
-        let settings = random::settings(&mut chance);
+        let settings = random::settings_of_both(&mut chance);
         let mut page = Page::lay(settings, text.clone());
         for _ in 0..EDITS {
             let change = change(&mut chance, &page.text);

@@ -1,5 +1,5 @@
 //! The examples: those of the scope, by hand, and those of the definitions' tables, read from their files. Each is held to
-//! the crate and to the rules.
+//! the rules, and to the crate unless words wait.
 
 use crate::{antt, model, show, EXAMPLE};
 use shape::*;
@@ -111,39 +111,51 @@ fn hold_library(claims: &mut Claims, settings: &Settings, text: &str, lines: &[V
     });
 }
 
-/// Holds the sides to rows of ten numbers, and to rows of six where events are given.
-fn hold(claims: &mut Claims, settings: &Settings, text: &str, lines: &[Vec<u32>], events: Option<&[Vec<u32>]>) {
-    let (krate, beyond) = by_crate(settings, text);
-    let rules = by_rules(settings, text);
-    let name = || format!("{} at {}", show::text(text), show::settings(settings, false));
-    if beyond {
-        println!("note: {}: outside the domain, the crate stops on an overflow; compared with wrapping arithmetic", name());
-    }
-    let crate_lines: Vec<_> = krate.lines.iter().map(eight).collect();
-    let first_eight: Vec<_> = lines.iter().map(|line| line[..8].to_vec()).collect();
-    claims.claim(crate_lines == first_eight, || {
-        format!("lines of {}\n  crate   {crate_lines:?}\n  example {first_eight:?}", name())
-    });
-    let rule_lines = ten(&rules);
-    claims.claim(rule_lines == lines, || format!("lines of {}\n  rules   {rule_lines:?}\n  example {lines:?}", name()));
-    #[cfg(library)]
-    hold_library(claims, settings, text, lines, events);
+/// Holds a side to the events of an example, where they are given.
+fn hold_events(claims: &mut Claims, name: &str, side: &str, laid: &Laid, events: Option<&[Vec<u32>]>) {
     let Some(events) = events else { return };
-    for (side, laid) in [("crate", &krate), ("rules", &rules)] {
-        let found: Vec<_> = laid.events.iter().map(six).collect();
-        claims.claim(found == events, || format!("events of {}\n  {side}   {found:?}\n  example {events:?}", name()));
-    }
+    let found: Vec<_> = laid.events.iter().map(six).collect();
+    claims.claim(found == events, || format!("events of {name}\n  {side}   {found:?}\n  example {events:?}"));
 }
 
-/// Settings as the tables name them: `box 30`, `justifiedBox 51`, or `laidOut` by glyph, width, alignment, leading, trailing.
+/// Holds the crate to the first eight numbers of each row.
+fn hold_crate(claims: &mut Claims, settings: &Settings, text: &str, lines: &[Vec<u32>], events: Option<&[Vec<u32>]>) {
+    let name = format!("{} at {}", show::text(text), show::settings(settings, false));
+    let (krate, beyond) = by_crate(settings, text);
+    if beyond {
+        println!("note: {name}: outside the domain, the crate stops on an overflow; compared with wrapping arithmetic");
+    }
+    let found: Vec<_> = krate.lines.iter().map(eight).collect();
+    let first_eight: Vec<_> = lines.iter().map(|line| line[..8].to_vec()).collect();
+    claims.claim(found == first_eight, || format!("lines of {name}\n  crate   {found:?}\n  example {first_eight:?}"));
+    hold_events(claims, &name, "crate", &krate, events);
+}
+
+/// Holds the sides to rows of ten numbers, and to rows of six where events are given.
+fn hold(claims: &mut Claims, settings: &Settings, text: &str, lines: &[Vec<u32>], events: Option<&[Vec<u32>]>) {
+    if settings.wrap == 0 {
+        hold_crate(claims, settings, text, lines, events);
+    }
+    let name = format!("{} at {}", show::text(text), show::settings(settings, false));
+    let rules = by_rules(settings, text);
+    let found = ten(&rules);
+    claims.claim(found == lines, || format!("lines of {name}\n  rules   {found:?}\n  example {lines:?}"));
+    hold_events(claims, &name, "rules", &rules, events);
+    #[cfg(library)]
+    hold_library(claims, settings, text, lines, events);
+}
+
+/// Settings as the tables name them: `box 30`, `waitingBox 30`, `justifiedBox 51`, or `laidOut` by glyph, width, alignment, leading,
+/// trailing and wrap.
 fn settings_of(value: &antt::Value) -> Settings {
     let (name, values) = value.applied();
     let numbers: Vec<u32> = values.iter().map(antt::Value::number).collect();
     match (name, numbers.as_slice()) {
         ("box", &[width]) => Settings { width, ..EXAMPLE },
         ("justifiedBox", &[width]) => Settings { width, alignment: 3, leading: 0, ..EXAMPLE },
-        ("laidOut", &[glyph, width, alignment, leading, trailing]) => {
-            Settings { glyph, width, alignment, leading, trailing, ..EXAMPLE }
+        ("waitingBox", &[width]) => Settings { width, wrap: 1, ..EXAMPLE },
+        ("laidOut", &[glyph, width, alignment, leading, trailing, wrap]) => {
+            Settings { glyph, width, alignment, leading, trailing, wrap, ..EXAMPLE }
         }
         (other, _) => panic!("settings {other} are not known"),
     }

@@ -102,32 +102,43 @@ impl Sides {
         }
     }
 
-    /// The library's layout against the rules', in the domain or not; and against the crate's in the domain, where it may differ
-    /// only as the rules do.
-    pub fn library_layout(&mut self, settings: &Settings, text: &str, deep: bool, outside: Outside, tally: &mut Tally) {
+    /// The rules' layout of the case, by its wrap.
+    fn rules(&self, settings: &Settings) -> &Laid {
+        if settings.wrap == 1 {
+            &self.waiting
+        } else {
+            &self.model
+        }
+    }
+
+    /// The library's layout against the rules', in the domain or not. True if it is the same.
+    pub fn library_layout(&mut self, settings: &Settings, text: &str, deep: bool, tally: &mut Tally) -> bool {
         let answer = self.library.lay(settings, text, &mut self.other);
-        tally.library += 1;
+        tally.library[settings.wrap as usize] += 1;
         let differs = match answer {
-            Ok(()) => difference(&self.other, &self.model).map(str::to_string),
+            Ok(()) => difference(&self.other, self.rules(settings)).map(str::to_string),
             Err(refusal) => Some(format!("refused, {refusal:?}")),
         };
         if let Some(field) = differs {
             let key = format!("the library's layout against the rules: {field}");
-            let details = || format!(" library:\n{} rules:\n{}", show::rows(&self.other), show::laid(&self.model));
+            let details = || format!(" library:\n{} rules:\n{}", show::rows(&self.other), show::laid(self.rules(settings)));
             Tally::note(&mut tally.unexplained, key, settings, text, details);
-            return;
-        }
-        if outside == Outside::default() {
-            tally.library_crate += 1;
-            let field = difference(&self.krate, &self.other);
-            if field != difference(&self.krate, &self.model) {
-                let key = format!("the library's layout against the crate: {}", field.unwrap_or("too few differences"));
-                let details = || format!(" crate:\n{} library:\n{}", show::laid(&self.krate), show::rows(&self.other));
-                Tally::note(&mut tally.unexplained, key, settings, text, details);
-            }
+            return false;
         }
         if deep {
             self.library_places(settings, text, tally);
+        }
+        true
+    }
+
+    /// The library's layout, just laid, against the crate's in the domain, from which it may differ only as the rules do.
+    pub fn library_to_crate(&mut self, settings: &Settings, text: &str, tally: &mut Tally) {
+        tally.library_crate += 1;
+        let field = difference(&self.krate, &self.other);
+        if field != difference(&self.krate, &self.model) {
+            let key = format!("the library's layout against the crate: {}", field.unwrap_or("too few differences"));
+            let details = || format!(" crate:\n{} library:\n{}", show::laid(&self.krate), show::rows(&self.other));
+            Tally::note(&mut tally.unexplained, key, settings, text, details);
         }
     }
 
@@ -140,9 +151,10 @@ impl Sides {
             }
         };
         hold(self.library.lays_the_same(settings, text), "layout without events");
-        let height = model::height(settings, text.len() as u32, &self.model.lines);
+        let lines = &self.rules(settings).lines;
+        let height = model::height(settings, text.len() as u32, lines);
+        let ys = model::places(settings, height, lines);
         hold(self.library.height(settings) == Ok(height.into()), "height");
-        let ys = model::places(settings, height, &self.model.lines);
         let places = ys.iter().map(|&y| (y, model::shows(settings, y))).collect();
         hold(self.library.places(settings) == Ok(places), "y, or whether a line shows");
     }

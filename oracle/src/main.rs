@@ -22,6 +22,7 @@ mod record;
 mod runs;
 mod show;
 mod tally;
+mod waits;
 mod whole;
 
 use compare::Sides;
@@ -43,6 +44,7 @@ pub const EXAMPLE: Settings = Settings {
     vertical: 0,
     leading: 1,
     trailing: 0,
+    wrap: 0,
 };
 
 const USAGE: &str = "\
@@ -58,7 +60,8 @@ usage: oracle examples SPECS            the scope's examples, and those of the d
        oracle record CASES SEED         a sample of the crate's answers, a case a line, for a replay with no Rust at hand
        oracle bench WORK NAME BYTES GLYPHS ALIGNMENT TIMES
                                         a piece of work, done so often, for its instructions to be counted
-       oracle show TEXT [NAME=NUMBER..] one layout, by the crate and by the rules; \\n, \\t, \\u{ad} and so on in TEXT
+       oracle show TEXT [NAME=NUMBER..] one layout, by the crate and by the rules, and by the rules where words wait if that is
+                                        another; \\n, \\t, \\u{ad} and so on in TEXT
 ";
 
 fn main() {
@@ -152,6 +155,9 @@ fn show_one(text: &str, settings: &Settings) -> bool {
     sides.tokens(text, &mut tally);
     sides.layout(settings, text, true, &mut tally);
     print!("{}", sides.both());
+    if sides.waiting != sides.model {
+        print!(" rules, where words wait:\n{}", show::laid(&sides.waiting));
+    }
     let good = tally.report();
     std::io::stdout().flush().unwrap();
     good

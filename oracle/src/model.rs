@@ -3,7 +3,8 @@
 //! the tokens by their number.
 //!
 //! Rule 8 names the crate's `process` and tells only its corners. What the scope's text leaves to it there is marked
-//! "by the crate" below: when the width of spaces and tabs is drawn, when "-" is, and what is drawn of LF and CR.
+//! "by the crate" below: when the width of spaces and tabs is drawn, when "-" is, and what is drawn of LF and CR. That words may
+//! wait comes from the request's words (#101) alone.
 
 use shape::*;
 
@@ -176,8 +177,9 @@ struct Pass<'t> {
     text: &'t Text,
     start: Start,
     spaces: Spaces,
-    /// The cursor: in 0..box width.
+    /// The cursor: in 0..box width, and where the pass started it.
     position: u32,
+    starting_place: u32,
     pen: i32,
     empty: bool,
     reach: u32,
@@ -346,6 +348,9 @@ impl<'t> Pass<'t> {
                     } else if self.empty {
                         let fitting = (self.room() / self.settings.glyph) as usize;
                         if fitting == 0 {
+                            if self.waits() {
+                                return Ended { by: BY_LINE_BREAK, next: self.again(number, stretch) };
+                            }
                             self.dropped += (to - from) as u32;
                             return Ended { by: BY_LINE_BREAK, next: after };
                         }
@@ -359,6 +364,11 @@ impl<'t> Pass<'t> {
             }
             number += 1;
         }
+    }
+
+    /// Whether a word of which no character fits on this empty line stays for the next one (#101).
+    fn waits(&self) -> bool {
+        self.settings.wrap == 1 && self.position != self.starting_place
     }
 
     /// The next line starts with a token that this one has looked at and not taken.
@@ -435,6 +445,7 @@ pub fn lay(settings: &Settings, ways: Ways, text: &Text, measure: &mut Vec<Event
             start,
             spaces,
             position,
+            starting_place: position,
             pen: position as i32,
             empty: true,
             reach: 0,
@@ -534,7 +545,8 @@ pub fn height_by_measures(settings: &Settings, text: &Text, measure: &mut Vec<Ev
     loop {
         measure.clear();
         let spaces = Spaces { width: settings.glyph, extra: 0 };
-        let mut pass = Pass { settings, text, start, spaces, position: 0, pen: 0, empty: true, reach: 0, dropped: 0 };
+        let mut pass =
+            Pass { settings, text, start, spaces, position: 0, starting_place: 0, pen: 0, empty: true, reach: 0, dropped: 0 };
         let ended = pass.run(measure);
         if before == BY_LINE_BREAK && measured(settings, ways, measure).0 > 0 {
             height += settings.spacing;

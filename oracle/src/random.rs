@@ -24,7 +24,7 @@ impl Chance {
     }
 }
 
-/// Any settings in range, most of them where few characters fill a line.
+/// Any settings in range by which words are dropped as in the crate, most of them where few characters fill a line.
 pub fn settings(chance: &mut Chance) -> Settings {
     let glyph = match chance.below(4) {
         0 => 1,
@@ -58,7 +58,14 @@ pub fn settings(chance: &mut Chance) -> Settings {
         vertical: chance.below(3),
         leading: chance.below(2),
         trailing: chance.below(2),
+        wrap: 0,
     }
+}
+
+/// The same, and by chance words wait.
+#[cfg(library)]
+pub fn settings_of_both(chance: &mut Chance) -> Settings {
+    Settings { wrap: chance.below(2), ..settings(chance) }
 }
 
 /// White space that starts or goes on with a run.

@@ -8,12 +8,13 @@ pub fn settings(s: &Settings, all: bool) -> String {
     let alignment = ["left", "centre", "right", "justified"][s.alignment as usize];
     let on = |switch| if switch == 1 { "on" } else { "off" };
     let mut out = format!(
-        "glyph {} box {} tab {} {alignment} leading {} trailing {}",
+        "glyph {} box {} tab {} {alignment} leading {} trailing {}{}",
         s.glyph,
         s.width,
         s.tab,
         on(s.leading),
-        on(s.trailing)
+        on(s.trailing),
+        if s.wrap == 1 { ", words wait" } else { "" }
     );
     if all {
         let vertical = ["top", "middle", "bottom"][s.vertical as usize];

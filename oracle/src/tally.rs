@@ -43,9 +43,15 @@ pub struct Tally {
     pub overflow_same: u64,
     pub cut: u64,
     pub cut_same: u64,
-    /// Layouts of the library that were held to the rules, all ten numbers of a line and all events; and those that were also held
-    /// to the crate, in the domain.
-    pub library: u64,
+    /// Layouts where words wait; those of them that drop nothing by the old rule, and are the same; those that are others than by the
+    /// old rule; and those that drop something by the old rule and, left aligned and with room for a glyph, must not.
+    pub waiting: u64,
+    pub waiting_same: u64,
+    pub waiting_other: u64,
+    pub kept_whole: u64,
+    /// Layouts of the library that were held to the rules, all ten numbers of a line and all events, by wrap; and those that were
+    /// also held to the crate, in the domain.
+    pub library: [u64; 2],
     pub library_crate: u64,
     /// Layouts of the library whose height and y were held to the rules.
     pub library_places: u64,
@@ -94,10 +100,16 @@ impl Tally {
         println!("token lists compared         {}  ({} tokens)", self.token_texts, self.tokens);
         println!("drawn by the whole text box  {}  (heights compared: {})", self.drawn, self.heights);
         println!("lent without the guard       {}", self.unguarded);
+        println!(
+            "where words wait             {}  (old rule drops nothing, the same: {}; other layouts: {})",
+            self.waiting, self.waiting_same, self.waiting_other
+        );
+        println!("  left, room for a glyph     {} that drop by the old rule, and nothing where words wait", self.kept_whole);
         if cfg!(library) {
+            let [dropping, waiting] = self.library;
             println!(
-                "the library's layouts        {} held to the rules, {} of them to the crate too",
-                self.library, self.library_crate
+                "the library's layouts        {dropping} held to the rules, {} of them to the crate too; {waiting} where words wait",
+                self.library_crate
             );
             println!("  with height and y          {}", self.library_places);
         } else {

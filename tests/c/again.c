@@ -9,9 +9,9 @@
 #define MOST 4 /* lines of an example */
 
 /* Glyph 6, tab 24, left, leading on, trailing off. */
-static struct bisquemop_settings boxed(uint32_t width)
+static struct bisquemop_settings boxed(uint32_t width, uint32_t wrap)
 {
-    return laid(6, width, LEFT, 1, 0);
+    return laid(6, width, LEFT, 1, 0, wrap);
 }
 
 static uint8_t text[BISQUEMOP_TEXT_MAX];
@@ -68,9 +68,9 @@ struct edit_example {
     uint32_t lines[MOST * NUMBERS];
 };
 
-static void test_example(const struct edit_example *x)
+static void test_example(const struct edit_example *x, uint32_t wrap)
 {
-    struct bisquemop_settings s = boxed(x->width);
+    struct bisquemop_settings s = boxed(x->width, wrap);
     uint8_t edited[64];
     uint32_t fresh[NUMBERS * MOST];
     size_t old_len = strlen(x->old);
@@ -91,6 +91,7 @@ static void test_example(const struct edit_example *x)
                         memcmp(fresh, x->lines, NUMBERS * x->count * sizeof *fresh) == 0);
 }
 
+/* Edits of texts that drop nothing, and so are laid by both wraps alike. */
 static void test_examples(void)
 {
     static const struct edit_example list[] = {
@@ -158,7 +159,30 @@ static void test_examples(void)
          {0, 0, 0, 0, 0, 6, 0, 18, 0, 4, /**/ 4, 0, 0, 2, 0, 6, 0, 18, 0, 8}},
     };
     for (size_t i = 0; i < sizeof list / sizeof list[0]; i++) {
-        test_example(&list[i]);
+        test_example(&list[i], DROP);
+        test_example(&list[i], WAIT);
+    }
+}
+
+/* Edits where a word waits, before or after or both. The numbers come from the rules, by hand. */
+static void test_waiting(void)
+{
+    static const struct edit_example list[] = {
+        {"an indent grows to the box, and a word waits", 30, "    ab", 0, 0, " ", 0, 2, 2,
+         {0, 0, 0, 3, 0, 6, 0, 0, 0, 8, /**/ 5, 0, 0, 2, 0, 6, 0, 12, 0, 8}},
+        {"an indent shrinks, and the word is begun", 30, "     ab", 0, 1, "", 0, 2, 2,
+         {0, 0, 0, 3, 0, 6, 0, 30, 0, 7, /**/ 5, 0, 0, 2, 0, 6, 0, 6, 0, 7}},
+        /* the line that the word waits after has looked at it, and is the first affected one */
+        {"the word that waits grows", 30, "     ab", 7, 7, "c", 0, 2, 2,
+         {0, 0, 0, 3, 0, 6, 0, 0, 0, 9, /**/ 5, 0, 0, 2, 0, 6, 0, 18, 0, 9}},
+        {"the word that waits goes", 30, "     ab", 5, 7, "", 0, 1, 1, {0, 0, 0, 2, 0, 6, 0, 0, 0, 6}},
+        {"the line of a word that waited is met", 30, "     ab cd\nef", 0, 5, "\n", 0, 1, 3,
+         {0, 0, 0, 0, 0, 6, 0, 0, 0, 1, /**/ 1, 0, 0, 0, 0, 6, 0, 30, 0, 7, /**/ 7, 0, 0, 2, 0, 6, 0, 12, 0, 10}},
+        {"a word that waits is moved", 30, "xx\n     ab", 0, 0, "y", 0, 1, 3,
+         {0, 0, 0, 0, 0, 6, 0, 18, 0, 4, /**/ 4, 0, 0, 3, 0, 6, 0, 0, 0, 12, /**/ 9, 0, 0, 2, 0, 6, 0, 12, 0, 12}},
+    };
+    for (size_t i = 0; i < sizeof list / sizeof list[0]; i++) {
+        test_example(&list[i], WAIT);
     }
 }
 
@@ -201,7 +225,7 @@ static void test_no_text(void)
                               list[i].edit};
         clear_lines(4 * MOST);
         memcpy(table, list[i].old, NUMBERS * list[i].lines * sizeof *table);
-        lines_become(list[i].what, boxed(18), given, list[i].laid, list[i].now, list[i].count);
+        lines_become(list[i].what, boxed(18, DROP), given, list[i].laid, list[i].now, list[i].count);
     }
 }
 
@@ -227,7 +251,7 @@ static void test_long(void)
     static uint32_t lines[NUMBERS * BISQUEMOP_LINES_MAX];
     const uint32_t most = BISQUEMOP_TEXT_MAX;
     const size_t room = NUMBERS * BISQUEMOP_LINES_MAX;
-    struct bisquemop_settings s = boxed(30);
+    struct bisquemop_settings s = boxed(30, DROP);
     memset(text, '\n', sizeof text);
     clear_lines(BISQUEMOP_LINES_MAX + 1);
 
@@ -265,6 +289,7 @@ static void test_long(void)
 void test_again(void)
 {
     test_examples();
+    test_waiting();
     test_no_text();
     test_long();
 }

@@ -57,6 +57,8 @@ int main(int count, char **words)
     test_again();
     printf("laying again, refused\n");
     test_refused();
+    printf("texts by both wraps\n");
+    test_wraps();
     printf("%lu spoiled tables, seed %lu\n", edits, seed);
     test_spoiled(edits, seed);
     printf("%lu random edits, seed %lu\n", edits, seed);

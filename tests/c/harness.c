@@ -56,9 +56,9 @@ void expect_settings(const char *what, struct bisquemop_settings s, uint32_t num
 {
     struct answer plain = no_answer(), spread = no_answer();
     plain.number = bisquemop_check_settings(s.glyph, s.width, s.tab, s.spacing, s.paragraph, s.base, s.height, s.top,
-                                            s.alignment, s.vertical, s.leading, s.trailing, &plain.value);
+                                            s.alignment, s.vertical, s.leading, s.trailing, s.wrap, &plain.value);
     if (!compare(what, &plain, number, value)) {
-        printf(", from twelve numbers\n");
+        printf(", from thirteen numbers\n");
     }
     spread.number = bisquemop_settings_check(&s, &spread.value);
     if (!compare(what, &spread, number, value)) {
@@ -153,7 +153,7 @@ void expect_layout(const char *what, struct bisquemop_settings s, const uint8_t 
     struct answer plain = no_answer(), spread = no_answer();
     size_t count = number == BISQUEMOP_OK ? BISQUEMOP_LINE_NUMBERS * (size_t)value : 0;
     plain.number = bisquemop_layout(s.glyph, s.width, s.tab, s.spacing, s.paragraph, s.base, s.height, s.top,
-                                    s.alignment, s.vertical, s.leading, s.trailing, text, len, lend(room), room,
+                                    s.alignment, s.vertical, s.leading, s.trailing, s.wrap, text, len, lend(room), room,
                                     &plain.value);
     if (!compare(what, &plain, number, value)) {
         show_text(text, len);
@@ -178,11 +178,12 @@ void expect_drawing(const char *what, struct bisquemop_settings s, const uint8_t
         a.number = spread ? bisquemop_settings_layout_events(&s, text, len, table, table_room, buffer, events_room,
                                                              &a.value, &counted.value)
                           : bisquemop_layout_events(s.glyph, s.width, s.tab, s.spacing, s.paragraph, s.base, s.height,
-                                                    s.top, s.alignment, s.vertical, s.leading, s.trailing, text, len,
-                                                    table, table_room, buffer, events_room, &a.value, &counted.value);
+                                                    s.top, s.alignment, s.vertical, s.leading, s.trailing, s.wrap, text,
+                                                    len, table, table_room, buffer, events_room, &a.value,
+                                                    &counted.value);
         counted.number = a.number;
         if (!compare(what, &a, number, value)) {
-            printf(spread ? ", from a struct" : ", from twelve numbers");
+            printf(spread ? ", from a struct" : ", from thirteen numbers");
             show_text(text, len);
         }
         if (!compare(what, &counted, number, done ? event_count : UNWRITTEN)) {
@@ -221,8 +222,8 @@ void expect_height(const char *what, struct bisquemop_settings s, const uint32_t
 {
     struct answer plain = no_answer(), spread = no_answer();
     plain.number = bisquemop_height(s.glyph, s.width, s.tab, s.spacing, s.paragraph, s.base, s.height, s.top,
-                                    s.alignment, s.vertical, s.leading, s.trailing, lend_table(table, table_len),
-                                    table_len, lines, &plain.value);
+                                    s.alignment, s.vertical, s.leading, s.trailing, s.wrap,
+                                    lend_table(table, table_len), table_len, lines, &plain.value);
     if (!compare(what, &plain, number, value)) {
         printf(", for %" PRIu64 " lines\n", lines);
     }
@@ -253,8 +254,8 @@ void expect_y(const char *what, struct bisquemop_settings s, const uint32_t *tab
     struct answer plain = no_answer(), spread = no_answer();
     int32_t plain_y[3] = {17, KEPT, 18}, spread_y[3] = {17, KEPT, 18};
     plain.number = bisquemop_line_y(s.glyph, s.width, s.tab, s.spacing, s.paragraph, s.base, s.height, s.top,
-                                    s.alignment, s.vertical, s.leading, s.trailing, lend_table(table, table_len),
-                                    table_len, lines, line, &plain.value, &plain_y[1]);
+                                    s.alignment, s.vertical, s.leading, s.trailing, s.wrap,
+                                    lend_table(table, table_len), table_len, lines, line, &plain.value, &plain_y[1]);
     if (!compare(what, &plain, number, value)) {
         printf(", for line %" PRIu64 " of %" PRIu64 "\n", line, lines);
     }
@@ -296,7 +297,7 @@ static int part_is_kept(const struct relay *given)
 /* Ends the line of a case that failed with what laying again was lent. */
 static void show_relay(const struct relay *given, int spread)
 {
-    printf(spread ? ", from a struct" : ", from twelve numbers");
+    printf(spread ? ", from a struct" : ", from thirteen numbers");
     printf(", for %" PRIu64 " lines, %" PRIu32 " %" PRIu32 " %" PRIu32, given->lines, given->edit.a, given->edit.b,
            given->edit.inserted);
     show_text(given->part, given->part_len);
@@ -312,9 +313,9 @@ static void call_again(struct bisquemop_settings s, const struct relay *given, i
     a->number = spread ? bisquemop_settings_lay_again(&s, part, given->part_len, table, given->table_len, given->lines,
                                                       e.a, e.b, e.inserted, &a->value, &laid->value)
                        : bisquemop_lay_again(s.glyph, s.width, s.tab, s.spacing, s.paragraph, s.base, s.height, s.top,
-                                             s.alignment, s.vertical, s.leading, s.trailing, part, given->part_len,
-                                             table, given->table_len, given->lines, e.a, e.b, e.inserted, &a->value,
-                                             &laid->value);
+                                             s.alignment, s.vertical, s.leading, s.trailing, s.wrap, part,
+                                             given->part_len, table, given->table_len, given->lines, e.a, e.b,
+                                             e.inserted, &a->value, &laid->value);
     laid->number = a->number;
 }
 

@@ -16,7 +16,7 @@ void expect_text(const char *what, const uint8_t *text, size_t len, uint32_t num
 /*
  * The same with a buffer of `room` numbers lent, NULL where that is 0. Where the call is done, the first numbers of the
  * buffer must be those at `written`, as many as `value` tokens or lines have. All others must stay as they were, and so
- * must what stands beside the buffer. A layout is called with twelve numbers, and with a struct.
+ * must what stands beside the buffer. A layout is called with thirteen numbers, and with a struct.
  */
 void expect_tokens(const char *what, const uint8_t *text, size_t len, size_t room, uint32_t number, uint64_t value,
                    const uint32_t *written);
@@ -92,6 +92,7 @@ void test_tables(void);
 void test_heights(void);
 void test_again(void);
 void test_refused(void);
+void test_wraps(void);
 void test_spoiled(unsigned long tables, unsigned long seed);
 void test_edits(unsigned long edits, unsigned long seed);
 

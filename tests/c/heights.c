@@ -12,7 +12,7 @@
 #define UNSEEN(y) {BISQUEMOP_HIDDEN, y}
 
 /* Spacing 10, paragraph 3, base 8, the top at -5, and five characters to a line. */
-static const struct bisquemop_settings plain = {6, 30, 24, 10, 3, 8, 0, -5, BISQUEMOP_ALIGN_LEFT, 0, 1, 0};
+static const struct bisquemop_settings plain = {6, 30, 24, 10, 3, 8, 0, -5, BISQUEMOP_ALIGN_LEFT, 0, 1, 0, 0};
 
 /* The box's height, the vertical alignment, a text, its height and its lines. */
 struct example {

@@ -62,7 +62,8 @@ static void test_refusals(void)
     static const uint8_t feeds[] = "\n\n\n\n\n\n\n\n\n\n";
     for (size_t i = 0; i < sizeof rooms / sizeof rooms[0]; i++) {
         each_unlaid(test_refusal, rooms[i], 0);
-        expect_layout("eleven lines", laid(6, 30, JUSTIFIED, 1, 0), feeds, 10, rooms[i], BISQUEMOP_TOO_SMALL, 11, NULL);
+        expect_layout("eleven lines", laid(6, 30, JUSTIFIED, 1, 0, DROP), feeds, 10, rooms[i], BISQUEMOP_TOO_SMALL, 11,
+                      NULL);
     }
 }
 
@@ -71,9 +72,9 @@ static void test_settings_that_do_not_matter(void)
 {
     static const uint32_t expected[] = {0, 0, 0, 3, 0, 6, 0, 12, 0, 7, 3, 0, 0, 2, 0, 6, 0, 18, 0, 7};
     static const struct bisquemop_settings list[] = {
-        {6, 30, 24, 0, 0, 1, 0, -4096, LEFT, BISQUEMOP_VERTICAL_TOP, 1, 0},
-        {6, 30, 24, 4096, 4096, 64, 4096, 4096, LEFT, BISQUEMOP_VERTICAL_BOTTOM, 1, 0},
-        {6, 30, 0, 1, 2, 3, 4, -5, LEFT, BISQUEMOP_VERTICAL_MIDDLE, 1, 0},
+        {6, 30, 24, 0, 0, 1, 0, -4096, LEFT, BISQUEMOP_VERTICAL_TOP, 1, 0, DROP},
+        {6, 30, 24, 4096, 4096, 64, 4096, 4096, LEFT, BISQUEMOP_VERTICAL_BOTTOM, 1, 0, WAIT},
+        {6, 30, 0, 1, 2, 3, 4, -5, LEFT, BISQUEMOP_VERTICAL_MIDDLE, 1, 0, DROP},
     };
     for (size_t i = 0; i < sizeof list / sizeof list[0]; i++) {
         lines_are("other settings", list[i], (const uint8_t *)"ab cde", 6, expected, 2);

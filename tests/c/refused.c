@@ -12,7 +12,7 @@
 
 /* Three characters to a line. */
 static const struct bisquemop_settings plain = {6, 18, 24, 10, 3, 8, 40, 0, BISQUEMOP_ALIGN_LEFT,
-                                                BISQUEMOP_VERTICAL_TOP, 1, 0};
+                                                BISQUEMOP_VERTICAL_TOP, 1, 0, 0};
 
 /* The two lines of "abc   d", of which the second has a rest of two bytes, and room for more. */
 static const uint32_t table[12 * NUMBERS] = {0, 0, 0, 3, 0, 6, 0, 18, 0, 7, /**/ 4, 6, 2, 2, 0, 6, 0, 18, 0, 8};
@@ -143,9 +143,9 @@ static void test_extremes(void)
 /* Each setting is tested. */
 static void test_settings_first(void)
 {
-    struct bisquemop_settings list[12];
+    struct bisquemop_settings list[13];
     struct relay given = {(const uint8_t *)"  de", 4, table, 3 * NUMBERS, 2, {7, 7, 1}};
-    for (size_t i = 0; i < 12; i++) {
+    for (size_t i = 0; i < 13; i++) {
         list[i] = plain;
     }
     list[0].glyph = 0;
@@ -158,13 +158,14 @@ static void test_settings_first(void)
     list[7].top = -4097;
     list[8].leading = 2;
     list[9].trailing = 2;
-    list[10].alignment = 4;
-    list[11].vertical = 3;
-    for (size_t i = 0; i < 10; i++) {
+    list[10].wrap = 2;
+    list[11].alignment = 4;
+    list[12].vertical = 3;
+    for (size_t i = 0; i < 11; i++) {
         expect_refused("a setting", list[i], &given, BISQUEMOP_SETTING_OUT_OF_RANGE, 0);
     }
-    expect_refused("alignment", list[10], &given, BISQUEMOP_UNKNOWN_ALIGNMENT, 4);
-    expect_refused("vertical", list[11], &given, BISQUEMOP_UNKNOWN_ALIGNMENT, 3);
+    expect_refused("alignment", list[11], &given, BISQUEMOP_UNKNOWN_ALIGNMENT, 4);
+    expect_refused("vertical", list[12], &given, BISQUEMOP_UNKNOWN_ALIGNMENT, 3);
 }
 
 void test_refused(void)

@@ -6,7 +6,7 @@
 
 static struct bisquemop_settings good(void)
 {
-    struct bisquemop_settings s = {6, 240, 24, 10, 4, 8, 160, 0, BISQUEMOP_ALIGN_LEFT, BISQUEMOP_VERTICAL_TOP, 1, 0};
+    struct bisquemop_settings s = {6, 240, 24, 10, 4, 8, 160, 0, BISQUEMOP_ALIGN_LEFT, BISQUEMOP_VERTICAL_TOP, 1, 0, 0};
     return s;
 }
 
@@ -16,7 +16,7 @@ struct range {
     uint32_t low, high;
 };
 
-#define RANGES 9
+#define RANGES 10
 
 static const struct range ranges[RANGES] = {
     {"glyph", 1, 64},
@@ -28,12 +28,14 @@ static const struct range ranges[RANGES] = {
     {"height", 0, 4096},
     {"leading", 0, 1},
     {"trailing", 0, 1},
+    {"wrap", 0, 1},
 };
 
 static uint32_t *setting(struct bisquemop_settings *s, int i)
 {
     uint32_t *all[RANGES] = {
-        &s->glyph, &s->width, &s->tab, &s->spacing, &s->paragraph, &s->base, &s->height, &s->leading, &s->trailing,
+        &s->glyph, &s->width,  &s->tab,     &s->spacing,  &s->paragraph,
+        &s->base,  &s->height, &s->leading, &s->trailing, &s->wrap,
     };
     return all[i];
 }
@@ -129,11 +131,11 @@ static void test_order(void)
 
 static void test_all_at_once(void)
 {
-    struct bisquemop_settings s = {1, 0, 0, 0, 0, 1, 0, -4096, 0, 0, 0, 0};
+    struct bisquemop_settings s = {1, 0, 0, 0, 0, 1, 0, -4096, 0, 0, 0, 0, 0};
     expect_settings("all at their least", s, BISQUEMOP_OK, 0);
-    struct bisquemop_settings t = {64, 4096, 4096, 4096, 4096, 64, 4096, 4096, 3, 2, 1, 1};
+    struct bisquemop_settings t = {64, 4096, 4096, 4096, 4096, 64, 4096, 4096, 3, 2, 1, 1, 1};
     expect_settings("all at their most", t, BISQUEMOP_OK, 0);
-    struct bisquemop_settings none = {0, 0, 0, 0, 0, 0, 0, 0, 0, 0, 0, 0};
+    struct bisquemop_settings none = {0, 0, 0, 0, 0, 0, 0, 0, 0, 0, 0, 0, 0};
     expect_settings("all 0", none, BISQUEMOP_SETTING_OUT_OF_RANGE, 0);
 }
 
@@ -153,6 +155,7 @@ static void test_names(void)
         BISQUEMOP_VERTICAL_BOTTOM,
         1,
         1,
+        BISQUEMOP_WRAP_WAIT,
     };
     expect_settings("the named upper limits", s, BISQUEMOP_OK, 0);
     s.glyph = BISQUEMOP_GLYPH_MIN;
@@ -166,6 +169,7 @@ static void test_names(void)
                                               BISQUEMOP_ALIGN_RIGHT == 2 && BISQUEMOP_ALIGN_JUSTIFIED == 3 &&
                                               BISQUEMOP_VERTICAL_TOP == 0 && BISQUEMOP_VERTICAL_MIDDLE == 1 &&
                                               BISQUEMOP_VERTICAL_BOTTOM == 2);
+    expect("the names of the wraps", BISQUEMOP_WRAP_DROP == 0 && BISQUEMOP_WRAP_WAIT == 1);
 }
 
 void test_settings(void)

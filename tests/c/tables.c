@@ -10,7 +10,7 @@
 /* Spacing 10, paragraph 3, base 8, and the top at -5. */
 static struct bisquemop_settings standing(uint32_t width, uint32_t height, uint32_t vertical)
 {
-    struct bisquemop_settings s = {6, width, 24, 10, 3, 8, height, -5, BISQUEMOP_ALIGN_LEFT, vertical, 1, 0};
+    struct bisquemop_settings s = {6, width, 24, 10, 3, 8, height, -5, BISQUEMOP_ALIGN_LEFT, vertical, 1, 0, 0};
     return s;
 }
 
@@ -115,6 +115,10 @@ static void bad_table(const char *what, const uint32_t *numbers, size_t len, uin
     s.alignment = 4;
     no_height(what, s, numbers, len, lines, BISQUEMOP_UNKNOWN_ALIGNMENT, 4);
     not_again(what, s, too_long, sizeof too_long, numbers, len, lines, BISQUEMOP_UNKNOWN_ALIGNMENT, 4);
+    s.wrap = 2;
+    no_height(what, s, numbers, len, lines, BISQUEMOP_SETTING_OUT_OF_RANGE, 0);
+    not_again(what, s, too_long, sizeof too_long, numbers, len, lines, BISQUEMOP_SETTING_OUT_OF_RANGE, 0);
+    s.wrap = 1;
     s.base = 0;
     no_height(what, s, numbers, len, lines, BISQUEMOP_SETTING_OUT_OF_RANGE, 0);
     not_again(what, s, too_long, sizeof too_long, numbers, len, lines, BISQUEMOP_SETTING_OUT_OF_RANGE, 0);
@@ -247,7 +251,7 @@ static void test_long(void)
     expect_affected("past the text", one, NUMBERS, 1, 65536, 65536, 1, BISQUEMOP_BAD_EDIT, 0);
 
     const size_t len = sizeof table / sizeof table[0];
-    struct bisquemop_settings most = {64, 4096, 4096, 4096, 4096, 64, 4096, 4096, 3, 2, 1, 1};
+    struct bisquemop_settings most = {64, 4096, 4096, 4096, 4096, 64, 4096, 4096, 3, 2, 1, 1, 1};
     memset(text, '\n', sizeof text);
     uint64_t lines = lay(most, text, sizeof text);
     expect("65,536 lines", lines == 65536);

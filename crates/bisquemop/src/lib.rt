@@ -53,8 +53,9 @@ fn settings_from(
     vertical: u32,
     leading: u32,
     trailing: u32,
+    wrap: u32,
 ) -> Settings
-    ensures { λ r. ⌜ r ≡ settingsOf glyph width tab spacing paragraph base height top alignment vertical leading trailing ⌝ }
+    ensures { λ r. ⌜ r ≡ settingsOf glyph width tab spacing paragraph base height top alignment vertical leading trailing wrap ⌝ }
 {
     Settings {
         glyph: Pixels(glyph),
@@ -69,6 +70,7 @@ fn settings_from(
         vertical,
         leading,
         trailing,
+        wrap,
     }
 }
 
@@ -86,10 +88,11 @@ pub extern "C" fn bisquemop_check_settings(
     vertical: u32,
     leading: u32,
     trailing: u32,
+    wrap: u32,
     value: &mut u64,
 ) -> u32
-    ensures { λ r. ⌜ r ≡ checkedNumber (checkSettings (settingsOf glyph width tab spacing paragraph base height top alignment vertical leading trailing)) ⌝ }
-    ensures { λ r. ⌜ now (value .exit) ≡ checkedValue (checkSettings (settingsOf glyph width tab spacing paragraph base height top alignment vertical leading trailing)) ⌝ }
+    ensures { λ r. ⌜ r ≡ checkedNumber (checkSettings (settingsOf glyph width tab spacing paragraph base height top alignment vertical leading trailing wrap)) ⌝ }
+    ensures { λ r. ⌜ now (value .exit) ≡ checkedValue (checkSettings (settingsOf glyph width tab spacing paragraph base height top alignment vertical leading trailing wrap)) ⌝ }
 {
     let s = settings_from(
         glyph,
@@ -104,6 +107,7 @@ pub extern "C" fn bisquemop_check_settings(
         vertical,
         leading,
         trailing,
+        wrap,
     );
     let checked = check_settings(s);
     *value = checked_value(checked);
@@ -145,13 +149,14 @@ pub extern "C" fn bisquemop_layout(
     vertical: u32,
     leading: u32,
     trailing: u32,
+    wrap: u32,
     text: &[u8],
     table: &mut [u32],
     value: &mut u64,
 ) -> u32
-    ensures { λ r. ⌜ r ≡ layoutNumber (layoutAnswer (settingsOf glyph width tab spacing paragraph base height top alignment vertical leading trailing) (now (text .entry)) (now (table .entry))) ⌝ }
-    ensures { λ r. ⌜ now (table .exit) ≡ layoutTable (settingsOf glyph width tab spacing paragraph base height top alignment vertical leading trailing) (now (text .entry)) (now (table .entry)) ⌝ }
-    ensures { λ r. ⌜ now (value .exit) ≡ layoutValue (layoutAnswer (settingsOf glyph width tab spacing paragraph base height top alignment vertical leading trailing) (now (text .entry)) (now (table .entry))) ⌝ }
+    ensures { λ r. ⌜ r ≡ layoutNumber (layoutAnswer (settingsOf glyph width tab spacing paragraph base height top alignment vertical leading trailing wrap) (now (text .entry)) (now (table .entry))) ⌝ }
+    ensures { λ r. ⌜ now (table .exit) ≡ layoutTable (settingsOf glyph width tab spacing paragraph base height top alignment vertical leading trailing wrap) (now (text .entry)) (now (table .entry)) ⌝ }
+    ensures { λ r. ⌜ now (value .exit) ≡ layoutValue (layoutAnswer (settingsOf glyph width tab spacing paragraph base height top alignment vertical leading trailing wrap) (now (text .entry)) (now (table .entry))) ⌝ }
 {
     let s = settings_from(
         glyph,
@@ -166,6 +171,7 @@ pub extern "C" fn bisquemop_layout(
         vertical,
         leading,
         trailing,
+        wrap,
     );
     let answer = layout(s, text, table);
     *value = layout_value(answer);
@@ -186,17 +192,18 @@ pub extern "C" fn bisquemop_layout_events(
     vertical: u32,
     leading: u32,
     trailing: u32,
+    wrap: u32,
     text: &[u8],
     table: &mut [u32],
     events: &mut [u32],
     value: &mut u64,
     count: &mut u64,
 ) -> u32
-    ensures { λ r. ⌜ r ≡ drawingNumber (drawingAnswer (settingsOf glyph width tab spacing paragraph base height top alignment vertical leading trailing) (now (text .entry)) (now (table .entry)) (now (events .entry))) ⌝ }
-    ensures { λ r. ⌜ now (table .exit) ≡ drawingTable (settingsOf glyph width tab spacing paragraph base height top alignment vertical leading trailing) (now (text .entry)) (now (table .entry)) (now (events .entry)) ⌝ }
-    ensures { λ r. ⌜ now (events .exit) ≡ drawingEvents (settingsOf glyph width tab spacing paragraph base height top alignment vertical leading trailing) (now (text .entry)) (now (table .entry)) (now (events .entry)) ⌝ }
-    ensures { λ r. ⌜ now (value .exit) ≡ drawingValue (drawingAnswer (settingsOf glyph width tab spacing paragraph base height top alignment vertical leading trailing) (now (text .entry)) (now (table .entry)) (now (events .entry))) ⌝ }
-    ensures { λ r. ⌜ now (count .exit) ≡ drawingCount (drawingAnswer (settingsOf glyph width tab spacing paragraph base height top alignment vertical leading trailing) (now (text .entry)) (now (table .entry)) (now (events .entry))) (now (count .entry)) ⌝ }
+    ensures { λ r. ⌜ r ≡ drawingNumber (drawingAnswer (settingsOf glyph width tab spacing paragraph base height top alignment vertical leading trailing wrap) (now (text .entry)) (now (table .entry)) (now (events .entry))) ⌝ }
+    ensures { λ r. ⌜ now (table .exit) ≡ drawingTable (settingsOf glyph width tab spacing paragraph base height top alignment vertical leading trailing wrap) (now (text .entry)) (now (table .entry)) (now (events .entry)) ⌝ }
+    ensures { λ r. ⌜ now (events .exit) ≡ drawingEvents (settingsOf glyph width tab spacing paragraph base height top alignment vertical leading trailing wrap) (now (text .entry)) (now (table .entry)) (now (events .entry)) ⌝ }
+    ensures { λ r. ⌜ now (value .exit) ≡ drawingValue (drawingAnswer (settingsOf glyph width tab spacing paragraph base height top alignment vertical leading trailing wrap) (now (text .entry)) (now (table .entry)) (now (events .entry))) ⌝ }
+    ensures { λ r. ⌜ now (count .exit) ≡ drawingCount (drawingAnswer (settingsOf glyph width tab spacing paragraph base height top alignment vertical leading trailing wrap) (now (text .entry)) (now (table .entry)) (now (events .entry))) (now (count .entry)) ⌝ }
 {
     let s = settings_from(
         glyph,
@@ -211,6 +218,7 @@ pub extern "C" fn bisquemop_layout_events(
         vertical,
         leading,
         trailing,
+        wrap,
     );
     let answer = layout_with_events(s, text, table, events);
     *value = drawing_value(answer);
@@ -254,6 +262,7 @@ pub extern "C" fn bisquemop_lay_again(
     vertical: u32,
     leading: u32,
     trailing: u32,
+    wrap: u32,
     part: &[u8],
     table: &mut [u32],
     lines: u64,
@@ -263,10 +272,10 @@ pub extern "C" fn bisquemop_lay_again(
     value: &mut u64,
     laid: &mut u64,
 ) -> u32
-    ensures { λ r. ⌜ r ≡ relayNumber (relayAnswer (settingsOf glyph width tab spacing paragraph base height top alignment vertical leading trailing) (now (part .entry)) (now (table .entry)) lines (editOf a b inserted)) ⌝ }
-    ensures { λ r. ⌜ now (table .exit) ≡ relayTable (settingsOf glyph width tab spacing paragraph base height top alignment vertical leading trailing) (now (part .entry)) (now (table .entry)) lines (editOf a b inserted) ⌝ }
-    ensures { λ r. ⌜ now (value .exit) ≡ relayValue (relayAnswer (settingsOf glyph width tab spacing paragraph base height top alignment vertical leading trailing) (now (part .entry)) (now (table .entry)) lines (editOf a b inserted)) ⌝ }
-    ensures { λ r. ⌜ now (laid .exit) ≡ relayCount (relayAnswer (settingsOf glyph width tab spacing paragraph base height top alignment vertical leading trailing) (now (part .entry)) (now (table .entry)) lines (editOf a b inserted)) (now (laid .entry)) ⌝ }
+    ensures { λ r. ⌜ r ≡ relayNumber (relayAnswer (settingsOf glyph width tab spacing paragraph base height top alignment vertical leading trailing wrap) (now (part .entry)) (now (table .entry)) lines (editOf a b inserted)) ⌝ }
+    ensures { λ r. ⌜ now (table .exit) ≡ relayTable (settingsOf glyph width tab spacing paragraph base height top alignment vertical leading trailing wrap) (now (part .entry)) (now (table .entry)) lines (editOf a b inserted) ⌝ }
+    ensures { λ r. ⌜ now (value .exit) ≡ relayValue (relayAnswer (settingsOf glyph width tab spacing paragraph base height top alignment vertical leading trailing wrap) (now (part .entry)) (now (table .entry)) lines (editOf a b inserted)) ⌝ }
+    ensures { λ r. ⌜ now (laid .exit) ≡ relayCount (relayAnswer (settingsOf glyph width tab spacing paragraph base height top alignment vertical leading trailing wrap) (now (part .entry)) (now (table .entry)) lines (editOf a b inserted)) (now (laid .entry)) ⌝ }
 {
     let s = settings_from(
         glyph,
@@ -281,6 +290,7 @@ pub extern "C" fn bisquemop_lay_again(
         vertical,
         leading,
         trailing,
+        wrap,
     );
     let edit = Edit {
         from: Offset(a),
@@ -307,12 +317,13 @@ pub extern "C" fn bisquemop_height(
     vertical: u32,
     leading: u32,
     trailing: u32,
+    wrap: u32,
     table: &[u32],
     lines: u64,
     value: &mut u64,
 ) -> u32
-    ensures { λ r. ⌜ r ≡ heightNumber (heightAnswer (settingsOf glyph width tab spacing paragraph base height top alignment vertical leading trailing) (now (table .entry)) lines) ⌝ }
-    ensures { λ r. ⌜ now (value .exit) ≡ heightValue (heightAnswer (settingsOf glyph width tab spacing paragraph base height top alignment vertical leading trailing) (now (table .entry)) lines) ⌝ }
+    ensures { λ r. ⌜ r ≡ heightNumber (heightAnswer (settingsOf glyph width tab spacing paragraph base height top alignment vertical leading trailing wrap) (now (table .entry)) lines) ⌝ }
+    ensures { λ r. ⌜ now (value .exit) ≡ heightValue (heightAnswer (settingsOf glyph width tab spacing paragraph base height top alignment vertical leading trailing wrap) (now (table .entry)) lines) ⌝ }
 {
     let s = settings_from(
         glyph,
@@ -327,6 +338,7 @@ pub extern "C" fn bisquemop_height(
         vertical,
         leading,
         trailing,
+        wrap,
     );
     let answer = text_height(s, table, lines as usize);
     *value = height_value(answer);
@@ -347,15 +359,16 @@ pub extern "C" fn bisquemop_line_y(
     vertical: u32,
     leading: u32,
     trailing: u32,
+    wrap: u32,
     table: &[u32],
     lines: u64,
     line: u64,
     value: &mut u64,
     y: &mut i32,
 ) -> u32
-    ensures { λ r. ⌜ r ≡ yNumber (yAnswer (settingsOf glyph width tab spacing paragraph base height top alignment vertical leading trailing) (now (table .entry)) lines line) ⌝ }
-    ensures { λ r. ⌜ now (value .exit) ≡ yValue (yAnswer (settingsOf glyph width tab spacing paragraph base height top alignment vertical leading trailing) (now (table .entry)) lines line) ⌝ }
-    ensures { λ r. ⌜ now (y .exit) ≡ yPlace (yAnswer (settingsOf glyph width tab spacing paragraph base height top alignment vertical leading trailing) (now (table .entry)) lines line) (now (y .entry)) ⌝ }
+    ensures { λ r. ⌜ r ≡ yNumber (yAnswer (settingsOf glyph width tab spacing paragraph base height top alignment vertical leading trailing wrap) (now (table .entry)) lines line) ⌝ }
+    ensures { λ r. ⌜ now (value .exit) ≡ yValue (yAnswer (settingsOf glyph width tab spacing paragraph base height top alignment vertical leading trailing wrap) (now (table .entry)) lines line) ⌝ }
+    ensures { λ r. ⌜ now (y .exit) ≡ yPlace (yAnswer (settingsOf glyph width tab spacing paragraph base height top alignment vertical leading trailing wrap) (now (table .entry)) lines line) (now (y .entry)) ⌝ }
 {
     let s = settings_from(
         glyph,
@@ -370,6 +383,7 @@ pub extern "C" fn bisquemop_line_y(
         vertical,
         leading,
         trailing,
+        wrap,
     );
     let answer = line_y(s, table, lines as usize, line as usize);
     *value = y_value(answer);

@@ -2,7 +2,7 @@
 -- Assumes nothing.
 use Prim.Native.Nat.{ℕ, _+_, _*_, _/_, _≤_, min}
 use mathlib.Core.Path.{subst}
-use mathlib.Core.Bool.{Bool, _||_, not}
+use mathlib.Core.Bool.{_&&_, _||_, not}
 use mathlib.Core.List.{List, [], _∷_, _++_}
 use native.Mathlib.Omega.{arith}
 use borrow.Author.Tests.{eqb-false}
@@ -12,11 +12,11 @@ use lib.Seq.{take-append-le}
 use Rattle.basis.specs.Choice.{pick-cases}
 use Rattle.unicode.specs.Encoding.{size}
 use Rattle.meaning.specs.Tokens.{Tok, newLine, carriageReturn, tab, softHyphen, space, word, charsOf, sizeOf, needOf, tokens}
-use Rattle.meaning.specs.Cursor.{roomOf, fitsIn, tabWidth}
+use Rattle.meaning.specs.Cursor.{roomOf, fitsIn, hasMoved, tabWidth}
 use Rattle.meaning.specs.SpaceConfig.{spacesWidth}
 use Rattle.meaning.specs.Lookahead.{Looked}
 use Rattle.meaning.specs.Words.{Drawn}
-use Rattle.meaning.specs.LineIter.{Held, Step, go, stop, skips, cutRun, onSpace, onTab, hyphenated, onBreak, cutWord, onWord, step, Ran, passOn, process}
+use Rattle.meaning.specs.LineIter.{Held, Step, go, stop, skips, cutRun, onSpace, onTab, hyphenated, onBreak, wrapOn, unfitWord, cutWord, onWord, step, Ran, passOn, process}
 use Rattle.meaning.specs.Line.{lineTokens, placing, measuring, startPlace, lineOf, layLine}
 use Rattle.meaning.specs.declared.settings.Settings.{Settings}
 use Rattle.meaning.specs.declared.cursor.Place.{Place}
@@ -89,12 +89,12 @@ module _ (s : Settings) (p : Place) (at : ℕ) where
     break-few (Width w) r = pick-cases (Few (c ∷ [])) (p .empty || not (fitsIn (p .cursor) (w .0))) (λ _. hyphen-few r) (λ _. omega arith)
 
   on-word-few : (cs : List ℕ) → 1 ≤ length cs → Few cs (onWord s p at cs)
-  unfolding onWord cutWord
+  unfolding onWord cutWord unfitWord
   on-word-few cs h =
       let k = roomOf (p .cursor) / s .glyph .0 in
       pick-cases (Few cs) (fitsIn (p .cursor) (length cs * s .glyph .0)) (λ _. word-few (s .glyph .0) (p .spaces) at cs h)
       (λ _. pick-cases (Few cs) (p .empty)
-      (λ _. pick-cases (Few cs) (eqb k 0) (λ _. omega arith)
+      (λ _. pick-cases (Few cs) (eqb k 0) (λ _. pick-cases (Few cs) (wrapOn s && hasMoved (p .cursor)) (λ _. omega arith) (λ _. omega arith))
       (λ d. word-few (s .glyph .0) (p .spaces) at (take k cs) (omega (arith, length-take k cs, eqb-false k 0 d))))
       (λ _. omega arith))
 
@@ -117,12 +117,12 @@ tok-few s p t at chars count x y =
 
 -- ---- a pass
 
-on-few : (here : ℕ) (empty : Bool) (u : Tok) (cs : List ℕ) (y : Step) (more : Place → Ran) → Few (textOf u) y → SoundStep (charsOf u) empty y
+on-few : (here : ℕ) (p : Place) (u : Tok) (cs : List ℕ) (y : Step) (more : Place → Ran) → Few (textOf u) y → SoundStep (charsOf u) p y
     → ((q : Place) → length (more q .drawn) ≤ size (take (more q .chars) cs)) →
     let r = passOn here (charsOf u) y more in
     length (r .drawn) ≤ size (take (r .chars) (textOf u ++ cs))
-on-few here empty u cs (go q ds r) more h o f = simp length-append (omega (arith, f q, size-text u, whole-text (more q .chars) u cs))
-on-few here empty u cs (stop e ds k w d r) more h o f =
+on-few here p u cs (go q ds r) more h o f = simp length-append (omega (arith, f q, size-text u, whole-text (more q .chars) u cs))
+on-few here p u cs (stop e ds k w d r) more h o f =
     rw (take-append-le k (textOf u) cs (omega (arith, o .within, chars-text u))) h
 
 process-few : (s : Settings) (p : Place) (at : ℕ) (ts : List Tok) → Sound ts
@@ -130,7 +130,7 @@ process-few : (s : Settings) (p : Place) (at : ℕ) (ts : List Tok) → Sound ts
 unfolding process spell
 process-few s p at [] h = omega arith
 process-few s p at (u ∷ ts) h =
-    on-few (at + needOf u) (p .empty) u (spell ts) (step s p at u ts) (λ q. process s q (at + sizeOf u) ts)
+    on-few (at + needOf u) p u (spell ts) (step s p at u ts) (λ q. process s q (at + sizeOf u) ts)
     (step-few s p at u ts (spell ts) (h .0)) (step-sound s p at u ts (h .0)) (λ q. process-few s q (at + sizeOf u) ts (h .1))
 
 -- ---- a line

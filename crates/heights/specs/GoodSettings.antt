@@ -49,8 +49,10 @@ module _ (s : Settings) (h : checkSettings s ≡ Good) where
       let e = leb (s .height .0) 4096 in
       let t = topInRange (s .top) in
       let l = isSwitch (s .leading) in
-      let all = and-true (a && b && c && d && e && t && l) (isSwitch (s .trailing)) in-range in
-      let top = and-true (a && b && c && d && e) t (and-true (a && b && c && d && e && t) l (all .0) .0) in
+      let k = isSwitch (s .trailing) in
+      let all = and-true (a && b && c && d && e && t && l && k) (isSwitch (s .wrap)) in-range in
+      let leading = and-true (a && b && c && d && e && t && l) k (all .0) in
+      let top = and-true (a && b && c && d && e) t (and-true (a && b && c && d && e && t) l (leading .0) .0) in
       let height = and-true (a && b && c && d) e (top .0) in
       let base = and-true (a && b && c) d (height .0) in
       let paragraph = and-true (a && b) c (base .0) in

@@ -2,17 +2,17 @@
 -- Assumes nothing.
 use Prim.Native.Nat.{ℕ, _+_, _-_, _*_, _/_, _≤_, min}
 use mathlib.Core.Path.{_≡_, refl}
-use mathlib.Core.Bool.{_||_, not}
+use mathlib.Core.Bool.{_&&_, _||_, not}
 use mathlib.Core.List.{List}
 use native.Mathlib.Omega.{arith}
 use lib.Dec.{eqb}
 use lib.ListN.{length}
 use Rattle.basis.specs.Choice.{pick-cases}
 use Rattle.meaning.specs.Tokens.{Tok, newLine, carriageReturn, tab, softHyphen, space, word, charsOf}
-use Rattle.meaning.specs.Cursor.{roomOf, fitsIn, tabWidth}
+use Rattle.meaning.specs.Cursor.{roomOf, fitsIn, hasMoved, tabWidth}
 use Rattle.meaning.specs.SpaceConfig.{spacesWidth}
 use Rattle.meaning.specs.Lookahead.{Looked}
-use Rattle.meaning.specs.LineIter.{Held, nothingHeld, heldAfter, Step, go, stop, skips, cutRun, onSpace, onTab, hyphenated, onBreak, cutWord, onWord, step}
+use Rattle.meaning.specs.LineIter.{Held, nothingHeld, heldAfter, Step, go, stop, skips, cutRun, onSpace, onTab, hyphenated, onBreak, wrapOn, unfitWord, cutWord, onWord, step}
 use Rattle.meaning.specs.declared.settings.Settings.{Settings}
 use Rattle.meaning.specs.declared.cursor.Place.{Place}
 use Rattle.meaning.specs.declared.cursor.NextWord.{NextWord}
@@ -60,12 +60,15 @@ module _ (s : Settings) (p : Place) (at : ℕ) where
       (λ _. tt)
 
   word-whole : (cs : List ℕ) → WholeStep (length cs) (onWord s p at cs)
-  unfolding onWord cutWord
+  unfolding onWord cutWord unfitWord
   word-whole cs =
       let P = WholeStep (length cs) in
       pick-cases P (fitsIn (p .cursor) (length cs * s .glyph .0)) (λ _. tt) λ _.
       pick-cases P (p .empty)
-      (λ _. pick-cases P (eqb (roomOf (p .cursor) / s .glyph .0) 0) (λ _. none-held _ _) (λ _. none-held _ _)) (λ _. none-held _ 0)
+      (λ _.
+      pick-cases P (eqb (roomOf (p .cursor) / s .glyph .0) 0)
+      (λ _. pick-cases P (wrapOn s && hasMoved (p .cursor)) (λ _. none-held _ 0) (λ _. none-held _ _)) (λ _. none-held _ _))
+      (λ _. none-held _ 0)
 
 pub step-whole : (s : Settings) (p : Place) (at : ℕ) (t : Tok) (ts : List Tok) → SoundTok t (spell ts)
     → WholeStep (charsOf t) (step s p at t ts)

@@ -21,6 +21,7 @@ pub mod Longest
 pub mod Measuring
 pub mod Meeting
 pub mod Moved
+pub mod NothingDropped
 pub mod PassBounds
 pub mod Ranges
 pub mod Reaches

@@ -40,7 +40,7 @@ bounds s ts h =
           λ e.
           let f = pass-end s q 0 ts h e in
           (f .0, f .1, omega (arith, pass-reach-high s p 0 ts h, pass-reach-high s q 0 ts h));
-      takes = pass-takes s q 0 ts h refl;
+      takes = pass-takes s q 0 ts h (record { empty = refl; unmoved = refl });
     }
 
 module _ (s : Settings) (h : Held) (cs : List ℕ) (f : h .chars ≤ length cs) (g : h .count ≤ h .chars) where

@@ -2,7 +2,6 @@
 -- Assumes nothing.
 use Prim.Native.Nat.{ℕ, _+_, _≤_}
 use mathlib.Core.Path.{_≡_, refl}
-use mathlib.Core.Bool.{Bool, true}
 use mathlib.Core.List.{List, [], _∷_, _++_}
 use native.Mathlib.Nat.{add-assoc}
 use native.Mathlib.Omega.{arith}
@@ -18,7 +17,7 @@ use Rattle.meaning.specs.declared.line.LineEnd.the-variants.{EndOfText}
 use Rattle.laws.specs.Spell.{textOf, spell, SoundTok, Sound}
 use Rattle.laws.specs.TokenLaws.{chars-text, size-text, size-spell, sound-chars}
 use Rattle.laws.specs.Reaches.{here-bound}
-use Rattle.laws.specs.Steps.{SoundStep, step-sound, lookedOf, step-reach}
+use Rattle.laws.specs.Steps.{Untouched, SoundStep, step-sound, lookedOf, step-reach}
 
 -- A part of a text takes no more bytes than the text.
 pub size-take : (k : ℕ) (cs : List ℕ) → size (take k cs) ≤ size cs
@@ -43,21 +42,21 @@ unfolding spell
 whole-size k t ts = whole-text k t (spell ts)
 
 -- All of it, of a pass over the text cs from an offset on.
-record Bounds (empty : Bool) (at : ℕ) (cs : List ℕ) (r : Ran) : Type 0 where
+record Bounds (p : Place) (at : ℕ) (cs : List ℕ) (r : Ran) : Type 0 where
   chars : r .chars + r .held .chars ≤ length cs
   held : r .held .count ≤ r .held .chars
   low : at + size (take (r .chars + r .held .chars) cs) ≤ r .reach
   high : r .reach ≤ at + size cs + 1
   end : r .ended ≡ EndOfText → (r .chars ≡ length cs) × (r .held .chars ≡ 0) × (at + size cs + 1 ≤ r .reach)
-  takes : empty ≡ true → (r .ended ≡ EndOfText → ⊥) → 1 ≤ r .chars
+  takes : Untouched p → (r .ended ≡ EndOfText → ⊥) → 1 ≤ r .chars
 
 -- A step, and what holds of the pass after it.
-pass-on : (empty : Bool) (at : ℕ) (t : Tok) (ts : List Tok) (x : Step) (more : Place → Ran) → SoundTok t (spell ts)
-    → SoundStep (charsOf t) empty x → lookedOf x ≤ at + size (spell (t ∷ ts)) + 1
-    → ((q : Place) → Bounds (q .empty) (at + sizeOf t) (spell ts) (more q))
-    → Bounds empty at (spell (t ∷ ts)) (passOn (at + needOf t) (charsOf t) x more)
+pass-on : (p : Place) (at : ℕ) (t : Tok) (ts : List Tok) (x : Step) (more : Place → Ran) → SoundTok t (spell ts)
+    → SoundStep (charsOf t) p x → lookedOf x ≤ at + size (spell (t ∷ ts)) + 1
+    → ((q : Place) → Bounds q (at + sizeOf t) (spell ts) (more q))
+    → Bounds p at (spell (t ∷ ts)) (passOn (at + needOf t) (charsOf t) x more)
 unfolding needOf
-pass-on empty at t ts (go q ds r) more h x near b =
+pass-on p at t ts (go q ds r) more h x near b =
     let m = more q in
     let l = b q in
     record {
@@ -68,7 +67,7 @@ pass-on empty at t ts (go q ds r) more h x near b =
       end = λ e. let f = l .end e in (omega (arith, spell-length t ts), f .1, omega (arith, size-spell t ts));
       takes = λ _ _. omega (arith, sound-chars t (spell ts) h);
     }
-pass-on empty at t ts (stop e ds k g d r) more h x near b =
+pass-on p at t ts (stop e ds k g d r) more h x near b =
     record {
       chars = omega (arith, spell-length t ts, x .within);
       held = x .held;
@@ -78,7 +77,7 @@ pass-on empty at t ts (stop e ds k g d r) more h x near b =
       takes = λ f _. x .takes f;
     }
 
-bounds : (s : Settings) (p : Place) (at : ℕ) (ts : List Tok) → Sound ts → Bounds (p .empty) at (spell ts) (process s p at ts)
+bounds : (s : Settings) (p : Place) (at : ℕ) (ts : List Tok) → Sound ts → Bounds p at (spell ts) (process s p at ts)
 unfolding process spell size
 bounds s p at [] h =
     record {
@@ -90,7 +89,7 @@ bounds s p at [] h =
       takes = λ _ f. absurd (f refl);
     }
 bounds s p at (t ∷ ts) h =
-    pass-on (p .empty) at t ts (step s p at t ts) (λ q. process s q (at + sizeOf t) ts) (h .0)
+    pass-on p at t ts (step s p at t ts) (λ q. process s q (at + sizeOf t) ts) (h .0)
     (step-sound s p at t ts (h .0)) (step-reach s p at t ts (h .1)) (λ q. bounds s q (at + sizeOf t) ts (h .1))
 
 module _ (s : Settings) (p : Place) (at : ℕ) (ts : List Tok) (h : Sound ts) where
@@ -114,6 +113,6 @@ module _ (s : Settings) (p : Place) (at : ℕ) (ts : List Tok) (h : Sound ts) wh
       × (at + size (spell ts) + 1 ≤ process s p at ts .reach)
   pass-end = bounds s p at ts h .end
 
-  -- From an empty line on, a line that does not end the text takes a character.
-  pub pass-takes : p .empty ≡ true → (process s p at ts .ended ≡ EndOfText → ⊥) → 1 ≤ process s p at ts .chars
+  -- From where a pass starts, a line that does not end the text takes a character.
+  pub pass-takes : Untouched p → (process s p at ts .ended ≡ EndOfText → ⊥) → 1 ≤ process s p at ts .chars
   pass-takes = bounds s p at ts h .takes

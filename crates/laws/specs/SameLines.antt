@@ -10,7 +10,7 @@ use Rattle.unicode.specs.Encoding.{size}
 use Rattle.meaning.specs.Tokens.{Tok, newLine, carriageReturn, tab, softHyphen, space, word, charsOf, sizeOf, needOf}
 use Rattle.meaning.specs.Alignment.{plainSpaces, justified, place}
 use Rattle.meaning.specs.Lookahead.{nextWidth}
-use Rattle.meaning.specs.LineIter.{Held, nothingHeld, skips, drawsSpace, cutRun, onSpace, onTab, hyphenated, onBreak, cutWord, onWord, Step, step, Ran, passOn, process}
+use Rattle.meaning.specs.LineIter.{Held, nothingHeld, skips, drawsSpace, cutRun, onSpace, onTab, hyphenated, onBreak, unfitWord, cutWord, onWord, Step, step, Ran, passOn, process}
 use Rattle.meaning.specs.Line.{unmeasured, measured, measuredWidth, measuredCount, lineTokens, startPlace, Line, drawnLine, measuring, placing, lineOf, layLine}
 use Rattle.meaning.specs.Layout.{Row, rowAt, unlessEnded, rowsBy, rows, entryOfRow, layout, allEvents, layoutEvents}
 use Rattle.meaning.specs.declared.settings.Settings.{Settings}
@@ -28,6 +28,7 @@ pub record SameLines (s s′ : Settings) : Type 0 where
   pub alignment : s .alignment ≡ s′ .alignment
   pub leading : s .leading ≡ s′ .leading
   pub trailing : s .trailing ≡ s′ .trailing
+  pub wrap : s .wrap ≡ s′ .wrap
 
 -- ---- why: a line is the same with the other six at 0
 
@@ -46,6 +47,7 @@ lineSettings s =
       vertical = 0;
       leading = s .leading;
       trailing = s .trailing;
+      wrap = s .wrap;
     }
 
 break-alone : (s : Settings) (p : Place) (at : ℕ) (w : NextWord) (reach : ℕ) → onBreak s p at w reach ≡ onBreak (lineSettings s) p at w reach
@@ -54,7 +56,7 @@ break-alone s p at Nothing reach = refl
 break-alone s p at (Width w) reach = refl
 
 step-alone : (s : Settings) (p : Place) (at : ℕ) (t : Tok) (ts : List Tok) → step s p at t ts ≡ step (lineSettings s) p at t ts
-unfolding step onTab onSpace onWord skips drawsSpace cutRun cutWord
+unfolding step onTab onSpace onWord skips drawsSpace cutRun cutWord unfitWord
 step-alone s p at newLine ts = refl
 step-alone s p at carriageReturn ts = refl
 step-alone s p at tab ts = refl
@@ -96,6 +98,7 @@ module _ {s s′ : Settings} (e : SameLines s s′) where
         vertical = 0;
         leading = e .leading i;
         trailing = e .trailing i;
+        wrap = e .wrap i;
       }
 
   pub same-line : (h : Held) (cs : List ℕ) → layLine s h cs ≡ layLine s′ h cs

@@ -2,7 +2,7 @@
 -- Assumes nothing.
 use Prim.Native.Nat.{ℕ, _+_, _*_, _/_, max}
 use mathlib.Core.Path.{_≡_, refl, ap}
-use mathlib.Core.Bool.{Bool, true, false, _||_, not}
+use mathlib.Core.Bool.{Bool, true, false, _&&_, _||_, not}
 use mathlib.Core.List.{List, [], _∷_, _++_}
 use native.Mathlib.Nat.{add-assoc, add-zero}
 use native.Mathlib.Omega.{arith}
@@ -11,11 +11,11 @@ use lib.ListN.{length, take}
 use Rattle.basis.specs.Choice.{pick, pick-under}
 use Rattle.unicode.specs.Encoding.{bytes, size}
 use Rattle.meaning.specs.Tokens.{Tok, newLine, carriageReturn, tab, softHyphen, space, word, charsOf, sizeOf, needOf}
-use Rattle.meaning.specs.Cursor.{roomOf, fitsIn, advance, tabWidth}
+use Rattle.meaning.specs.Cursor.{roomOf, fitsIn, advance, hasMoved, tabWidth}
 use Rattle.meaning.specs.SpaceConfig.{spacesWidth, spacesAfter}
 use Rattle.meaning.specs.Lookahead.{Looked, goesOn, nextFits, Ahead, added, nextWidth}
 use Rattle.meaning.specs.Words.{Drawn, drawn, Stretches, last, glued, stretches, printedFirst, drawnStretches, drawnWord}
-use Rattle.meaning.specs.LineIter.{drawsSpace, trailingOn, skips, Step, go, stop, cutRun, onSpace, onTab, hyphenated, onBreak, cutWord, onWord, step, Ran, passOn, process}
+use Rattle.meaning.specs.LineIter.{drawsSpace, trailingOn, skips, Step, go, stop, cutRun, onSpace, onTab, hyphenated, onBreak, wrapOn, unfitWord, cutWord, onWord, step, Ran, passOn, process}
 use Rattle.meaning.specs.Line.{noted, measured, eventsAt}
 use Rattle.meaning.specs.declared.settings.Settings.{Settings}
 use Rattle.meaning.specs.declared.cursor.LineCursor.{LineCursor}
@@ -188,9 +188,11 @@ module _ (s : Settings) (p : Place) (d at : ℕ) where
       (record { looked = d + r; is = refl; reach = omega arith })
 
   cut-word-shift : (cs : List ℕ) → Shifted d (cutWord s p at cs) (cutWord s p (d + at) cs)
-  unfolding cutWord shifted
+  unfolding cutWord unfitWord shifted
   cut-word-shift cs =
-      both (Shifted d) (eqb (roomOf (p .cursor) / s .glyph .0) 0) (record { looked = 0; is = refl; reach = omega arith })
+      both (Shifted d) (eqb (roomOf (p .cursor) / s .glyph .0) 0)
+      (both (Shifted d) (wrapOn s && hasMoved (p .cursor)) (record { looked = 0; is = refl; reach = omega arith })
+      (record { looked = 0; is = refl; reach = omega arith }))
       (record { looked = 0; is = rw word-shift; reach = omega arith })
 
   on-word-shift : (cs : List ℕ) → Shifted d (onWord s p at cs) (onWord s p (d + at) cs)

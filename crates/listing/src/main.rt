@@ -42,6 +42,7 @@ fn settings() -> Settings {
         vertical: 0,
         leading: 1,
         trailing: 0,
+        wrap: 0,
     }
 }
 

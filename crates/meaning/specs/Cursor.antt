@@ -1,7 +1,7 @@
 -- Rule 4: the cursor within a line. Its position stays in 0..box width.
 -- Assumes nothing.
 use Prim.Native.Nat.{ℕ, suc, _+_, _-_, _*_, _/_}
-use mathlib.Core.Bool.{Bool}
+use mathlib.Core.Bool.{Bool, not}
 use lib.Dec.{leb, eqb}
 use lib.IntN.{ℤ, pos, negsuc, negℤ}
 use Rattle.basis.specs.Choice.{pick}
@@ -11,7 +11,7 @@ use Rattle.meaning.specs.declared.cursor.Moved.the-variants.{By, Room}
 
 -- The same cursor at another position.
 abbrev pub placedAt : LineCursor → ℕ → LineCursor
-placedAt c n = record { width = c .width; position = record { 0 = n }; tab = c .tab }
+placedAt c n = record { width = c .width; position = record { 0 = n }; tab = c .tab; start = c .start }
 
 -- What is left of the line.
 unfoldable pub roomOf : LineCursor → ℕ
@@ -23,6 +23,10 @@ fitsIn c w = leb w (roomOf c)
 
 unfoldable pub advance : LineCursor → ℕ → LineCursor
 advance c w = placedAt c (c .position .0 + w)
+
+-- Has it left its starting place.
+unfoldable pub hasMoved : LineCursor → Bool
+hasMoved c = not (eqb (c .position .0) (c .start .0))
 
 -- A move by any signed distance. One that is too long moves nothing and answers the room: backward, minus the position.
 unfoldable pub moveBy : LineCursor → ℤ → Moved

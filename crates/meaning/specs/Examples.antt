@@ -11,12 +11,12 @@ use Rattle.unicode.specs.Encoding.{bytes, size}
 use Rattle.unicode.specs.WhiteSpace.{whiteSpaces, member, isWhite}
 use Rattle.meaning.specs.Characters.{glue, classOf, inWord, inRun}
 use Rattle.meaning.specs.Tokens.{run, after, ender, counted, first, others, tokensBy, tokens, charsOf, sizeOf, enderOf, needOf}
-use Rattle.meaning.specs.Cursor.{roomOf, fitsIn, advance, tabWidth}
+use Rattle.meaning.specs.Cursor.{roomOf, fitsIn, advance, hasMoved, tabWidth}
 use Rattle.meaning.specs.SpaceConfig.{spacesWidth, spacesAfter}
 use Rattle.meaning.specs.Alignment.{plainSpaces, justified, place}
 use Rattle.meaning.specs.Lookahead.{goesOn, nextFits, added, nextWidth}
 use Rattle.meaning.specs.Words.{grow, stretches, glues, printedFirst, drawnStretches, drawnWord}
-use Rattle.meaning.specs.LineIter.{skips, drawsSpace, when, cutRun, onSpace, onTab, hyphenated, onBreak, cutWord, onWord, step, process}
+use Rattle.meaning.specs.LineIter.{skips, drawsSpace, when, cutRun, onSpace, onTab, hyphenated, onBreak, unfitWord, cutWord, onWord, step, process}
 use Rattle.meaning.specs.Line.{measured, measuredWidth, measuredCount, heldTokens, lineTokens, startPlace, measuring, placing, lineOf, layLine, restOf, entryAt, eventsAt}
 use Rattle.meaning.specs.Layout.{rowAt, unlessEnded, rowsBy, rows, layout, allEvents, layoutEvents}
 use Rattle.meaning.specs.Table.{ofEntry, ofEvent}
@@ -28,8 +28,8 @@ codes string.[] = []
 codes (string._∷_ c s) = code c ∷ codes s
 
 -- The settings that a layout depends on, but for the tab, which is 24 wide. What height and y take plays no part.
-abbrev pub laidOut : (glyph width alignment leading trailing : ℕ) → Settings
-laidOut glyph width alignment leading trailing =
+abbrev pub laidOut : (glyph width alignment leading trailing wrap : ℕ) → Settings
+laidOut glyph width alignment leading trailing wrap =
     record {
       glyph = record { 0 = glyph };
       width = record { 0 = width };
@@ -43,15 +43,19 @@ laidOut glyph width alignment leading trailing =
       vertical = 0;
       leading = leading;
       trailing = trailing;
+      wrap = wrap;
     }
 
--- The examples' settings: glyph 6, left, leading on, trailing off.
+-- The examples' settings: glyph 6, left, leading on, trailing off, wrap off; and with words that wait.
 abbrev pub box : ℕ → Settings
-box w = laidOut 6 w 0 1 0
+box w = laidOut 6 w 0 1 0 0
+
+abbrev pub waitingBox : ℕ → Settings
+waitingBox w = laidOut 6 w 0 1 0 1
 
 -- Justified, leading off.
 abbrev pub justifiedBox : ℕ → Settings
-justifiedBox w = laidOut 6 w 3 0 0
+justifiedBox w = laidOut 6 w 3 0 0 0
 
 -- A text in a box, the ten numbers of each of its lines, and the six of each of its events.
 pub record Example : Type 0 where
@@ -123,11 +127,11 @@ examples =
     ((0 ∷ 0 ∷ 1 ∷ 1 ∷ 0 ∷ 0 ∷ []) ∷ (1 ∷ 1 ∷ 3 ∷ 0 ∷ 12 ∷ 0 ∷ []) ∷ (0 ∷ 3 ∷ 4 ∷ 1 ∷ 7 ∷ 12 ∷ []) ∷ (1 ∷ 4 ∷ 6 ∷ 0 ∷ 12 ∷ 19 ∷ [])
     ∷ (0 ∷ 6 ∷ 7 ∷ 1 ∷ 7 ∷ 31 ∷ []) ∷ (1 ∷ 7 ∷ 9 ∷ 0 ∷ 12 ∷ 38 ∷ []) ∷ (1 ∷ 10 ∷ 12 ∷ 0 ∷ 12 ∷ 0 ∷ []) ∷ [])
     -- centred, and a line feed, which is drawn as a space of no width
-    ∷ example (laidOut 6 30 1 0 0) "ab\ncd"
+    ∷ example (laidOut 6 30 1 0 0 0) "ab\ncd"
     ((0 ∷ 0 ∷ 0 ∷ 0 ∷ 9 ∷ 6 ∷ 0 ∷ 12 ∷ 0 ∷ 3 ∷ []) ∷ (3 ∷ 0 ∷ 0 ∷ 2 ∷ 9 ∷ 6 ∷ 0 ∷ 12 ∷ 0 ∷ 6 ∷ []) ∷ [])
     ((1 ∷ 0 ∷ 2 ∷ 0 ∷ 12 ∷ 9 ∷ []) ∷ (0 ∷ 2 ∷ 3 ∷ 0 ∷ 0 ∷ 21 ∷ []) ∷ (1 ∷ 3 ∷ 5 ∷ 0 ∷ 12 ∷ 9 ∷ []) ∷ [])
     -- to the right with trailing spaces on, which count in the width
-    ∷ example (laidOut 5 23 2 0 1) "ab  "
+    ∷ example (laidOut 5 23 2 0 1 0) "ab  "
     ((0 ∷ 0 ∷ 0 ∷ 2 ∷ 3 ∷ 5 ∷ 0 ∷ 20 ∷ 0 ∷ 5 ∷ []) ∷ [])
     ((1 ∷ 0 ∷ 2 ∷ 0 ∷ 10 ∷ 3 ∷ []) ∷ (0 ∷ 2 ∷ 4 ∷ 2 ∷ 10 ∷ 13 ∷ []) ∷ [])
     -- a carriage return
@@ -140,11 +144,41 @@ examples =
     ∷ (13 ∷ 0 ∷ 0 ∷ 2 ∷ 0 ∷ 6 ∷ 0 ∷ 30 ∷ 0 ∷ 19 ∷ []) ∷ [])
     ((0 ∷ 0 ∷ 5 ∷ 5 ∷ 30 ∷ 0 ∷ []) ∷ (0 ∷ 8 ∷ 9 ∷ 1 ∷ 6 ∷ 0 ∷ []) ∷ (1 ∷ 9 ∷ 12 ∷ 0 ∷ 18 ∷ 6 ∷ []) ∷ (0 ∷ 12 ∷ 13 ∷ 1 ∷ 0 ∷ 24 ∷ [])
     ∷ (1 ∷ 13 ∷ 18 ∷ 0 ∷ 30 ∷ 0 ∷ []) ∷ [])
+    -- words that wait: nothing is dropped after an indent as wide as the box, and the clue is whole
+    ∷ example (waitingBox 30) "     ab"
+    ((0 ∷ 0 ∷ 0 ∷ 3 ∷ 0 ∷ 6 ∷ 0 ∷ 0 ∷ 0 ∷ 8 ∷ []) ∷ (5 ∷ 0 ∷ 0 ∷ 2 ∷ 0 ∷ 6 ∷ 0 ∷ 12 ∷ 0 ∷ 8 ∷ []) ∷ [])
+    ((0 ∷ 0 ∷ 5 ∷ 5 ∷ 30 ∷ 0 ∷ []) ∷ (1 ∷ 5 ∷ 7 ∷ 0 ∷ 12 ∷ 0 ∷ []) ∷ [])
+    ∷ example (waitingBox 30) "     not the baker"
+    ((0 ∷ 0 ∷ 0 ∷ 3 ∷ 0 ∷ 6 ∷ 0 ∷ 0 ∷ 0 ∷ 9 ∷ []) ∷ (5 ∷ 0 ∷ 0 ∷ 3 ∷ 0 ∷ 6 ∷ 0 ∷ 18 ∷ 0 ∷ 13 ∷ [])
+    ∷ (9 ∷ 0 ∷ 0 ∷ 3 ∷ 0 ∷ 6 ∷ 0 ∷ 18 ∷ 0 ∷ 19 ∷ []) ∷ (13 ∷ 0 ∷ 0 ∷ 2 ∷ 0 ∷ 6 ∷ 0 ∷ 30 ∷ 0 ∷ 19 ∷ []) ∷ [])
+    ((0 ∷ 0 ∷ 5 ∷ 5 ∷ 30 ∷ 0 ∷ []) ∷ (1 ∷ 5 ∷ 8 ∷ 0 ∷ 18 ∷ 0 ∷ []) ∷ (0 ∷ 8 ∷ 9 ∷ 1 ∷ 0 ∷ 18 ∷ []) ∷ (1 ∷ 9 ∷ 12 ∷ 0 ∷ 18 ∷ 0 ∷ [])
+    ∷ (0 ∷ 12 ∷ 13 ∷ 1 ∷ 0 ∷ 18 ∷ []) ∷ (1 ∷ 13 ∷ 18 ∷ 0 ∷ 30 ∷ 0 ∷ []) ∷ [])
+    -- each line that begins with such an indent is laid so, not the first alone
+    ∷ example (waitingBox 12) "a\n  b"
+    ((0 ∷ 0 ∷ 0 ∷ 0 ∷ 0 ∷ 6 ∷ 0 ∷ 6 ∷ 0 ∷ 2 ∷ []) ∷ (2 ∷ 0 ∷ 0 ∷ 3 ∷ 0 ∷ 6 ∷ 0 ∷ 0 ∷ 0 ∷ 6 ∷ [])
+    ∷ (4 ∷ 0 ∷ 0 ∷ 2 ∷ 0 ∷ 6 ∷ 0 ∷ 6 ∷ 0 ∷ 6 ∷ []) ∷ [])
+    ((1 ∷ 0 ∷ 1 ∷ 0 ∷ 6 ∷ 0 ∷ []) ∷ (0 ∷ 1 ∷ 2 ∷ 0 ∷ 0 ∷ 6 ∷ []) ∷ (0 ∷ 2 ∷ 4 ∷ 2 ∷ 12 ∷ 0 ∷ []) ∷ (1 ∷ 4 ∷ 5 ∷ 0 ∷ 6 ∷ 0 ∷ []) ∷ [])
+    -- a "-" was printed and fills the box: the word behind it waits
+    ∷ example (waitingBox 6) "\u{ad}ab"
+    ((0 ∷ 0 ∷ 0 ∷ 3 ∷ 0 ∷ 6 ∷ 0 ∷ 6 ∷ 0 ∷ 5 ∷ []) ∷ (2 ∷ 0 ∷ 0 ∷ 3 ∷ 0 ∷ 6 ∷ 0 ∷ 6 ∷ 0 ∷ 5 ∷ []) ∷ (3 ∷ 0 ∷ 0 ∷ 2 ∷ 0 ∷ 6 ∷ 0 ∷ 6 ∷ 0 ∷ 5 ∷ []) ∷ [])
+    ((1 ∷ 0 ∷ 2 ∷ 0 ∷ 6 ∷ 0 ∷ []) ∷ (1 ∷ 2 ∷ 3 ∷ 0 ∷ 6 ∷ 0 ∷ []) ∷ (1 ∷ 3 ∷ 4 ∷ 0 ∷ 6 ∷ 0 ∷ []) ∷ [])
+    -- a box narrower than a glyph drops all the same: no line would have more room
+    ∷ example (waitingBox 5) "abc"
+    ((0 ∷ 0 ∷ 0 ∷ 3 ∷ 0 ∷ 6 ∷ 0 ∷ 0 ∷ 3 ∷ 4 ∷ []) ∷ (3 ∷ 0 ∷ 0 ∷ 2 ∷ 0 ∷ 6 ∷ 0 ∷ 0 ∷ 0 ∷ 4 ∷ []) ∷ [])
+    []
+    -- centred: measured from 0 the tab moves the cursor and "a" waits; drawn from 24 the tab does not fit, and "a" is dropped
+    ∷ example (laidOut 24 47 1 1 0 1) "\ta"
+    ((0 ∷ 0 ∷ 0 ∷ 3 ∷ 24 ∷ 24 ∷ 0 ∷ 0 ∷ 1 ∷ 3 ∷ []) ∷ (2 ∷ 0 ∷ 0 ∷ 2 ∷ 24 ∷ 24 ∷ 0 ∷ 0 ∷ 0 ∷ 3 ∷ []) ∷ [])
+    ((2 ∷ 0 ∷ 1 ∷ 0 ∷ 23 ∷ 24 ∷ []) ∷ [])
+    -- justified: measured "a" fits; drawn the wide space and the tab behind it carry the cursor too far, and "a" waits
+    ∷ example (laidOut 6 74 3 1 0 1) " \ta\r"
+    ((0 ∷ 0 ∷ 0 ∷ 3 ∷ 0 ∷ 50 ∷ 0 ∷ 30 ∷ 0 ∷ 4 ∷ []) ∷ (2 ∷ 0 ∷ 0 ∷ 1 ∷ 0 ∷ 6 ∷ 0 ∷ 6 ∷ 0 ∷ 4 ∷ []) ∷ (4 ∷ 0 ∷ 0 ∷ 2 ∷ 0 ∷ 6 ∷ 0 ∷ 0 ∷ 0 ∷ 5 ∷ []) ∷ [])
+    ((0 ∷ 0 ∷ 1 ∷ 1 ∷ 50 ∷ 0 ∷ []) ∷ (0 ∷ 1 ∷ 2 ∷ 0 ∷ 22 ∷ 50 ∷ []) ∷ (1 ∷ 2 ∷ 3 ∷ 0 ∷ 6 ∷ 0 ∷ []) ∷ (0 ∷ 3 ∷ 4 ∷ 0 ∷ 0 ∷ 6 ∷ []) ∷ [])
     ∷ []
 
 -- The lines and the events of a text, with every definition that they take open to be computed.
 unfoldable pub linesOf : Settings → List ℕ → List (List ℕ)
-unfolding pick bytes size whiteSpaces member isWhite glue classOf inWord inRun run after ender counted first others tokensBy tokens charsOf sizeOf enderOf needOf roomOf fitsIn advance tabWidth spacesWidth spacesAfter plainSpaces justified place goesOn nextFits added nextWidth grow stretches glues printedFirst drawnStretches drawnWord skips drawsSpace when cutRun onSpace onTab hyphenated onBreak cutWord onWord step process measured measuredWidth measuredCount heldTokens lineTokens startPlace measuring placing lineOf layLine restOf entryAt eventsAt rowAt unlessEnded rowsBy rows layout ofEntry
+unfolding pick bytes size whiteSpaces member isWhite glue classOf inWord inRun run after ender counted first others tokensBy tokens charsOf sizeOf enderOf needOf roomOf fitsIn advance hasMoved tabWidth spacesWidth spacesAfter plainSpaces justified place goesOn nextFits added nextWidth grow stretches glues printedFirst drawnStretches drawnWord skips drawsSpace when cutRun onSpace onTab hyphenated onBreak unfitWord cutWord onWord step process measured measuredWidth measuredCount heldTokens lineTokens startPlace measuring placing lineOf layLine restOf entryAt eventsAt rowAt unlessEnded rowsBy rows layout ofEntry
 linesOf s cs = map ofEntry (layout s cs)
 
 unfoldable pub eventsOf : Settings → List ℕ → List (List ℕ)

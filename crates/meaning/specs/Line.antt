@@ -58,7 +58,7 @@ lineTokens h cs = heldTokens (h .chars) (h .count) cs
 unfoldable pub startPlace : Settings → (left : ℕ) → Spaces → Place
 startPlace s left spaces =
     record {
-      cursor = record { width = s .width; position = record { 0 = left }; tab = s .tab };
+      cursor = record { width = s .width; position = record { 0 = left }; tab = s .tab; start = record { 0 = left } };
       spaces = spaces;
       empty = true;
     }

@@ -8,7 +8,7 @@ use lib.ListN.{length, take}
 use Rattle.basis.specs.Choice.{pick}
 use Rattle.unicode.specs.Encoding.{size}
 use Rattle.meaning.specs.Tokens.{Tok, newLine, carriageReturn, tab, softHyphen, space, word, charsOf, sizeOf, needOf}
-use Rattle.meaning.specs.Cursor.{roomOf, fitsIn, advance, tabWidth}
+use Rattle.meaning.specs.Cursor.{roomOf, fitsIn, advance, hasMoved, tabWidth}
 use Rattle.meaning.specs.SpaceConfig.{spacesWidth, spacesAfter}
 use Rattle.meaning.specs.Lookahead.{Looked, nextFits, nextWidth}
 use Rattle.meaning.specs.Words.{Drawn, drawn, glues, drawnWord}
@@ -40,6 +40,9 @@ leadingOn s = eqb (s .leading) 1
 
 abbrev pub trailingOn : Settings → Bool
 trailingOn s = eqb (s .trailing) 1
+
+abbrev pub wrapOn : Settings → Bool
+wrapOn s = eqb (s .wrap) 1
 
 -- Leading white space is skipped where the setting is off and the line still empty.
 unfoldable pub skips : Settings → Place → Bool
@@ -109,15 +112,23 @@ unfoldable pub onBreak : Settings → Place → (at : ℕ) → NextWord → (rea
 onBreak s p at Nothing reach = go p [] reach
 onBreak s p at (Width w) reach = pick (p .empty || not (fitsIn (p .cursor) (w .0))) (hyphenated s p at reach) (go p [] reach)
 
--- A word that no empty line can begin is dropped whole.
+-- A word waits for the next line, or is dropped whole.
+abbrev pub waitingWord : Step
+waitingWord = stop LineBreak [] 0 nothingHeld 0 0
+
 abbrev pub droppedWord : List ℕ → Step
 droppedWord cs = stop LineBreak [] (length cs) nothingHeld (length cs) 0
+
+-- A word of which no character fits, on an empty line: with wrap on it waits if the cursor has left its starting place. Where it
+-- has not, the next line would have no more room for it.
+unfoldable pub unfitWord : Settings → Place → List ℕ → Step
+unfitWord s p cs = pick (wrapOn s && hasMoved (p .cursor)) waitingWord (droppedWord cs)
 
 -- A word too wide for an empty line gives its longest fitting part.
 unfoldable pub cutWord : Settings → Place → (at : ℕ) → List ℕ → Step
 cutWord s p at cs =
     let fitting = roomOf (p .cursor) / s .glyph .0 in
-    pick (eqb fitting 0) (droppedWord cs)
+    pick (eqb fitting 0) (unfitWord s p cs)
     (stop LineBreak (drawnWord (s .glyph .0) (p .spaces) at (take fitting cs)) fitting nothingHeld 0 0)
 
 -- The place after a printed word: its gluing characters move the cursor by one glyph each, and use up a space each.
@@ -130,7 +141,7 @@ unfoldable pub onWord : Settings → Place → (at : ℕ) → List ℕ → Step
 onWord s p at cs =
     pick (fitsIn (p .cursor) (length cs * s .glyph .0))
     (go (afterWord s p cs) (drawnWord (s .glyph .0) (p .spaces) at cs) 0)
-    (pick (p .empty) (cutWord s p at cs) (stop LineBreak [] 0 nothingHeld 0 0))
+    (pick (p .empty) (cutWord s p at cs) waitingWord)
 
 -- What the token t at the offset `at` does, with the tokens ts after it to look at.
 unfoldable pub step : Settings → Place → (at : ℕ) → Tok → List Tok → Step

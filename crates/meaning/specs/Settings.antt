@@ -17,7 +17,7 @@ unfoldable pub sizesInRange : (glyph width tab spacing paragraph base height : �
 sizesInRange glyph width tab spacing paragraph base height =
     within 1 64 glyph && leb width 4096 && leb tab 4096 && leb spacing 4096 && leb paragraph 4096 && within 1 64 base && leb height 4096
 
--- Leading and trailing spaces are off or on.
+-- Leading and trailing spaces are off or on; a word of which no character fits is dropped or waits.
 abbrev pub isSwitch : ℕ → Bool
 isSwitch n = leb n 1
 
@@ -28,6 +28,7 @@ inRange s =
     && topInRange (s .top)
     && isSwitch (s .leading)
     && isSwitch (s .trailing)
+    && isSwitch (s .wrap)
 
 -- Alignment: 0 left, 1 centre, 2 right, 3 justified.
 abbrev pub knownAlignment : ℕ → Bool
@@ -37,9 +38,9 @@ knownAlignment a = leb a 3
 abbrev pub knownVertical : ℕ → Bool
 knownVertical v = leb v 2
 
--- The settings made of twelve numbers, in the scope's order.
-unfoldable pub settingsOf : (glyph width tab spacing paragraph base height : ℕ) → ℤ → (alignment vertical leading trailing : ℕ) → Settings
-settingsOf glyph width tab spacing paragraph base height top alignment vertical leading trailing =
+-- The settings made of thirteen numbers, in the scope's order.
+unfoldable pub settingsOf : (glyph width tab spacing paragraph base height : ℕ) → ℤ → (alignment vertical leading trailing wrap : ℕ) → Settings
+settingsOf glyph width tab spacing paragraph base height top alignment vertical leading trailing wrap =
     record {
       glyph = record { 0 = glyph };
       width = record { 0 = width };
@@ -53,4 +54,5 @@ settingsOf glyph width tab spacing paragraph base height top alignment vertical 
       vertical = vertical;
       leading = leading;
       trailing = trailing;
+      wrap = wrap;
     }

@@ -55,7 +55,7 @@ tokensFound x = tokensAre (x .text) (map ofToken (ranged 0 (tokens (codes (x .te
 -- ---- the cursor (rule 4)
 
 abbrev cursorAt : (position : ℕ) → LineCursor
-cursorAt p = record { width = record { 0 = 30 }; position = record { 0 = p }; tab = record { 0 = 24 } }
+cursorAt p = record { width = record { 0 = 30 }; position = record { 0 = p }; tab = record { 0 = 24 }; start = record { 0 = 0 } }
 
 -- From 10, minus 11 answers a refused -10; as far as either end of the line a move goes.
 pub moves-hold : moveBy (cursorAt 10) (negsuc 10) ∷ moveBy (cursorAt 10) (negsuc 9) ∷ moveBy (cursorAt 10) (pos 20) ∷ moveBy (cursorAt 10) (pos 21) ∷ []
@@ -65,7 +65,7 @@ moves-hold = refl
 
 -- The next multiple above the position, and 0 where tabs are 0 wide.
 pub tabs-hold : tabWidth (cursorAt 0) ∷ tabWidth (cursorAt 23) ∷ tabWidth (cursorAt 24)
-    ∷ tabWidth (record { width = record { 0 = 30 }; position = record { 0 = 7 }; tab = record { 0 = 0 } }) ∷ []
+    ∷ tabWidth (record { width = record { 0 = 30 }; position = record { 0 = 7 }; tab = record { 0 = 0 }; start = record { 0 = 0 } }) ∷ []
     ≡ 24 ∷ 1 ∷ 24 ∷ 0 ∷ []
 unfolding linesOf
 tabs-hold = refl
@@ -138,6 +138,7 @@ standing height vertical =
       vertical = vertical;
       leading = 1;
       trailing = 0;
+      wrap = 0;
     }
 
 pub record HeightExample : Type 0 where
@@ -191,6 +192,7 @@ set glyph alignment vertical =
       vertical = vertical;
       leading = 1;
       trailing = 0;
+      wrap = 0;
     }
 
 pub record CallExample : Type 0 where

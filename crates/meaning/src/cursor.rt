@@ -6,6 +6,8 @@ pub struct LineCursor {
     pub width: Pixels,
     pub position: Pixels,
     pub tab: Pixels,
+    // the position that the pass started from
+    pub start: Pixels,
 }
 
 // What a signed move answers: how far it went and the cursor there, or the room that it had.

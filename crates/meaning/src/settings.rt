@@ -1,7 +1,7 @@
 // What a text is laid by (refusal 1, refusal 2).
 use crate::counts::Pixels;
 
-// The twelve settings, in the scope's order.
+// The thirteen settings, in the scope's order and the wrap setting last.
 pub struct Settings {
     // the width of every character
     pub glyph: Pixels,
@@ -27,4 +27,6 @@ pub struct Settings {
     pub leading: u32,
     // trailing spaces: 0 off, 1 on
     pub trailing: u32,
+    // a word of which no character fits: 0 it is dropped, 1 it waits for the next line if the cursor has left its starting place
+    pub wrap: u32,
 }

@@ -2,7 +2,7 @@
 -- Assumes nothing.
 use Prim.Native.Nat.{ℕ, _+_, _-_, _*_, _/_, _≤_, _<_, min}
 use mathlib.Core.Path.{_≡_, refl}
-use mathlib.Core.Bool.{Bool, true, false, _||_, not}
+use mathlib.Core.Bool.{Bool, true, false, _&&_, _||_, not}
 use mathlib.Core.List.{List, [], _∷_}
 use native.Mathlib.Nat.{mul-le-mul-left, mul-le-mul-right, div-mul-le-self, le-div-iff-mul-le}
 use native.Mathlib.Omega.{arith}
@@ -13,12 +13,12 @@ use Rattle.basis.specs.Choice.{pick-cases}
 use Rattle.basis.specs.Order.{by-le}
 use Rattle.unicode.specs.Encoding.{size}
 use Rattle.meaning.specs.Tokens.{Tok, newLine, carriageReturn, tab, softHyphen, space, word, charsOf, sizeOf}
-use Rattle.meaning.specs.Cursor.{roomOf, fitsIn, advance, tabWidth}
+use Rattle.meaning.specs.Cursor.{roomOf, fitsIn, advance, hasMoved, tabWidth}
 use Rattle.meaning.specs.SpaceConfig.{spacesWidth, spacesAfter}
 use Rattle.meaning.specs.Lookahead.{Looked}
 use Rattle.meaning.specs.Alignment.{plainSpaces}
 use Rattle.meaning.specs.Words.{Drawn, drawn, glues, drawnWord}
-use Rattle.meaning.specs.LineIter.{when, skips, trailingOn, movedOn, Step, go, stop, cutRun, onSpace, onTab, hyphenated, onBreak, cutWord, onWord, step}
+use Rattle.meaning.specs.LineIter.{when, skips, trailingOn, movedOn, Step, go, stop, cutRun, onSpace, onTab, hyphenated, onBreak, wrapOn, unfitWord, cutWord, onWord, step}
 use Rattle.meaning.specs.Line.{noted, measured, startPlace}
 use Rattle.meaning.specs.declared.settings.Settings.{Settings}
 use Rattle.meaning.specs.declared.cursor.LineCursor.{LineCursor}
@@ -200,11 +200,12 @@ module _ (s : Settings) (p : Place) (at : ℕ) (m : Measure) (fs : FineSettings 
       (λ _. stays (grows-none m _ _))
 
   cut-word-fine : (cs : List ℕ) → FineStep p m (size cs) (length cs) (cutWord s p at cs)
-  unfolding cutWord
+  unfolding cutWord unfitWord
   cut-word-fine cs =
       let fitting = roomOf (p .cursor) / s .glyph .0 in
       let part = length-take fitting cs in
-      pick-cases (FineStep p m (size cs) (length cs)) (eqb fitting 0) (λ _. grows-none m _ _)
+      let P = FineStep p m (size cs) (length cs) in
+      pick-cases P (eqb fitting 0) (λ _. pick-cases P (wrapOn s && hasMoved (p .cursor)) (λ _. grows-none m _ _) (λ _. grows-none m _ _))
       (λ _. grows-word m _ _ (s .glyph .0) (p .spaces) at (take fitting cs) (fs .1) (fp .1) (omega (arith, length-size cs)) (omega arith))
 
   on-word-fine : (cs : List ℕ) → FineStep p m (size cs) (length cs) (onWord s p at cs)

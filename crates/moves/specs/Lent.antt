@@ -19,7 +19,7 @@ positionAfter c m = cursorAfter c m .position
 
 -- The cursor with another position stored.
 abbrev pub stored : LineCursor → Pixels → LineCursor
-stored c p = record { width = c .width; position = p; tab = c .tab }
+stored c p = record { width = c .width; position = p; tab = c .tab; start = c .start }
 
 -- A move changes nothing but the position.
 abbrev Alone : LineCursor → Moved → Type 0

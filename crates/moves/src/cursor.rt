@@ -4,7 +4,7 @@ use meaning::cursor::LineCursor;
 use meaning::cursor::Moved;
 ghost use Prim.Native.Nat.{_+_, _<_};
 ghost use mathlib.Core.Path.{_≡_};
-ghost use Rattle.meaning.specs.Cursor.{placedAt, roomOf, fitsIn, advance, moveBy, tabWidth};
+ghost use Rattle.meaning.specs.Cursor.{placedAt, roomOf, fitsIn, advance, hasMoved, moveBy, tabWidth};
 ghost use Rattle.moves.specs.Fine.{FineCursor};
 
 // What is left of the line.
@@ -29,11 +29,20 @@ fn placed_at(c: LineCursor, n: u32) -> LineCursor
 {
     let width = c.width;
     let tab = c.tab;
+    let start = c.start;
     LineCursor {
         width,
         position: Pixels(n),
         tab,
+        start,
     }
+}
+
+// Has it left its starting place.
+pub fn has_moved(c: LineCursor) -> bool
+    ensures { λ r. ⌜ r ≡ hasMoved c ⌝ }
+{
+    c.position.0 != c.start.0
 }
 
 // The cursor further on: it does not ask whether the line is that long.

@@ -22,6 +22,7 @@ pub fn start_place(s: Settings, left: Pixels, spaces: Spaces) -> Place
             width,
             position: left,
             tab,
+            start: left,
         },
         spaces,
         empty: true,

@@ -83,7 +83,7 @@ module _ {s : Settings} {t : List ℕ} {at : ℕ} (h : LineReady s t at nothingR
       let d : g ≡ 0 + g = omega arith in
       word-onward ready x e k (le-leb wide (s .width .0 - 0) (omega arith)) _ _
       (λ i. record {
-        cursor = record { width = s .width; position = record { 0 = a i }; tab = s .tab };
+        cursor = record { width = s .width; position = record { 0 = a i }; tab = s .tab; start = record { 0 = 0 } };
         spaces = spacesOf (s .glyph .0) (b i);
         empty = false;
       })
@@ -154,7 +154,7 @@ module _ {s : Settings} {t : List ℕ} {to next looked : ℕ} {x : Lexeme} (w : 
       let d : spaces + (1 + g) ≡ spaces + 1 + g = omega arith in
       pair-goes r refl w (omega arith) _ _
       (λ i. record {
-        cursor = record { width = s .width; position = record { 0 = a i }; tab = s .tab };
+        cursor = record { width = s .width; position = record { 0 = a i }; tab = s .tab; start = record { 0 = 0 } };
         spaces = spacesOf glyph (b i);
         empty = false;
       })

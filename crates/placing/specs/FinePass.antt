@@ -1,7 +1,7 @@
 -- What a whole pass from a fine place measures is no more than its text allows, and it drops no more than it takes.
 -- Assumes nothing.
 use Prim.Native.Nat.{ℕ, _+_, _*_, _/_, _≤_}
-use mathlib.Core.Bool.{_||_, not}
+use mathlib.Core.Bool.{_&&_, _||_, not}
 use mathlib.Core.List.{List, [], _∷_}
 use native.Mathlib.Omega.{arith}
 use lib.Dec.{eqb}
@@ -9,10 +9,10 @@ use lib.ListN.{length, length-append}
 use Rattle.basis.specs.Choice.{pick-cases}
 use Rattle.unicode.specs.Encoding.{size}
 use Rattle.meaning.specs.Tokens.{Tok, newLine, carriageReturn, tab, softHyphen, space, word, charsOf, sizeOf, needOf}
-use Rattle.meaning.specs.Cursor.{roomOf, fitsIn, tabWidth}
+use Rattle.meaning.specs.Cursor.{roomOf, fitsIn, hasMoved, tabWidth}
 use Rattle.meaning.specs.SpaceConfig.{spacesWidth}
 use Rattle.meaning.specs.Lookahead.{Looked}
-use Rattle.meaning.specs.LineIter.{Step, go, stop, skips, cutRun, onSpace, onTab, hyphenated, onBreak, cutWord, onWord, step, Ran, passOn, process}
+use Rattle.meaning.specs.LineIter.{Step, go, stop, skips, cutRun, onSpace, onTab, hyphenated, onBreak, wrapOn, unfitWord, cutWord, onWord, step, Ran, passOn, process}
 use Rattle.meaning.specs.Line.{measured}
 use Rattle.meaning.specs.declared.settings.Settings.{Settings}
 use Rattle.meaning.specs.declared.cursor.Place.{Place}
@@ -81,10 +81,13 @@ module _ (s : Settings) (p : Place) (at : ℕ) where
       (λ _. tt)
 
   word-drops : (cs : List ℕ) → Drops (onWord s p at cs)
-  unfolding onWord cutWord
+  unfolding onWord cutWord unfitWord
   word-drops cs =
       pick-cases Drops (fitsIn (p .cursor) (length cs * s .glyph .0)) (λ _. tt) λ _.
-      pick-cases Drops (p .empty) (λ _. pick-cases Drops (eqb (roomOf (p .cursor) / s .glyph .0) 0) (λ _. omega arith) (λ _. omega arith))
+      pick-cases Drops (p .empty)
+      (λ _.
+      pick-cases Drops (eqb (roomOf (p .cursor) / s .glyph .0) 0)
+      (λ _. pick-cases Drops (wrapOn s && hasMoved (p .cursor)) (λ _. omega arith) (λ _. omega arith)) (λ _. omega arith))
       (λ _. omega arith)
 
 step-drops : (s : Settings) (p : Place) (at : ℕ) (t : Tok) (ts : List Tok) → Drops (step s p at t ts)

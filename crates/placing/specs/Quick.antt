@@ -42,7 +42,11 @@ pub record Stood (s : Settings) (p : Placed) (t : List ℕ) (at letters gaps to 
 -- Where the measuring pass stands in a line that is not empty.
 abbrev pub plainPlace : Settings → (position : ℕ) → Place
 plainPlace s position =
-    record { cursor = record { width = s .width; position = record { 0 = position }; tab = s .tab }; spaces = plainSpaces s; empty = false }
+    record {
+      cursor = record { width = s .width; position = record { 0 = position }; tab = s .tab; start = record { 0 = 0 } };
+      spaces = plainSpaces s;
+      empty = false;
+    }
 
 -- From one offset to another stand words, with one space between any two.
 pub record Counts (s : Settings) (t : List ℕ) (at to columns spaces : ℕ) : Type 0 where

@@ -2,17 +2,17 @@
 -- Assumes nothing.
 use Prim.Native.Nat.{ℕ, _*_, _/_, _≤_}
 use mathlib.Core.Path.{_≡_, refl, sym, _∙_}
-use mathlib.Core.Bool.{Bool, true, false, not}
-use mathlib.Core.List.{List}
+use mathlib.Core.Bool.{Bool, true, false, _&&_, not}
+use mathlib.Core.List.{List, []}
 use native.Mathlib.Nat.{mul-comm, div-le-of-le-mul}
 use native.Mathlib.Omega.{arith}
 use borrow.Author.Tests.{eq-eqb, ne-eqb}
 use lib.ListN.{take}
 use lib.Seq.{take-take}
-use Rattle.basis.specs.Choice.{pick}
-use Rattle.meaning.specs.Cursor.{roomOf, fitsIn}
+use Rattle.basis.specs.Choice.{pick, pick-cases}
+use Rattle.meaning.specs.Cursor.{roomOf, fitsIn, hasMoved}
 use Rattle.meaning.specs.Words.{drawnWord}
-use Rattle.meaning.specs.LineIter.{cutWord, onWord, step}
+use Rattle.meaning.specs.LineIter.{Step, wrapOn, unfitWord, cutWord, onWord, step}
 use Rattle.meaning.specs.declared.settings.Settings.{Settings}
 use Rattle.meaning.specs.declared.cursor.Place.{Place}
 use Rattle.laws.specs.Steps.{too-wide}
@@ -20,7 +20,12 @@ use Rattle.parser.specs.Lexing.{charsFrom}
 use Rattle.parser.specs.declared.lexeme.Lexeme.{Lexeme}
 use Rattle.steps.specs.WordLaws.{WordAt, wordAt}
 use Rattle.ink.specs.Sheet.{Sheet, drawnOn}
-use Rattle.prints.specs.TokenDrawn.{tokDrawn}
+use Rattle.prints.specs.TokenDrawn.{drawnOf, tokDrawn}
+
+-- A word of which no character fits waits or is dropped, and neither draws.
+unfit-draws : (s : Settings) (p : Place) (cs : List ℕ) → drawnOf (unfitWord s p cs) ≡ []
+unfolding unfitWord
+unfit-draws s p cs = pick-cases (λ (y : Step). drawnOf y ≡ []) (wrapOn s && hasMoved (p .cursor)) (λ _. refl) (λ _. refl)
 
 module _ (sh : Sheet) (s : Settings) (p : Place) (t : List ℕ) (at : ℕ) (x : Lexeme) (w : WordAt t at x) where
   pub word-takes : fitsIn (p .cursor) (x .chars .0 * s .glyph .0) ≡ true
@@ -34,9 +39,9 @@ module _ (sh : Sheet) (s : Settings) (p : Place) (t : List ℕ) (at : ℕ) (x : 
     word-waits f = rw (w .tok, ← (w .chars), e, f)
 
     module _ (f : p .empty ≡ true) (k : ℕ) (g : k ≡ roomOf (p .cursor) / s .glyph .0) where
-      pub word-drops : k ≡ 0 → sh ≡ drawnOn sh (tokDrawn s p t at x)
+      pub word-unfit : k ≡ 0 → sh ≡ drawnOn sh (tokDrawn s p t at x)
       unfolding tokDrawn step onWord cutWord pick drawnOn
-      word-drops z = rw (w .tok, ← (w .chars), e, f, eq-eqb (roomOf (p .cursor) / s .glyph .0) 0 (sym g ∙ z))
+      word-unfit z = rw (w .tok, ← (w .chars), e, f, eq-eqb (roomOf (p .cursor) / s .glyph .0) 0 (sym g ∙ z), unfit-draws s (record { cursor = p .cursor; spaces = p .spaces; empty = true }) (wordAt t at x))
 
       pub part-few : k ≤ x .chars .0
       part-few =

@@ -2,6 +2,7 @@
 -- Assumes nothing.
 use Prim.Native.Nat.{ℕ, _+_, _-_, _*_, _/_, _≤_}
 use mathlib.Core.Path.{_≡_, refl, sym, ap, _∙_}
+use mathlib.Core.Bool.{_&&_}
 use mathlib.Core.List.{List, [], _∷_}
 use native.Mathlib.Omega.{arith}
 use borrow.Author.Tests.{eq-eqb, ne-eqb, eqb-false}
@@ -11,9 +12,9 @@ use Rattle.basis.specs.Choice.{pick, pick-cases, by-test}
 use Rattle.unicode.specs.Encoding.{size}
 use Rattle.meaning.specs.Characters.{glue}
 use Rattle.meaning.specs.Tokens.{word}
-use Rattle.meaning.specs.Cursor.{roomOf, fitsIn}
+use Rattle.meaning.specs.Cursor.{roomOf, fitsIn, hasMoved}
 use Rattle.meaning.specs.Words.{drawn, last, grow, stretches, glues, drawnStretches, drawnWord}
-use Rattle.meaning.specs.LineIter.{Held, Step, go, stop, cutWord, onWord, step}
+use Rattle.meaning.specs.LineIter.{Held, Step, go, stop, wrapOn, unfitWord, cutWord, onWord, step}
 use Rattle.meaning.specs.Line.{measured}
 use Rattle.meaning.specs.declared.settings.Settings.{Settings}
 use Rattle.meaning.specs.declared.cursor.Place.{Place}
@@ -78,13 +79,14 @@ module _ (at end : ℕ) (m : Measure) (cs : List ℕ) (ender : ℕ) where
   some-width g ws f h = omega (arith, times-bound {n = length ws} {m = g} 1 1 h f)
 
   print-of : (s : Settings) (p : Place) → 1 ≤ s .glyph .0 → 1 ≤ length cs → glues cs ≡ 0 → at + size cs ≡ end → PrintOf (onWord s p at cs)
-  unfolding onWord cutWord
+  unfolding onWord cutWord unfitWord
   print-of s p f h g e =
       let k = roomOf (p .cursor) / s .glyph .0 in
       pick-cases PrintOf (fitsIn (p .cursor) (length cs * s .glyph .0))
       (λ _. rw (one-print (s .glyph .0) (p .spaces) at cs g) (prints-whole _ _ _ 0 e (some-width (s .glyph .0) cs f h)))
       (λ _. pick-cases PrintOf (p .empty)
-      (λ _. pick-cases PrintOf (eqb k 0) (λ _. prints-none _ _ _ _ 0)
+      (λ _. pick-cases PrintOf (eqb k 0)
+      (λ _. pick-cases PrintOf (wrapOn s && hasMoved (p .cursor)) (λ _. prints-none _ 0 _ 0 0) (λ _. prints-none _ _ _ _ 0))
       (λ d. rw (one-print (s .glyph .0) (p .spaces) at (take k cs) (glues-take k cs g))
       (prints-part _ k _ _ 0 0 (some-width (s .glyph .0) (take k cs) f (omega (arith, length-take k cs, eqb-false k 0 d))))))
       (λ _. prints-none _ 0 _ 0 0))

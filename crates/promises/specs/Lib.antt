@@ -10,3 +10,5 @@ pub mod Refused
 pub mod Demand3
 pub mod AsFresh
 pub mod OtherSettings
+pub mod TableHolds
+pub mod WordsKept

@@ -1,4 +1,4 @@
--- How arguments are passed. C passes settings as twelve numbers and an edit as three, before the other arguments, and nothing is left
+-- How arguments are passed. C passes settings as thirteen numbers and an edit as three, before the other arguments, and nothing is left
 -- behind of either.
 -- Assumes nothing.
 use Prim.Native.Nat.{ℕ}
@@ -18,9 +18,9 @@ LentNumber = RefT ℕ
 abbrev pub LentSigned : Type 0
 LentSigned = RefT ℤ
 
--- Any twelve numbers are those of some settings, and any three those of some edit.
+-- Any thirteen numbers are those of some settings, and any three those of some edit.
 abbrev pub passed : {X : Type 0} → Settings → X
-    → ℕ × (ℕ × (ℕ × (ℕ × (ℕ × (ℕ × (ℕ × (ℤ × (ℕ × (ℕ × (ℕ × (ℕ × X)))))))))))
+    → ℕ × (ℕ × (ℕ × (ℕ × (ℕ × (ℕ × (ℕ × (ℤ × (ℕ × (ℕ × (ℕ × (ℕ × (ℕ × X))))))))))))
 passed s x = (
   s .glyph .0,
   (
@@ -35,7 +35,7 @@ passed s x = (
             s .base .0,
             (
               s .height .0,
-              (s .top, (s .alignment, (s .vertical, (s .leading, (s .trailing, x))))),
+              (s .top, (s .alignment, (s .vertical, (s .leading, (s .trailing, (s .wrap, x)))))),
             ),
           ),
         ),
@@ -48,8 +48,8 @@ abbrev pub passedEdit : {X : Type 0} → Edit → X → ℕ × (ℕ × (ℕ × X
 passedEdit ed x = (ed .from .0, (ed .to .0, (ed .inserted .0, x)))
 
 abbrev pub noneLeft : {X : Type 0} → X
-    → Unit {0} × (Unit {0} × (Unit {0} × (Unit {0} × (Unit {0} × (Unit {0} × (Unit {0} × (Unit {0} × (Unit {0} × (Unit {0} × (Unit {0} × (Unit {0} × X)))))))))))
-noneLeft x = (tt, (tt, (tt, (tt, (tt, (tt, (tt, (tt, (tt, (tt, (tt, (tt, x))))))))))))
+    → Unit {0} × (Unit {0} × (Unit {0} × (Unit {0} × (Unit {0} × (Unit {0} × (Unit {0} × (Unit {0} × (Unit {0} × (Unit {0} × (Unit {0} × (Unit {0} × (Unit {0} × X))))))))))))
+noneLeft x = (tt, (tt, (tt, (tt, (tt, (tt, (tt, (tt, (tt, (tt, (tt, (tt, (tt, x)))))))))))))
 
 abbrev pub noEditLeft : {X : Type 0} → X → Unit {0} × (Unit {0} × (Unit {0} × X))
 noEditLeft x = (tt, (tt, (tt, x)))

@@ -7,13 +7,16 @@ use mathlib.Core.List.{List}
 use lib.IntN.{ℤ}
 use Rattle.meaning.specs.Checks.{answered, afterwards}
 use Rattle.meaning.specs.Calls.{checkTokens, tokensAnswer, tokensBuffer, checkLayout, layoutAnswer, layoutTable, checkDrawing, drawingAnswer, drawingTable, drawingEvents, checkRelay, relayAnswer, relayTable}
-use Rattle.meaning.specs.Answers.{drawingNumber, drawingCount, relayNumber, relayCount, yNumber, yPlace}
+use Rattle.meaning.specs.Refusals.{numberOf}
+use Rattle.meaning.specs.Answers.{layoutNumber, layoutValue, drawingNumber, drawingCount, relayNumber, relayCount, yNumber, yPlace}
 use Rattle.meaning.specs.declared.settings.Settings.{Settings}
 use Rattle.meaning.specs.declared.edit.Edit.{Edit}
 use Rattle.meaning.specs.declared.refusals.Refusal.{Refusal}
+use Rattle.meaning.specs.declared.refusals.Refusal.the-variants.{SettingOutOfRange, UnknownAlignment, TextTooLong, NotUtf8, BadLine, BadEdit, LineTakesNothing, TooSmall}
 use Rattle.meaning.specs.declared.refusals.Checked.{Checked}
 use Rattle.meaning.specs.declared.refusals.Checked.the-variants.{Good, Refused}
 use Rattle.meaning.specs.declared.answers.Tokenized.the-variants as tokenized
+use Rattle.meaning.specs.declared.answers.Laid.{Laid}
 use Rattle.meaning.specs.declared.answers.Laid.the-variants as laid
 use Rattle.meaning.specs.declared.answers.LaidWithEvents.{LaidWithEvents}
 use Rattle.meaning.specs.declared.answers.LaidWithEvents.the-variants as drawing
@@ -44,6 +47,21 @@ pub relay-kept : (s : Settings) (t b : List ℕ) (lines : ℕ) (ed : Edit) → (
     → relayTable s t b lines ed ≡ b
 unfolding relayAnswer relayTable
 relay-kept s t b lines ed d = kept (checkRelay s t b lines ed) _ _ _ b (d _ _)
+
+-- A refusal has no number 0, so a layout whose number is 0 is done.
+refusal-some : (r : Refusal) → numberOf r ≡ 0 → ⊥
+refusal-some SettingOutOfRange e = omega arith
+refusal-some (UnknownAlignment a) e = omega arith
+refusal-some (TextTooLong n) e = omega arith
+refusal-some (NotUtf8 n) e = omega arith
+refusal-some (BadLine k) e = omega arith
+refusal-some BadEdit e = omega arith
+refusal-some (LineTakesNothing k) e = omega arith
+refusal-some (TooSmall n) e = omega arith
+
+pub layout-done : (x : Laid) → layoutNumber x ≡ 0 → x ≡ laid.Lines (layoutValue x)
+layout-done (laid.Lines n) e = refl
+layout-done (laid.Refused r) e = absurd (refusal-some r e)
 
 pub drawing-counted : (x : LaidWithEvents) (old : ℕ) → 0 < drawingNumber x → drawingCount x old ≡ old
 drawing-counted (drawing.Lines n m) old h = omega arith

@@ -31,6 +31,7 @@ settingsIn ns =
       vertical = 0;
       leading = getD ns 4 0;
       trailing = getD ns 5 0;
+      wrap = 0;
     }
 
 -- A line's numbers but for the last two, which the crate does not have.

@@ -39,6 +39,7 @@ pub fn settings(numbers: &[u32]) -> Settings
         vertical: 0,
         leading: numbers[4],
         trailing: numbers[5],
+        wrap: 0,
     }
 }
 

@@ -38,8 +38,10 @@ module _ (s : Settings) (h : checkSettings s ≡ Good) where
       let e = leb (s .height .0) 4096 in
       let t = topInRange (s .top) in
       let l = isSwitch (s .leading) in
-      let all = and-true (g && w && a && b && c && d && e && t && l) (isSwitch (s .trailing)) (judged .0) in
-      let leading = and-true (g && w && a && b && c && d && e && t) l (all .0) in
+      let k = isSwitch (s .trailing) in
+      let all = and-true (g && w && a && b && c && d && e && t && l && k) (isSwitch (s .wrap)) (judged .0) in
+      let trailing = and-true (g && w && a && b && c && d && e && t && l) k (all .0) in
+      let leading = and-true (g && w && a && b && c && d && e && t) l (trailing .0) in
       let top = and-true (g && w && a && b && c && d && e) t (leading .0) in
       let height = and-true (g && w && a && b && c && d) e (top .0) in
       let base = and-true (g && w && a && b && c) d (height .0) in
@@ -54,7 +56,7 @@ module _ (s : Settings) (h : checkSettings s ≡ Good) where
         leb-true (s .tab .0) 4096 (tab .1),
         leb-true (s .alignment) 3 (judged .1),
         leb-true (s .leading) 1 (leading .1),
-        leb-true (s .trailing) 1 (all .1),
+        leb-true (s .trailing) 1 (trailing .1),
       )
 
   pub text-ready : (t : List ℕ) → checkText t ≡ Good → TextReady s t

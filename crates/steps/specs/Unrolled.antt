@@ -157,7 +157,7 @@ module _ (s : Settings) (p : Place) (t : List ℕ) (at chars count : ℕ) (m : M
         rw (is, e, ← text) (stop-ended m at u cs b ds k h d r (λ q. process s q (at + sizeOf u) (tokens cs)) (omega arith) w)
 
     -- The same, from what the running step answers.
-    stepped : (x : Step) → step s p at u (tokens (charsFrom t (at + sizeOf u))) ≡ x → SoundStep (charsOf u) (p .empty) x → WholeStep (charsOf u) x
+    stepped : (x : Step) → step s p at u (tokens (charsFrom t (at + sizeOf u))) ≡ x → SoundStep (charsOf u) p x → WholeStep (charsOf u) x
         → ranFrom s p t at chars count m ≡ continued s t (at + sizeOf u) (at + needOf u) (steppedAt m at u x)
     unfolding continued steppedAt
     stepped (go q ds r) e f w = ran-go q ds r e

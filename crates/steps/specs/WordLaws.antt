@@ -2,7 +2,7 @@
 -- Assumes nothing.
 use Prim.Native.Nat.{ℕ, _+_, _-_, _*_, _/_, _≤_}
 use mathlib.Core.Path.{_≡_, sym, ap, _∙_}
-use mathlib.Core.Bool.{true, false}
+use mathlib.Core.Bool.{true, false, _&&_}
 use mathlib.Core.List.{List}
 use native.Mathlib.Nat.{mul-comm, div-le-of-le-mul, add-zero}
 use native.Mathlib.Omega.{arith}
@@ -12,9 +12,9 @@ use lib.Seq.{length-take-le, take-length, take-take}
 use Rattle.basis.specs.Choice.{pick}
 use Rattle.unicode.specs.Encoding.{size}
 use Rattle.meaning.specs.Tokens.{word, ender, charsOf, sizeOf}
-use Rattle.meaning.specs.Cursor.{roomOf, fitsIn}
+use Rattle.meaning.specs.Cursor.{roomOf, fitsIn, hasMoved}
 use Rattle.meaning.specs.Words.{glues}
-use Rattle.meaning.specs.LineIter.{cutWord, onWord, step}
+use Rattle.meaning.specs.LineIter.{wrapOn, unfitWord, cutWord, onWord, step}
 use Rattle.meaning.specs.Line.{measured}
 use Rattle.meaning.specs.declared.tokens.TokenKind.the-variants.{Word}
 use Rattle.meaning.specs.declared.settings.Settings.{Settings}
@@ -117,10 +117,15 @@ module _ (s : Settings) (p : Place) (t : List ℕ) (at : ℕ) (x : Lexeme) (m : 
         let cs = charsFrom t at in
         rw h (omega (arith, part-within, w .few), omega (arith, glues-length (take k cs), length-take k cs))
 
-    pub word-drops : (k : ℕ) → k ≡ fitting → k ≡ 0
+    -- No character of it fits: it waits, or is dropped.
+    pub moved-waits : fitting ≡ 0 → wrapOn s && hasMoved (p .cursor) ≡ true → Stop (endsBefore LineBreak m at 0 0) ≡ stepFrom s p t at x m
+    unfolding cutWord unfitWord steppedAt endsBefore resumedAt measured size pick
+    moved-waits z h = rw (cuts, eq-eqb (roomOf (p .cursor) / s .glyph .0) 0 z, h, add-zero at)
+
+    pub word-drops : fitting ≡ 0 → wrapOn s && hasMoved (p .cursor) ≡ false
         → Stop (endsBefore LineBreak m (x .end .0) (x .chars .0) 0) ≡ stepFrom s p t at x m
-    unfolding cutWord steppedAt endsBefore resumedAt measured size pick
-    word-drops k g z = rw (cuts, eq-eqb (roomOf (p .cursor) / s .glyph .0) 0 (sym g ∙ z), take-length (wordAt t at x), ← (w .end), ← (w .chars))
+    unfolding cutWord unfitWord steppedAt endsBefore resumedAt measured size pick
+    word-drops z h = rw (cuts, eq-eqb (roomOf (p .cursor) / s .glyph .0) 0 z, h, take-length (wordAt t at x), ← (w .end), ← (w .chars))
 
     pub word-parts : (k : ℕ) (part : Part) (n : Measure) → k ≡ fitting → (k ≡ 0 → ⊥)
         → part ≡ partOf at k (charsFrom t at) → n ≡ wordMeasure (s .glyph .0) (p .spaces) m k (part .glues .0)

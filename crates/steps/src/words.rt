@@ -4,6 +4,7 @@ use crate::step::Stepped;
 use meaning::counts::Chars;
 use meaning::counts::Offset;
 use meaning::counts::Pixels;
+use meaning::cursor::LineCursor;
 use meaning::cursor::Place;
 use meaning::cursor::Spaces;
 use meaning::line::LineEnd;
@@ -11,16 +12,18 @@ use meaning::line::Measure;
 use meaning::settings::Settings;
 use moves::cursor::advanced;
 use moves::cursor::fits;
+use moves::cursor::has_moved;
 use moves::cursor::room;
 use moves::measure::printed_at;
 use moves::space_config::spaces_after;
 use moves::space_config::spaces_width;
 use parser::lexeme::Lexeme;
 use parser::part::part_of;
-ghost use Prim.Native.Nat.{_≤_, _+_, _*_};
+ghost use Prim.Native.Nat.{_≤_, _+_, _*_, _/_};
 ghost use mathlib.Core.Path.{_≡_};
-ghost use mathlib.Core.Bool.{true, false};
-ghost use Rattle.meaning.specs.Cursor.{fitsIn};
+ghost use mathlib.Core.Bool.{true, false, _&&_};
+ghost use Rattle.meaning.specs.Cursor.{roomOf, fitsIn, hasMoved};
+ghost use Rattle.meaning.specs.LineIter.{wrapOn};
 ghost use Rattle.meaning.specs.declared.tokens.TokenKind.the-variants.{Word};
 ghost use Rattle.moves.specs.Fine.{FineSpaces, FinePlace};
 ghost use Rattle.steps.specs.Ready.{Ready, stepFrom};
@@ -52,7 +55,30 @@ pub fn word_place(glyph: Pixels, p: Place, n: Chars, g: Chars) -> Place
     }
 }
 
-// A word too wide for an empty line gives its longest fitting part. One that no line can begin is dropped whole.
+// Does a word of which no character fits wait for the next line: with wrap on, if the cursor has left its starting place.
+fn waits(s: Settings, c: LineCursor) -> bool
+    ensures { λ r. ⌜ r ≡ wrapOn s && hasMoved c ⌝ }
+{
+    (s.wrap == 1) & has_moved(c)
+}
+
+// On an empty line a word of which no character fits waits, or is dropped whole.
+fn unfit_word(text: &[u8], s: Settings, p: Place, at: usize, x: Lexeme, m: Measure) -> Stepped
+    requires { ⌜ Ready s p (now text) at x m × (x .kind ≡ Word) × (fitsIn (p .cursor) (x .chars .0 * s .glyph .0) ≡ false) × (p .empty ≡ true)
+        × (roomOf (p .cursor) / s .glyph .0 ≡ 0) ⌝ }
+    ensures { λ r. ⌜ r ≡ stepFrom s p (now (text .entry)) at x m ⌝ }
+{
+    let cursor = p.cursor;
+    let here = at as u32;
+    if waits(s, cursor) {
+        return Stepped::Stop(ends_before(LineEnd::LineBreak, m, Offset(here), Chars(0), Offset(0)));
+    }
+    let end = x.end;
+    let dropped = x.chars;
+    Stepped::Stop(ends_before(LineEnd::LineBreak, m, end, dropped, Offset(0)))
+}
+
+// A word too wide for an empty line gives its longest fitting part.
 fn cut_word(text: &[u8], s: Settings, p: Place, at: usize, x: Lexeme, m: Measure) -> Stepped
     requires { ⌜ Ready s p (now text) at x m × (x .kind ≡ Word) × (fitsIn (p .cursor) (x .chars .0 * s .glyph .0) ≡ false) × (p .empty ≡ true) ⌝ }
     ensures { λ r. ⌜ r ≡ stepFrom s p (now (text .entry)) at x m ⌝ }
@@ -60,9 +86,7 @@ fn cut_word(text: &[u8], s: Settings, p: Place, at: usize, x: Lexeme, m: Measure
     let cursor = p.cursor;
     let fitting = room(cursor) / s.glyph.0;
     if fitting == 0 {
-        let end = x.end;
-        let dropped = x.chars;
-        return Stepped::Stop(ends_before(LineEnd::LineBreak, m, end, dropped, Offset(0)));
+        return unfit_word(text, s, p, at, x, m);
     }
     let spaces = p.spaces;
     let glyph = s.glyph;

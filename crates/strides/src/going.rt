@@ -55,12 +55,14 @@ pub fn strode(p: Place, position: u32, extra: u32) -> Place
     let spaces = p.spaces;
     let width = before.width;
     let tab = before.tab;
+    let start = before.start;
     let each = spaces.width;
     Place {
         cursor: LineCursor {
             width,
             position: Pixels(position),
             tab,
+            start,
         },
         spaces: Spaces {
             width: each,

@@ -1,6 +1,6 @@
 /*
- * Uses every call of the header, with the struct and with twelve numbers. It is only compiled, as C99 and as C++17, so it keeps to
- * what both have.
+ * Uses every call of the header, with the struct and with thirteen numbers. It is only compiled, as C99 and as C++17,
+ * so it keeps to what both have.
  */
 #include "bisquemop.h"
 #include "bisquemop.h" /* a second time does no harm */
@@ -69,7 +69,7 @@ uint32_t heights(struct lent *l)
 }
 
 /* The same calls, without the struct. */
-#define SETTINGS 6, 30, 24, 10, 0, 8, 48, -2, BISQUEMOP_ALIGN_LEFT, BISQUEMOP_VERTICAL_TOP, 1, 0
+#define SETTINGS 6, 30, 24, 10, 0, 8, 48, -2, BISQUEMOP_ALIGN_LEFT, BISQUEMOP_VERTICAL_TOP, 1, 0, BISQUEMOP_WRAP_WAIT
 
 uint32_t by_numbers(struct lent *l)
 {

@@ -15,10 +15,10 @@ top-in-range-requires c κs = search needs
 returns : tie.Need-returns
 unfolding inRange
 returns c =
-    let tops = c .before .before in
+    let tops = c .before .before .before in
     let sizes = tops .before in
     let s = sizes .before .args .s in
-    λ i. sizes .sizes-in-range .ensures i && tops .top-in-range .ensures i && isSwitch (s .leading) && isSwitch (s .trailing)
+    λ i. sizes .sizes-in-range .ensures i && tops .top-in-range .ensures i && isSwitch (s .leading) && isSwitch (s .trailing) && isSwitch (s .wrap)
 
 pub in-range-spec : {M : Type 1} → statement M
 in-range-spec = tie.close (tie.spec sizes-in-range-requires top-in-range-requires returns)

@@ -83,7 +83,7 @@ held p w is = subst (Is P.the-row p) (LL.tells P.the-type P′.the-laws p (w ∷
 
 -- a cursor that holds another position is a cursor
 made : (h : LineCursor) (p : Pixels) → Is R h (T′.lowered h ∷ []) → Is P.the-row p (P′.lowered p ∷ []) → Is R (stored h p) (T′.lowered (stored h p) ∷ [])
-made h p was is = let f = LL.owed T.the-type T′.the-laws h _ was in LL.owes T.the-type T′.the-laws (stored h p) (f .0, (is, (f .1 .1 .0, tt)))
+made h p was is = let f = LL.owed T.the-type T′.the-laws h _ was in LL.owes T.the-type T′.the-laws (stored h p) (f .0, (is, (f .1 .1 .0, (f .1 .1 .1 .0, tt))))
 
 module _ {M : Type 1} (𝓤 : URA M) (H : Heap 𝓤) (A : Atoms 𝓤) (at-mem : Memory → SProp 𝓤) (run : Routine → Fun 𝓤) where
   -- the contracts that the proof cites

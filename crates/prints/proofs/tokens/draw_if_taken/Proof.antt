@@ -8,7 +8,7 @@ use Rattle.moves.specs.FineLaws.{times-bound}
 use Rattle.steps.specs.WordLaws.{WordAt, word-at}
 use Rattle.ink.specs.Sheet.{sheet}
 use Rattle.ink.specs.Stretching.{WordRoom}
-use Rattle.prints.proofs.WordEvents.{word-takes, word-waits, word-drops, part-few, word-parts, was-false, was-true}
+use Rattle.prints.proofs.WordEvents.{word-takes, word-waits, word-unfit, part-few, word-parts, was-false, was-true}
 use borrow.Author.Needs.{needs}
 use Rattle.prints.proofs.tokens.draw_if_taken.Statement.{statement}
 use Rattle.prints.proofs.tokens.draw_if_taken.Tie as tie
@@ -79,7 +79,7 @@ returns-3 c =
     let e = r .before .before .before in
     let s = e .before .before .before .before .before .before .before in
     let a = s .args in
-    word-drops (sheet (a .events .now) (a .pen)) (a .s) (a .p) (a .text .now) (a .at) (a .x) (word s) (sym (e .before .fits2 .ensures) ∙ e .if1 .left) (was-true _ (r .before .if2 .left)) _ (fitting-is r) (c .if3 .taken)
+    word-unfit (sheet (a .events .now) (a .pen)) (a .s) (a .p) (a .text .now) (a .at) (a .x) (word s) (sym (e .before .fits2 .ensures) ∙ e .if1 .left) (was-true _ (r .before .if2 .left)) _ (fitting-is r) (c .if3 .taken)
 
 draw-word-requires-2 : tie.Need-draw-word-requires-2
 draw-word-requires-2 c κs =
