@@ -58,7 +58,7 @@ enum bisquemop_refusal {
     BISQUEMOP_NOT_UTF8 = 4,             /* the length in bytes of its longest prefix that is UTF-8 */
     BISQUEMOP_BAD_LINE = 5,             /* the first bad line of the table */
     BISQUEMOP_BAD_EDIT = 6,             /* 0 */
-    BISQUEMOP_LINE_TAKES_NOTHING = 7,   /* proved never to be returned */
+    /* 7 is not used. It was for a line that breaks without taking a character, and there is none: that is proved */
     BISQUEMOP_TOO_SMALL = 8             /* how many lines, tokens or events the buffer must have room for */
 };
 

@@ -20,8 +20,6 @@ pub enum Refusal {
     BadLine(u64),
     /// 6.
     BadEdit,
-    /// 7, and the line.
-    LineTakesNothing(u64),
     /// 8, and how many entries the first buffer that is too small needs.
     TooSmall(u64),
 }
@@ -113,7 +111,6 @@ fn answer(number: u32, value: u64) -> Result<u64, Refusal> {
         4 => Refusal::NotUtf8(value),
         5 => Refusal::BadLine(value),
         6 if value == 0 => Refusal::BadEdit,
-        7 => Refusal::LineTakesNothing(value),
         8 => Refusal::TooSmall(value),
         _ => panic!("the library answered {number} and {value}, which is no refusal"),
     };

@@ -91,7 +91,7 @@ static void test_names(void)
     expect("the names of the end types", BISQUEMOP_END_NEW_LINE == 0 && BISQUEMOP_END_CARRIAGE_RETURN == 1 &&
                                              BISQUEMOP_END_END_OF_TEXT == 2 && BISQUEMOP_END_LINE_BREAK == 3);
     expect("the names of the later refusals", BISQUEMOP_BAD_LINE == 5 && BISQUEMOP_BAD_EDIT == 6 &&
-                                                  BISQUEMOP_LINE_TAKES_NOTHING == 7 && BISQUEMOP_TOO_SMALL == 8);
+                                                  BISQUEMOP_TOO_SMALL == 8);
 }
 
 void test_layout(void)

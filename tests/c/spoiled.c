@@ -281,13 +281,13 @@ static void one_table(const char *what)
 
 static void expect_returned(unsigned long of)
 {
-    printf("%lu done, and refused by 1 to 8:", returned[BISQUEMOP_OK]);
+    printf("%lu done, and refused by 1 to 8, of which 7 is not used:", returned[BISQUEMOP_OK]);
     for (int number = 1; number <= BISQUEMOP_TOO_SMALL; number++) {
         printf(" %lu", returned[number]);
     }
     printf("\n");
     for (int number = 0; of >= 10000 && number <= BISQUEMOP_TOO_SMALL; number++) {
-        expect("each refusal but 7", number == BISQUEMOP_LINE_TAKES_NOTHING || returned[number] >= of / 200);
+        expect("each refusal, and 7 never", number == 7 ? returned[number] == 0 : returned[number] >= of / 200);
     }
 }
 

@@ -14,7 +14,7 @@ use Rattle.meaning.specs.WellFormed.{noRest}
 use Rattle.meaning.specs.Edit.{charsIn, restFits}
 use Rattle.meaning.specs.declared.line.Entry.{Entry}
 use Rattle.meaning.specs.declared.refusals.Checked.the-variants.{Good}
-use Rattle.laws.specs.Calls3.{chars-within}
+use Rattle.laws.specs.LinesTake.{chars-within}
 use Rattle.laws.specs.TokenLaws.{length-size}
 use Rattle.steps.specs.Unrolled.{nothingResumed}
 use Rattle.steps.specs.declared.step.Resumed.{Resumed}

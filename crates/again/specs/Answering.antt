@@ -11,7 +11,7 @@ use Rattle.meaning.specs.Checks.{refuseIf, firstOf, checkSettings, checkLength,
 use Rattle.meaning.specs.Table.{entryNumbers, ofEntry, ofAll, capacityOf, written, entriesIn}
 use Rattle.meaning.specs.WellFormed.{checkTable}
 use Rattle.meaning.specs.Edit.{unaffected, affected, checkWhole, checkRest, checkEdit}
-use Rattle.meaning.specs.Calls.{checkTakes, linesLaid, linesAfter, checkRelay, relayAnswer, relayTable}
+use Rattle.meaning.specs.Calls.{linesLaid, linesAfter, checkRelay, relayAnswer, relayTable}
 use Rattle.meaning.specs.declared.settings.Settings.{Settings}
 use Rattle.meaning.specs.declared.edit.Edit.{Edit}
 use Rattle.meaning.specs.declared.line.Entry.{Entry}
@@ -21,7 +21,6 @@ use Rattle.meaning.specs.declared.refusals.Checked.{Checked}
 use Rattle.meaning.specs.declared.refusals.Checked.the-variants.{Good, Refused}
 use Rattle.meaning.specs.declared.answers.Relaid.{Relaid}
 use Rattle.meaning.specs.declared.answers.Relaid.the-variants as relaid
-use Rattle.laws.specs.Calls3.{again-takes}
 use Rattle.laws.specs.TestOrder.{first-alone}
 use Rattle.edits.specs.Checking.{checkFirst, checkLent, checkBefore}
 use Rattle.again.specs.GoodRelay.{all-good, goods}
@@ -56,10 +55,7 @@ module _ (s : Settings) (part table : List ℕ) (lines : ℕ) (ed : Edit) where
   abbrev room : Checked
   room = checkRoom (capacityOf entryNumbers table) (length (linesAfter s part table lines ed))
 
-  abbrev takes : Checked
-  takes = checkTakes before (linesLaid s part table lines ed)
-
-  in-order : checkRelay s part table lines ed ≡ firstOf (checkBefore s part table lines ed ∷ takes ∷ room ∷ [])
+  in-order : checkRelay s part table lines ed ≡ firstOf (checkBefore s part table lines ed ∷ room ∷ [])
   unfolding checkRelay checkBefore checkLent checkFirst
   in-order =
       let t = checkTable lines table in
@@ -69,7 +65,7 @@ module _ (s : Settings) (part table : List ℕ) (lines : ℕ) (ed : Edit) where
       let r = checkRest before onward (decodeAll part) in
       let e = checkEdit old ed onward (length part) (decodeAll part) in
       let f = firstOf (r ∷ e ∷ []) in
-      let after = takes ∷ room ∷ [] in
+      let after = room ∷ [] in
       sym
       (first-append (checkSettings s ∷ firstOf (l ∷ w ∷ u ∷ t ∷ f ∷ []) ∷ []) after
       ∙ first-more (checkSettings s) (firstOf (l ∷ w ∷ u ∷ t ∷ f ∷ []) ∷ after) (l ∷ w ∷ u ∷ t ∷ r ∷ e ∷ after)
@@ -88,17 +84,9 @@ module _ (s : Settings) (part table : List ℕ) (lines : ℕ) (ed : Edit) where
   refused-before r e = refused r (in-order ∙ rw e)
 
   module _ (good : checkBefore s part table lines ed ≡ Good) where
-    -- Refusal 7 never arises.
-    takes-good : takes ≡ Good
-    unfolding linesLaid checkFirst
-    takes-good =
-        let r = checkRest before onward (decodeAll part) in
-        let e = checkEdit old ed onward (length part) (decodeAll part) in
-        again-takes s ed old onward (decodeAll part) before before (goods r (e ∷ []) (all-good s part table lines ed good .first) .0)
-
     room-decides : checkRelay s part table lines ed ≡ room
     unfolding firstOf
-    room-decides = in-order ∙ rw (good, takes-good) (first-alone room)
+    room-decides = in-order ∙ rw good (first-alone room)
 
     module _ (n : ℕ) (is : n ≡ length (linesAfter s part table lines ed)) where
       -- Refusal 8.

@@ -24,7 +24,7 @@ use Rattle.meaning.specs.declared.refusals.Refusal.{Refusal}
 use Rattle.meaning.specs.declared.refusals.Refusal.the-variants.{TextTooLong}
 use Rattle.meaning.specs.declared.refusals.Checked.{Checked}
 use Rattle.meaning.specs.declared.refusals.Checked.the-variants.{Good, Refused}
-use Rattle.laws.specs.Calls3.{refuse-good}
+use Rattle.laws.specs.GoodChecks.{refuse-good}
 use Rattle.parser.specs.Lexing.{charsFrom}
 use Rattle.table.specs.LinesFrom.{linesFrom, lines-more}
 use Rattle.table.specs.GoodTable.{table-room, table-text, table-lines}

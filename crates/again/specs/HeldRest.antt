@@ -15,7 +15,7 @@ use Rattle.meaning.specs.WellFormed.{noRest}
 use Rattle.meaning.specs.Edit.{charsIn, restFits, heldOf}
 use Rattle.meaning.specs.declared.line.Entry.{Entry}
 use Rattle.meaning.specs.declared.refusals.Checked.the-variants.{Good}
-use Rattle.laws.specs.Calls3.{chars-within}
+use Rattle.laws.specs.LinesTake.{chars-within}
 use Rattle.parser.specs.Lexing.{charsFrom}
 use Rattle.steps.specs.Unrolled.{nothingResumed}
 use Rattle.steps.specs.Running.{none-fits}

@@ -1,5 +1,5 @@
 // Each refusal as a number, and the value that goes besides it.
-// Refusal 1, refusal 2, refusal 3, refusal 4, refusal 5, refusal 6, refusal 7, refusal 8.
+// Refusal 1, refusal 2, refusal 3, refusal 4, refusal 5, refusal 6, refusal 8.
 use meaning::refusals::Checked;
 use meaning::refusals::Refusal;
 ghost use mathlib.Core.Path.{_≡_};
@@ -15,7 +15,6 @@ pub fn number(r: Refusal) -> u32
         Refusal::NotUtf8(_) => 4,
         Refusal::BadLine(_) => 5,
         Refusal::BadEdit => 6,
-        Refusal::LineTakesNothing(_) => 7,
         Refusal::TooSmall(_) => 8,
     }
 }
@@ -30,7 +29,6 @@ pub fn value(r: Refusal) -> u64
         Refusal::NotUtf8(prefix) => prefix.0 as u64,
         Refusal::BadLine(line) => line,
         Refusal::BadEdit => 0,
-        Refusal::LineTakesNothing(line) => line,
         Refusal::TooSmall(needed) => needed,
     }
 }

@@ -21,7 +21,8 @@ use Rattle.meaning.specs.Checks.{checkUtf8}
 use Rattle.meaning.specs.Edit.{charsIn}
 use Rattle.meaning.specs.declared.refusals.Refusal.the-variants.{NotUtf8}
 use Rattle.meaning.specs.declared.refusals.Checked.the-variants.{Good}
-use Rattle.laws.specs.Calls3.{chars-within, refuse-good}
+use Rattle.laws.specs.GoodChecks.{refuse-good}
+use Rattle.laws.specs.LinesTake.{chars-within}
 use Rattle.laws.specs.PassBounds.{size-take}
 use Rattle.laws.specs.Suffixes.{chars-in-take}
 

@@ -17,7 +17,7 @@ use Rattle.meaning.specs.Layout.{layout, entryOfRow}
 use Rattle.meaning.specs.Table.{entryNumbers, ofEntry, ofAll, capacityOf, written, entriesIn}
 use Rattle.meaning.specs.WellFormed.{checkTable}
 use Rattle.meaning.specs.Edit.{unaffected, affected, checkWhole, checkRest, checkOrder, checkEdit, again, linesAgain}
-use Rattle.meaning.specs.Calls.{checkTakes, layoutAnswer, layoutTable, checkAffected, affectedAnswer, linesLaid, linesAfter, checkRelay, relayAnswer, relayTable}
+use Rattle.meaning.specs.Calls.{layoutAnswer, layoutTable, checkAffected, affectedAnswer, linesLaid, linesAfter, checkRelay, relayAnswer, relayTable}
 use Rattle.meaning.specs.declared.settings.Settings.{Settings}
 use Rattle.meaning.specs.declared.edit.Edit.{Edit}
 use Rattle.meaning.specs.declared.line.Entry.{Entry}
@@ -28,7 +28,6 @@ use Rattle.meaning.specs.declared.answers.Relaid.the-variants as relaid
 use Rattle.laws.specs.Meeting.{Replaces}
 use Rattle.laws.specs.Affected.{affected-split, unaffected-old}
 use Rattle.laws.specs.TableLaws.{entries-numbers, entries-length, entries-first, written-past, prefix-kept}
-use Rattle.laws.specs.Calls3.{again-takes}
 use Rattle.laws.specs.Demand3.{startOf, Lent, lent-bytes, partFrom, can-lend, relaid-is}
 use Rattle.laws.specs.GoodChecks.{length-good, utf8-good, room-good, table-good}
 use Rattle.laws.specs.EditChecks.{whole-good, order-good, rest-good, edit-good}
@@ -148,10 +147,6 @@ module _ {s : Settings} {ed : Edit} {old new table : List ℕ} {lines : ℕ} {pa
   unfolding linesLaid
   laid-is = λ i. again s ed (k .held i) (affected (ed .from .0) (k .held i)) (decoded i) .laid
 
-  takes-is : (n : ℕ) → checkTakes n (linesLaid s part table lines ed) ≡ Good
-  takes-is n =
-      rw laid-is (again-takes s ed (layout s old) (affected (ed .from .0) (layout s old)) chars 0 n (rest-is 0))
-
   lines-again : linesAgain s ed (layout s old) chars ≡ layout s new
   lines-again =
       rw (k .old-is, k .new-is)
@@ -168,7 +163,7 @@ module _ {s : Settings} {ed : Edit} {old new table : List ℕ} {lines : ℕ} {pa
   relay-good : checkRelay s part table lines ed ≡ Good
   unfolding checkRelay firstOf
   relay-good =
-      rw (k .settings, short-is, table-is, takes-is, room-is, utf8-is, k .held, whole-is, decoded, rest-is, edit-is _ part-length)
+      rw (k .settings, short-is, table-is, room-is, utf8-is, k .held, whole-is, decoded, rest-is, edit-is _ part-length)
 
   table-after : relayTable s part table lines ed ≡ written table (ofAll ofEntry (layout s new))
   unfolding relayTable

@@ -9,7 +9,7 @@ use mathlib.Core.Bool.{Bool, true, false, not}
 use mathlib.Core.List.{List}
 use lib.ListN.{length}
 use borrow.Author.Tests.{le-ltb, le-leb, eq-eqb}
-use Rattle.basis.specs.Choice.{pick-true, pick-false}
+use Rattle.basis.specs.Choice.{pick, pick-true, pick-false}
 use Rattle.unicode.specs.Scalar.{Scalars}
 use Rattle.unicode.specs.Encoding.{size, encodeAll}
 use Rattle.unicode.specs.Prefix.{prefix-whole}
@@ -27,6 +27,12 @@ use Rattle.laws.specs.WellFormedLayout.{layout-good}
 pub refuse-not : (t : Bool) (r : Refusal) → t ≡ false → refuseIf t r ≡ Good
 unfolding refuseIf
 refuse-not t r e = pick-false t _ _ e
+
+-- And where nothing is refused, it does not hold.
+pub refuse-good : (t : Bool) (r : Refusal) → refuseIf t r ≡ Good → t ≡ false
+unfolding refuseIf pick
+refuse-good false r e = refl
+refuse-good true r e = absurd (let z : _≡_ {A = ℕ} 0 1 = cc in omega arith)
 
 pub refuse-unless : (t : Bool) (r : Refusal) → t ≡ true → refuseIf (not t) r ≡ Good
 refuse-unless t r e = refuse-not (not t) r (rw e)

@@ -2,17 +2,13 @@
 -- Assumes nothing.
 use Prim.Native.Nat.{ℕ, zero, suc, _+_, _≤_, _<_}
 use mathlib.Core.Path.{_≡_, refl}
-use mathlib.Core.Bool.{false, _&&_}
 use mathlib.Core.List.{List, [], _∷_}
 use native.Mathlib.Omega.{arith}
-use borrow.Author.Tests.{eqb-true}
-use lib.Dec.{eqb}
-use lib.ListN.{length, take, drop, length-drop}
-use Rattle.basis.specs.Choice.{by-test, and-true}
+use lib.ListN.{length, take, drop, length-drop, length-map}
 use Rattle.unicode.specs.Encoding.{size}
 use Rattle.meaning.specs.LineIter.{Held, nothingHeld}
 use Rattle.meaning.specs.Line.{layLine, endNumber, entryAt}
-use Rattle.meaning.specs.Layout.{Row, rowAt, unlessEnded, rowsBy, rows}
+use Rattle.meaning.specs.Layout.{Row, rowAt, unlessEnded, rowsBy, mostLines, rows, entryOfRow, layout}
 use Rattle.meaning.specs.declared.settings.Settings.{Settings}
 use Rattle.meaning.specs.declared.line.LineEnd.{LineEnd}
 use Rattle.meaning.specs.declared.line.LineEnd.the-variants.{NewLine, CarriageReturn, EndOfText, LineBreak}
@@ -37,9 +33,13 @@ rows-length (suc n) s start h cs =
     (arith, unless-length (l .ended) more, rows-length n s (start + size (take (l .chars) cs)) (l .held) (drop (l .chars) cs))
 
 -- At most one line more than there are characters.
-pub few-lines : (s : Settings) (cs : List ℕ) → length (rows s cs) ≤ suc (length cs)
+pub few-lines : (s : Settings) (cs : List ℕ) → length (rows s cs) ≤ mostLines cs
 unfolding rows
-few-lines s cs = rows-length (suc (length cs)) s 0 nothingHeld cs
+few-lines s cs = rows-length (mostLines cs) s 0 nothingHeld cs
+
+pub few-entries : (s : Settings) (cs : List ℕ) → length (layout s cs) ≤ mostLines cs
+unfolding layout
+few-entries s cs = omega (arith, few-lines s cs, length-map (rows s cs) entryOfRow)
 
 -- ---- how they end
 
@@ -70,15 +70,6 @@ pub ends-take : (rs : List Row) → Ends rs → Takes rs
 ends-take [] h = tt
 ends-take (r ∷ []) h = (λ e. omega arith, tt)
 ends-take (r ∷ q ∷ rs) h = (λ e. h .1, ends-take (q ∷ rs) (h .2))
-
--- The same of a row by its test.
-pub takes-test : (r : Row) → (r .entry .ending ≡ 3 → 1 ≤ r .chars) → (eqb (r .entry .ending) 3 && eqb (r .chars) 0) ≡ false
-takes-test r h =
-    by-test (eqb (r .entry .ending) 3 && eqb (r .chars) 0)
-    (λ e.
-    let f = and-true (eqb (r .entry .ending) 3) (eqb (r .chars) 0) e in
-    absurd (omega (arith, h (eqb-true (r .entry .ending) 3 (f .0)), eqb-true (r .chars) 0 (f .1))))
-    (λ e. e)
 
 -- As many lines as there may be are enough, from anywhere in a text.
 pub rows-end : (n : ℕ) (s : Settings) (start : ℕ) (h : Held) (cs : List ℕ) → length cs < n → h .chars ≤ length cs

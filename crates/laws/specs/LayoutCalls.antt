@@ -19,7 +19,6 @@ use Rattle.meaning.specs.declared.refusals.Checked.{Checked}
 use Rattle.meaning.specs.declared.refusals.Checked.the-variants.{Good, Refused}
 use Rattle.meaning.specs.declared.answers.Laid.the-variants as laid
 use Rattle.laws.specs.GoodChecks.{length-good, utf8-good, room-good}
-use Rattle.laws.specs.Calls3.{layout-takes}
 use Rattle.laws.specs.TableLaws.{entries-written}
 
 module _ (s : Settings) (cs : List ℕ) (al : Scalars cs) where
@@ -42,8 +41,6 @@ module _ (s : Settings) (cs : List ℕ) (al : Scalars cs) where
           n,
           length-good (size cs) short,
           utf8-good cs al,
-          text-rows,
-          layout-takes s cs 0,
           text-layout,
           room-good (length (layout s cs)) table room,
         )

@@ -1,6 +1,5 @@
 pub mod Affected
 pub mod Agree
-pub mod Calls3
 pub mod Classes
 pub mod Cuts
 pub mod Demand3
@@ -16,6 +15,7 @@ pub mod LayoutCalls
 pub mod LineBounds
 pub mod LineLocal
 pub mod LineTokens
+pub mod LinesTake
 pub mod Local
 pub mod Longest
 pub mod Measuring

@@ -25,6 +25,7 @@ use Rattle.meaning.specs.declared.refusals.Checked.the-variants.{Good}
 use Rattle.laws.specs.Suffixes.{take-size}
 use Rattle.laws.specs.PassBounds.{size-take}
 use Rattle.laws.specs.LineBounds.{line-chars, line-takes, line-reach-low, line-reach-high, line-end}
+use Rattle.laws.specs.LayoutBounds.{Ends, layout-ends}
 use Rattle.laws.specs.RowInduction.{FitsIn, each-row}
 use Rattle.laws.specs.GoodLines.{good-more, good-start, start-after}
 
@@ -176,3 +177,18 @@ lines-rise n k b (e ∷ f ∷ es) h =
 module _ (s : Settings) (cs : List ℕ) where
   pub layout-rises : Rising (layout s cs)
   layout-rises = lines-rise (size cs) 0 nothing (layout s cs) (layout-lines s cs 0)
+
+-- And the last line, which alone ends the text (2), is reached so: each before it took a character.
+abbrev pub RisingToEnd : List Entry → Type 0
+RisingToEnd [] = ⊥
+RisingToEnd (e ∷ []) = e .ending ≡ 2
+RisingToEnd (e ∷ f ∷ es) = (e .ending ≡ 2 → ⊥) × (e .start .0 < f .start .0) × RisingToEnd (f ∷ es)
+
+rise-to-end : (rs : List Row) → Ends rs → Rising (map entryOfRow rs) → RisingToEnd (map entryOfRow rs)
+rise-to-end [] h r = h
+rise-to-end (p ∷ []) h r = h
+rise-to-end (p ∷ q ∷ rs) h r = (h .0, r .0, rise-to-end (q ∷ rs) (h .2) (r .1))
+
+pub layout-rises-to-end : (s : Settings) (cs : List ℕ) → RisingToEnd (layout s cs)
+unfolding layout
+layout-rises-to-end s cs = rise-to-end (rows s cs) (layout-ends s cs) (layout-rises s cs)

@@ -12,14 +12,14 @@ use Rattle.unicode.specs.Decoding.{decodeAll}
 use Rattle.meaning.specs.Checks.{refuseIf, firstOf, checkSettings, checkLength, checkUtf8, checkText, checkRoom}
 use Rattle.meaning.specs.Layout.{rows}
 use Rattle.meaning.specs.Table.{entryNumbers, eventNumbers, capacityOf}
-use Rattle.meaning.specs.Calls.{checkTakes, textRows, textEntries, checkLayout}
+use Rattle.meaning.specs.Calls.{textRows, textEntries, checkLayout}
 use Rattle.meaning.specs.declared.settings.Settings.{Settings}
 use Rattle.meaning.specs.declared.refusals.Refusal.{Refusal}
 use Rattle.meaning.specs.declared.refusals.Refusal.the-variants.{TooSmall}
 use Rattle.meaning.specs.declared.refusals.Checked.{Checked}
 use Rattle.meaning.specs.declared.refusals.Checked.the-variants.{Good, Refused}
 use Rattle.laws.specs.TableLaws.{capacity-is}
-use Rattle.laws.specs.Calls3.{layout-takes, refuse-good}
+use Rattle.laws.specs.GoodChecks.{refuse-good}
 use Rattle.laws.specs.TestOrder.{first-alone, first-refused, first-good}
 use Rattle.rows.specs.RowsFrom.{TextReady, entriesOf, entries-are, few-entries}
 use Rattle.layout.specs.EventsFrom.{eventsOf, few-events}
@@ -66,17 +66,17 @@ module _ (s : Settings) (t table : List ℕ) where
     pub text-refused : (r : Refusal) → checkText t ≡ Refused r → Refused r ≡ checkLayout s t table
     unfolding checkLayout firstOf checkText
     text-refused r e =
-        let more = checkTakes 0 (textRows s t) ∷ checkRoom (capacityOf entryNumbers table) (length (textEntries s t)) ∷ [] in
+        let more = checkRoom (capacityOf entryNumbers table) (length (textEntries s t)) ∷ [] in
         rw good (sym (first-refused (checkLength (length t)) (checkUtf8 t) more r e))
 
-    -- No line takes nothing (7 never arises), so the room decides.
+    -- Where settings and text are good, the room decides.
     pub room-decides : checkText t ≡ Good → checkLayout s t table ≡ checkRoom (capacityOf entryNumbers table) (length (entriesOf s t))
     unfolding checkLayout firstOf checkText textRows
     room-decides text =
         let room = checkRoom (capacityOf entryNumbers table) (length (textEntries s t)) in
         rw (good, entries-are s t)
-        (first-good (checkLength (length t)) (checkUtf8 t) (checkTakes 0 (rows s (decodeAll t)) ∷ room ∷ []) text
-        ∙ rw (layout-takes s (decodeAll t) 0) (first-alone room))
+        (first-good (checkLength (length t)) (checkUtf8 t) (room ∷ []) text
+        ∙ first-alone room)
 
 -- ---- where nothing is refused
 

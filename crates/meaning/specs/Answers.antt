@@ -1,5 +1,5 @@
 -- What the scope's numbers are for each answer: 0 where a call was done, else the refusal's number; and the values besides.
--- Refusal 1, refusal 2, refusal 3, refusal 4, refusal 5, refusal 6, refusal 7, refusal 8.
+-- Refusal 1, refusal 2, refusal 3, refusal 4, refusal 5, refusal 6, refusal 8.
 -- Assumes nothing.
 use Prim.Native.Nat.{ℕ}
 use lib.IntN.{ℤ}

@@ -1,11 +1,10 @@
 -- What each public call answers, and what each buffer that it is lent holds afterwards, from what it was lent alone.
 -- A text is a list of bytes here, and a table or buffer a list of numbers.
--- Refusal 1, refusal 2, refusal 3, refusal 4, refusal 5, refusal 6, refusal 7, refusal 8, laying again.
+-- Refusal 1, refusal 2, refusal 3, refusal 4, refusal 5, refusal 6, refusal 8, laying again.
 -- Assumes nothing.
-use Prim.Native.Nat.{ℕ, suc}
-use mathlib.Core.Bool.{_&&_}
+use Prim.Native.Nat.{ℕ}
 use mathlib.Core.List.{List, [], _∷_, map}
-use lib.Dec.{ltb, eqb}
+use lib.Dec.{ltb}
 use lib.ListN.{length}
 use Rattle.basis.specs.Choice.{pick}
 use Rattle.unicode.specs.Decoding.{decodeAll}
@@ -21,7 +20,6 @@ use Rattle.meaning.specs.declared.tokens.Token.{Token}
 use Rattle.meaning.specs.declared.edit.Edit.{Edit}
 use Rattle.meaning.specs.declared.line.Entry.{Entry}
 use Rattle.meaning.specs.declared.line.Event.{Event}
-use Rattle.meaning.specs.declared.refusals.Refusal.the-variants.{LineTakesNothing}
 use Rattle.meaning.specs.declared.refusals.Checked.{Checked}
 use Rattle.meaning.specs.declared.refusals.Checked.the-variants.{Good, Refused}
 use Rattle.meaning.specs.declared.answers.Tokenized.{Tokenized}
@@ -38,13 +36,6 @@ use Rattle.meaning.specs.declared.answers.Height.{Height}
 use Rattle.meaning.specs.declared.answers.Height.the-variants as height
 use Rattle.meaning.specs.declared.answers.LineY.{LineY}
 use Rattle.meaning.specs.declared.answers.LineY.the-variants as liney
-
--- 7: a line ends by LineBreak (3) and took no character. Lines are numbered from k on.
-unfoldable pub checkTakes : (k : ℕ) → List Row → Checked
-checkTakes k [] = Good
-checkTakes k (r ∷ rs) =
-    let more = checkTakes (suc k) rs in
-    pick (eqb (r .entry .ending) 3 && eqb (r .chars) 0) (Refused (LineTakesNothing k)) more
 
 -- ---- tokens
 
@@ -75,8 +66,7 @@ textEvents s t = allEvents (textRows s t)
 unfoldable pub checkLayout : Settings → List ℕ → (table : List ℕ) → Checked
 checkLayout s t table =
     firstOf
-    (checkSettings s ∷ checkLength (length t) ∷ checkUtf8 t ∷ checkTakes 0 (textRows s t)
-    ∷ checkRoom (capacityOf entryNumbers table) (length (textEntries s t)) ∷ [])
+    (checkSettings s ∷ checkLength (length t) ∷ checkUtf8 t ∷ checkRoom (capacityOf entryNumbers table) (length (textEntries s t)) ∷ [])
 
 unfoldable pub layoutAnswer : Settings → List ℕ → (table : List ℕ) → Laid
 layoutAnswer s t table = answered (checkLayout s t table) (laid.Lines (length (textEntries s t))) laid.Refused
@@ -129,7 +119,6 @@ checkRelay s part table lines ed =
     firstOf
     (checkSettings s ∷ checkLength (length part) ∷ checkWhole (checkTable lines table) old ed ∷ checkUtf8 part
     ∷ checkTable lines table ∷ checkRest first onward (decodeAll part) ∷ checkEdit old ed onward (length part) (decodeAll part)
-    ∷ checkTakes first (linesLaid s part table lines ed)
     ∷ checkRoom (capacityOf entryNumbers table) (length (linesAfter s part table lines ed)) ∷ [])
 
 -- The lines that the table now holds, and how many were laid.

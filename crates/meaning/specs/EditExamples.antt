@@ -14,7 +14,7 @@ use Rattle.meaning.specs.Checks.{refuseIf, firstOf, checkSettings, check
 use Rattle.meaning.specs.Table.{ofEntry, ofAll, capacityOf, written, entryIn, entriesIn}
 use Rattle.meaning.specs.WellFormed.{lastReach, textLength, startGood, noRest, restGood, endingGood, entryGood, checkLines, checkEntries, checkTable}
 use Rattle.meaning.specs.Edit.{unaffected, affected, inOrder, newLength, checkWhole, charsIn, restFits, checkRest, checkOrder, partFits, checkEdit, moved, movedRest, movedEntry, meets, keptFrom, againUnlessEnded, unlessKept, againBy, heldOf, again, linesAgain}
-use Rattle.meaning.specs.Calls.{checkTakes, checkAffected, affectedAnswer, linesLaid, linesAfter, checkRelay, relayAnswer, relayTable}
+use Rattle.meaning.specs.Calls.{checkAffected, affectedAnswer, linesLaid, linesAfter, checkRelay, relayAnswer, relayTable}
 use Rattle.meaning.specs.Examples.{codes, box, linesOf}
 use Rattle.meaning.specs.Layout.{layout}
 use Rattle.meaning.specs.declared.settings.Settings.{Settings}
@@ -101,7 +101,7 @@ partOf x = drop (startOf (affected (x .from) (layout (x .settings) (codes (x .ol
 
 -- What the two calls make of an example.
 unfoldable pub computed : EditExample → EditExample
-unfolding tableOf linesIn partOf wellFormed rows fits someFits seqLen value charOf decodeHead decodeAfter decodeAll validPrefix boundary topInRange sizesInRange inRange refuseIf firstOf checkSettings checkLength checkUtf8 checkRoom capacityOf entryIn entriesIn lastReach textLength startGood noRest restGood endingGood entryGood checkLines checkEntries checkTable unaffected affected inOrder newLength checkWhole charsIn restFits checkRest checkOrder partFits checkEdit moved movedRest movedEntry meets keptFrom againUnlessEnded unlessKept againBy heldOf again linesAgain checkTakes checkAffected affectedAnswer linesLaid linesAfter checkRelay relayAnswer relayTable
+unfolding tableOf linesIn partOf wellFormed rows fits someFits seqLen value charOf decodeHead decodeAfter decodeAll validPrefix boundary topInRange sizesInRange inRange refuseIf firstOf checkSettings checkLength checkUtf8 checkRoom capacityOf entryIn entriesIn lastReach textLength startGood noRest restGood endingGood entryGood checkLines checkEntries checkTable unaffected affected inOrder newLength checkWhole charsIn restFits checkRest checkOrder partFits checkEdit moved movedRest movedEntry meets keptFrom againUnlessEnded unlessKept againBy heldOf again linesAgain checkAffected affectedAnswer linesLaid linesAfter checkRelay relayAnswer relayTable
 computed x =
     let table = tableOf x in
     let n = linesIn x in

@@ -4,7 +4,9 @@ use Prim.Native.Nat.{ℕ}
 use Prim.Native.Char.{code}
 use Prim.Native.String.{String}
 use Prim.Native.String as string
+use mathlib.Core.Path.{_≡_, refl}
 use mathlib.Core.List.{List, [], _∷_, map}
+use lib.ListN.{length}
 use lib.IntN.{pos}
 use Rattle.basis.specs.Choice.{pick}
 use Rattle.unicode.specs.Encoding.{bytes, size}
@@ -18,7 +20,7 @@ use Rattle.meaning.specs.Lookahead.{goesOn, nextFits, added, nextWidth}
 use Rattle.meaning.specs.Words.{grow, stretches, glues, printedFirst, drawnStretches, drawnWord}
 use Rattle.meaning.specs.LineIter.{skips, drawsSpace, when, cutRun, onSpace, onTab, hyphenated, onBreak, unfitWord, cutWord, onWord, step, process}
 use Rattle.meaning.specs.Line.{measured, measuredWidth, measuredCount, heldTokens, lineTokens, startPlace, measuring, placing, lineOf, layLine, restOf, entryAt, eventsAt}
-use Rattle.meaning.specs.Layout.{rowAt, unlessEnded, rowsBy, rows, layout, allEvents, layoutEvents}
+use Rattle.meaning.specs.Layout.{rowAt, unlessEnded, rowsBy, mostLines, rows, layout, allEvents, layoutEvents}
 use Rattle.meaning.specs.Table.{ofEntry, ofEvent}
 use Rattle.meaning.specs.declared.settings.Settings.{Settings}
 
@@ -195,3 +197,8 @@ computed e =
       lines = linesOf (e .settings) (codes (e .text));
       events = eventsOf (e .settings) (codes (e .text));
     }
+
+-- As many lines as a text can have: a line feed each, and the empty line after the last.
+pub most-lines-reached : length (linesOf (box 30) (codes "\n\n")) ≡ mostLines (codes "\n\n")
+unfolding codes linesOf
+most-lines-reached = refl

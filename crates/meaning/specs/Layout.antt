@@ -37,9 +37,12 @@ rowsBy (suc n) s start h cs =
     let more = rowsBy n s (start + size (take (l .chars) cs)) (l .held) (drop (l .chars) cs) in
     rowAt start h cs l ∷ unlessEnded (l .ended) more
 
--- Each line but the last takes a character (laws: `line-takes`), so there is at most one more than there are characters.
+-- Each line but the last takes a character (laws: `lines-take`), so there is at most one more than there are characters.
+abbrev pub mostLines : List ℕ → ℕ
+mostLines cs = suc (length cs)
+
 unfoldable pub rows : Settings → List ℕ → List Row
-rows s cs = rowsBy (suc (length cs)) s 0 nothingHeld cs
+rows s cs = rowsBy (mostLines cs) s 0 nothingHeld cs
 
 abbrev pub entryOfRow : Row → Entry
 entryOfRow r = r .entry

@@ -1,12 +1,13 @@
 -- The scope's table of refusals: the number of each, and what goes besides it.
--- Refusal 1, refusal 2, refusal 3, refusal 4, refusal 5, refusal 6, refusal 7, refusal 8.
+-- Refusal 1, refusal 2, refusal 3, refusal 4, refusal 5, refusal 6, refusal 8.
 -- Assumes nothing.
 use Prim.Native.Nat.{ℕ}
 use Rattle.meaning.specs.declared.refusals.Refusal.{Refusal}
-use Rattle.meaning.specs.declared.refusals.Refusal.the-variants.{SettingOutOfRange, UnknownAlignment, TextTooLong, NotUtf8, BadLine, BadEdit, LineTakesNothing, TooSmall}
+use Rattle.meaning.specs.declared.refusals.Refusal.the-variants.{SettingOutOfRange, UnknownAlignment, TextTooLong, NotUtf8, BadLine, BadEdit, TooSmall}
 use Rattle.meaning.specs.declared.refusals.Checked.{Checked}
 use Rattle.meaning.specs.declared.refusals.Checked.the-variants.{Good, Refused}
 
+-- Number 7 was given where a line takes no character. None does (laws: `lines-take`), so it is not used any more.
 abbrev pub numberOf : Refusal → ℕ
 numberOf SettingOutOfRange = 1
 numberOf (UnknownAlignment a) = 2
@@ -14,11 +15,10 @@ numberOf (TextTooLong n) = 3
 numberOf (NotUtf8 n) = 4
 numberOf (BadLine k) = 5
 numberOf BadEdit = 6
-numberOf (LineTakesNothing k) = 7
 numberOf (TooSmall n) = 8
 
 -- Besides 1 goes 0, besides 2 the number given, besides 3 the text's length, besides 4 the length of its longest valid prefix,
--- besides 5 the first bad line, besides 6 again 0, besides 7 the line, besides 8 the entries that are needed.
+-- besides 5 the first bad line, besides 6 again 0, besides 8 the entries that are needed.
 abbrev pub besides : Refusal → ℕ
 besides SettingOutOfRange = 0
 besides (UnknownAlignment a) = a
@@ -26,7 +26,6 @@ besides (TextTooLong n) = n
 besides (NotUtf8 n) = n .0
 besides (BadLine k) = k
 besides BadEdit = 0
-besides (LineTakesNothing k) = k
 besides (TooSmall n) = n
 
 -- A check's number and value: 0 and 0 where nothing is refused.

@@ -17,7 +17,7 @@ use Rattle.meaning.specs.Layout.{layout}
 use Rattle.meaning.specs.Table.{ofToken, capacityOf, entryIn, entriesIn}
 use Rattle.meaning.specs.WellFormed.{lastReach, textLength, startGood, noRest, restGood, endingGood, entryGood, checkLines, checkEntries, checkTable}
 use Rattle.meaning.specs.Height.{endAdds, heightAdds, heightFrom, heightOf, offsetOf, addedBefore, yOf}
-use Rattle.meaning.specs.Calls.{checkTakes, textRows, textEntries, checkLayout, layoutAnswer}
+use Rattle.meaning.specs.Calls.{textRows, textEntries, checkLayout, layoutAnswer}
 use Rattle.meaning.specs.Examples.{codes, linesOf}
 use Rattle.meaning.specs.declared.settings.Settings.{Settings}
 use Rattle.meaning.specs.declared.cursor.LineCursor.{LineCursor}
@@ -222,7 +222,7 @@ callExamples =
     ∷ []
 
 unfoldable pub callFound : CallExample → CallExample
-unfolding linesOf wellFormed rows fits someFits seqLen value charOf decodeHead decodeAfter decodeAll validPrefix topInRange sizesInRange inRange refuseIf firstOf checkSettings checkLength checkUtf8 checkRoom capacityOf checkTakes textRows textEntries checkLayout layoutAnswer
+unfolding linesOf wellFormed rows fits someFits seqLen value charOf decodeHead decodeAfter decodeAll validPrefix topInRange sizesInRange inRange refuseIf firstOf checkSettings checkLength checkUtf8 checkRoom capacityOf textRows textEntries checkLayout layoutAnswer
 callFound x = answers (x .settings) (x .text) (x .table) (layoutAnswer (x .settings) (x .text) (x .table))
 
 pub calls-hold : map callFound callExamples ≡ callExamples

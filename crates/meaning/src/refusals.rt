@@ -1,7 +1,7 @@
-// Why a call refuses its input (refusal 1, refusal 2, refusal 3, refusal 4, refusal 5, refusal 6, refusal 7, refusal 8).
+// Why a call refuses its input (refusal 1, refusal 2, refusal 3, refusal 4, refusal 5, refusal 6, refusal 8).
 use crate::counts::Offset;
 
-// Why a call refused its input. `numberOf` and `besides` (specs/Refusals.antt) give the scope's number and what goes with it.
+// Why a call refused its input. Number 7 is not used any more. `numberOf` and `besides` (specs/Refusals.antt) give the scope's number and what goes with it.
 pub enum Refusal {
     SettingOutOfRange,
     UnknownAlignment(u32),
@@ -9,7 +9,6 @@ pub enum Refusal {
     NotUtf8(Offset),
     BadLine(u64),
     BadEdit,
-    LineTakesNothing(u64),
     TooSmall(u64),
 }
 

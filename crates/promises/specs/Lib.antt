@@ -11,4 +11,5 @@ pub mod Demand3
 pub mod AsFresh
 pub mod OtherSettings
 pub mod TableHolds
+pub mod LinesRise
 pub mod WordsKept

@@ -12,7 +12,7 @@ use Rattle.meaning.specs.Answers.{layoutNumber, layoutValue, drawingNumber, dra
 use Rattle.meaning.specs.declared.settings.Settings.{Settings}
 use Rattle.meaning.specs.declared.edit.Edit.{Edit}
 use Rattle.meaning.specs.declared.refusals.Refusal.{Refusal}
-use Rattle.meaning.specs.declared.refusals.Refusal.the-variants.{SettingOutOfRange, UnknownAlignment, TextTooLong, NotUtf8, BadLine, BadEdit, LineTakesNothing, TooSmall}
+use Rattle.meaning.specs.declared.refusals.Refusal.the-variants.{SettingOutOfRange, UnknownAlignment, TextTooLong, NotUtf8, BadLine, BadEdit, TooSmall}
 use Rattle.meaning.specs.declared.refusals.Checked.{Checked}
 use Rattle.meaning.specs.declared.refusals.Checked.the-variants.{Good, Refused}
 use Rattle.meaning.specs.declared.answers.Tokenized.the-variants as tokenized
@@ -56,7 +56,6 @@ refusal-some (TextTooLong n) e = omega arith
 refusal-some (NotUtf8 n) e = omega arith
 refusal-some (BadLine k) e = omega arith
 refusal-some BadEdit e = omega arith
-refusal-some (LineTakesNothing k) e = omega arith
 refusal-some (TooSmall n) e = omega arith
 
 pub layout-done : (x : Laid) → layoutNumber x ≡ 0 → x ≡ laid.Lines (layoutValue x)

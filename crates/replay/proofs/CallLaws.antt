@@ -10,7 +10,7 @@ use lib.Seq.{take-at, drop-at, take-append-le}
 use Rattle.meaning.specs.Table.{entryNumbers, eventNumbers, tokenNumbers, ofEntry, ofEvent, ofToken, ofAll, capacityOf, written}
 use Rattle.meaning.specs.Checks.{firstOf, answered, checkSettings, checkLength, checkUtf8, checkText, checkRoom}
 use Rattle.meaning.specs.Calls.{textTokens, checkTokens, tokensAnswer, tokensBuffer}
-use Rattle.meaning.specs.Calls.{checkTakes, textRows, textEntries, textEvents, checkLayout}
+use Rattle.meaning.specs.Calls.{textEntries, textEvents, checkLayout}
 use Rattle.meaning.specs.Calls.{checkDrawing, drawingAnswer, drawingTable, drawingEvents}
 use Rattle.meaning.specs.declared.settings.Settings.{Settings}
 use Rattle.meaning.specs.declared.line.Entry.{Entry}
@@ -73,10 +73,9 @@ module _ (s : Settings) (t table : List ℕ) (e : checkLayout s t table ≡ Good
   unfolding checkLayout
   tests =
       let room = checkRoom (capacityOf entryNumbers table) (length (textEntries s t)) ∷ [] in
-      let takes = checkTakes 0 (textRows s t) ∷ room in
-      let settings = first-both (checkSettings s) (checkLength (length t) ∷ checkUtf8 t ∷ takes) e in
-      let long = first-both (checkLength (length t)) (checkUtf8 t ∷ takes) (settings .1) in
-      (settings .0, long .0, first-both (checkUtf8 t) takes (long .1) .0)
+      let settings = first-both (checkSettings s) (checkLength (length t) ∷ checkUtf8 t ∷ room) e in
+      let long = first-both (checkLength (length t)) (checkUtf8 t ∷ room) (settings .1) in
+      (settings .0, long .0, first-both (checkUtf8 t) room (long .1) .0)
 
   good-text : checkText t ≡ Good
   unfolding checkText firstOf

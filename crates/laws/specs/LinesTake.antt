@@ -1,44 +1,37 @@
--- Refusal 7 never arises: every line takes a character, unless it ends the text.
+-- Every line takes a character, unless it ends the text: in a fresh layout and in laying again, whatever the settings (rule 10).
 -- Assumes nothing.
 use Prim.Native.Nat.{ℕ, zero, suc, _+_, _-_, _≤_}
-use mathlib.Core.Path.{_≡_, refl, _∙_}
-use mathlib.Core.Bool.{Bool, true, false, not}
+use mathlib.Core.Path.{_≡_}
+use mathlib.Core.Bool.{true, not}
 use mathlib.Core.List.{List, [], _∷_}
 use native.Mathlib.Omega.{arith}
 use borrow.Author.Tests.{leb-true, not-false}
 use lib.Dec.{leb}
 use lib.ListN.{length, take, drop}
-use Rattle.basis.specs.Choice.{pick, pick-false, pick-cases, and-true}
+use Rattle.basis.specs.Choice.{pick-cases, and-true}
 use Rattle.unicode.specs.Encoding.{bytes, size}
 use Rattle.unicode.specs.Places.{boundary}
-use Rattle.meaning.specs.Checks.{refuseIf}
 use Rattle.meaning.specs.LineIter.{Held}
 use Rattle.meaning.specs.Line.{layLine, endNumber, restOf, entryAt}
 use Rattle.meaning.specs.Layout.{Row, rowAt, rows}
 use Rattle.meaning.specs.WellFormed.{noRest}
 use Rattle.meaning.specs.Edit.{charsIn, restFits, checkRest, keptFrom, Again, againUnlessEnded, unlessKept, againBy, heldOf, again}
-use Rattle.meaning.specs.Calls.{checkTakes}
 use Rattle.meaning.specs.declared.settings.Settings.{Settings}
 use Rattle.meaning.specs.declared.edit.Edit.{Edit}
 use Rattle.meaning.specs.declared.line.LineEnd.{LineEnd}
 use Rattle.meaning.specs.declared.line.LineEnd.the-variants.{NewLine, CarriageReturn, EndOfText, LineBreak}
 use Rattle.meaning.specs.declared.line.Entry.{Entry}
-use Rattle.meaning.specs.declared.refusals.Refusal.{Refusal}
 use Rattle.meaning.specs.declared.refusals.Refusal.the-variants.{BadLine}
 use Rattle.meaning.specs.declared.refusals.Checked.the-variants.{Good}
+use Rattle.laws.specs.GoodChecks.{refuse-good}
 use Rattle.laws.specs.LineBounds.{line-rest, line-held, line-takes}
-use Rattle.laws.specs.LayoutBounds.{Takes, ends-take, takes-test, layout-ends}
+use Rattle.laws.specs.LayoutBounds.{Takes, ends-take, layout-ends}
 use Rattle.laws.specs.RowInduction.{FitsIn}
-
-takes-good : (k : ℕ) (rs : List Row) → Takes rs → checkTakes k rs ≡ Good
-unfolding checkTakes
-takes-good k [] h = refl
-takes-good k (r ∷ rs) h = pick-false _ _ _ (takes-test r (h .0)) ∙ takes-good (suc k) rs (h .1)
 
 -- ---- the fresh layout
 
-pub layout-takes : (s : Settings) (cs : List ℕ) (k : ℕ) → checkTakes k (rows s cs) ≡ Good
-layout-takes s cs k = takes-good k (rows s cs) (ends-take (rows s cs) (layout-ends s cs))
+pub lines-take : (s : Settings) (cs : List ℕ) → Takes (rows s cs)
+lines-take s cs = ends-take (rows s cs) (layout-ends s cs)
 
 -- ---- laying again
 
@@ -60,11 +53,6 @@ held-fits e cs h =
       leb-true (e .rest .count .0) (charsIn cs n) (and-true (boundary cs n) (leb (e .rest .count .0) (charsIn cs n)) (rw q at h) .1),
     ))
 
-pub refuse-good : (t : Bool) (r : Refusal) → refuseIf t r ≡ Good → t ≡ false
-unfolding refuseIf pick
-refuse-good false r e = refl
-refuse-good true r e = absurd (let z : _≡_ {A = ℕ} 0 1 = cc in omega arith)
-
 kept-takes : (ed : Edit) (es : List Entry) (a : Again) → Takes (a .laid) → Takes (unlessKept ed es a .laid)
 unfolding unlessKept
 kept-takes ed [] a h = h
@@ -81,10 +69,10 @@ break-goes-on : (e : LineEnd) → endNumber e ≡ 3 → e ≡ EndOfText → ⊥
 break-goes-on e h p = let z : _≡_ {A = ℕ} 2 3 = rw p at h in omega arith
 
 module _ (s : Settings) (ed : Edit) (old : List Entry) where
-  lines-take : (n start : ℕ) (h : Held) (cs : List ℕ) → FitsIn cs h → Takes (againBy n s ed old start h cs .laid)
+  laid-take : (n start : ℕ) (h : Held) (cs : List ℕ) → FitsIn cs h → Takes (againBy n s ed old start h cs .laid)
   unfolding againBy rowAt entryAt
-  lines-take zero start h cs f = tt
-  lines-take (suc n) start h cs f =
+  laid-take zero start h cs f = tt
+  laid-take (suc n) start h cs f =
       let l = layLine s h cs in
       let next = start + size (take (l .chars) cs) in
       let rest = drop (l .chars) cs in
@@ -92,14 +80,13 @@ module _ (s : Settings) (ed : Edit) (old : List Entry) where
       kept-takes ed (keptFrom ed start (restOf start h cs) old) _ (
         λ e. line-takes s h cs (f .0) (f .1) (break-goes-on (l .ended) e),
         ended-takes (l .ended) more
-            (lines-take n next (l .held) rest (line-rest s h cs (f .0) (f .1), line-held s h cs (f .0) (f .1))),
+            (laid-take n next (l .held) rest (line-rest s h cs (f .0) (f .1), line-held s h cs (f .0) (f .1))),
       )
 
   -- From any entry on, as the first affected one, whose rest was checked.
-  pub again-takes : (es : List Entry) (cs : List ℕ) (j k : ℕ) → checkRest j es cs ≡ Good → checkTakes k (again s ed old es cs .laid) ≡ Good
+  pub again-takes : (es : List Entry) (cs : List ℕ) (j : ℕ) → checkRest j es cs ≡ Good → Takes (again s ed old es cs .laid)
   unfolding again checkRest
-  again-takes [] cs j k h = takes-good k [] tt
-  again-takes (e ∷ es) cs j k h =
-      takes-good k (againBy (suc (length cs)) s ed old (e .start .0) (heldOf e cs) cs .laid)
-      (lines-take (suc (length cs)) (e .start .0) (heldOf e cs) cs
-      (held-fits e cs (not-false (restFits e cs) (refuse-good (not (restFits e cs)) (BadLine j) h))))
+  again-takes [] cs j h = tt
+  again-takes (e ∷ es) cs j h =
+      laid-take (suc (length cs)) (e .start .0) (heldOf e cs) cs
+      (held-fits e cs (not-false (restFits e cs) (refuse-good (not (restFits e cs)) (BadLine j) h)))
