@@ -84,10 +84,10 @@ module _ {s : Settings} {p : Place} {t : List ℕ} {at : ℕ} {x : Lexeme} {m : 
         rw (tab-step, e, ← w, f, look, g, o)
         (ap (λ (v : Measure). Go (movedOn p width) v (record { 0 = d .reach })) (sym (drawn-or-not (d .fits) (m .pen .0 + width) (m .spaces .0 + 0) m)))
 
-    pub tab-beyond : (room : ℕ) (n : Measure) → fitsIn (p .cursor) width ≡ false → room ≡ roomOf (p .cursor)
-        → n ≡ noted Space (m .pen .0 + room) (m .spaces .0 + 0) m → Go p n (record { 0 = 0 }) ≡ stepFrom s p t at x m
+    pub tab-beyond : (room : ℕ) (q : Place) (n : Measure) → fitsIn (p .cursor) width ≡ false → room ≡ roomOf (p .cursor) → q ≡ movedOn p room
+        → n ≡ noted Space (m .pen .0 + room) (m .spaces .0 + 0) m → Go q n (record { 0 = 0 }) ≡ stepFrom s p t at x m
     unfolding onTab pick steppedAt measured
-    tab-beyond room n f r o = rw (tab-step, e, ← w, f, o, r)
+    tab-beyond room q n f r g o = rw (tab-step, e, ← w, f, g, o, r)
 
   -- Where a tab that fits leads.
   pub tab-went : skips s p ≡ false → fitsIn (p .cursor) (tabWidth (p .cursor)) ≡ true → (q : Place) (n : Measure) (o : Offset)

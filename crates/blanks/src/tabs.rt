@@ -20,7 +20,7 @@ ghost use Rattle.meaning.specs.declared.tokens.TokenKind.the-variants.{Tab};
 ghost use Rattle.steps.specs.Ready.{Ready, stepFrom};
 ghost use Rattle.steps.specs.Foreseeing.{ForeseesAfter};
 
-// A tab: skipped at the front of a line. One that fits moves the cursor, drawn or not; else only the pen moves, by the room.
+// A tab: skipped at the front of a line. One that fits moves the cursor, drawn or not; else pen and cursor go to the edge, by the room.
 pub fn on_tab(
     text: &[u8],
     s: Settings,
@@ -44,5 +44,7 @@ pub fn on_tab(
         let reach = look.reach;
         return Stepped::Go(q, noted_space(m, Chars(0), Pixels(width)), reach);
     }
-    Stepped::Go(p, noted_space(m, Chars(0), Pixels(room(cursor))), Offset(0))
+    let left = room(cursor);
+    let edge = moved_on(p, left);
+    Stepped::Go(edge, noted_space(m, Chars(0), Pixels(left)), Offset(0))
 }

@@ -70,7 +70,7 @@ module _ (s : Settings) (w : Waits s) where
     unfolding onTab
     tab-keeps look =
         pick-cases (Keeps s) (skips s p) (λ _. f) λ _.
-        pick-cases (Keeps s) (fitsIn (p .cursor) (tabWidth (p .cursor))) (λ _. moved-keeps _ _ _) (λ _. f)
+        pick-cases (Keeps s) (fitsIn (p .cursor) (tabWidth (p .cursor))) (λ _. moved-keeps _ _ _) (λ _. moved-keeps _ _ _)
 
     break-keeps : (v : NextWord) (r : ℕ) → Keeps s (onBreak s p at v r)
     unfolding onBreak hyphenated
@@ -145,7 +145,7 @@ module _ (s : Settings) (w : Waits s) where
       let more = rowsBy n s next (l .held) (drop (l .chars) cs) in (
         nothing-dropped h cs,
         unless-cases (λ (rs : List Row). DropNothing (map entryOfRow rs)) (l .ended) more (λ _. tt)
-        (λ _. rows-keep n next (l .held) (drop (l .chars) cs)),
+            (λ _. rows-keep n next (l .held) (drop (l .chars) cs)),
       )
 
   pub layout-keeps : (cs : List ℕ) → DropNothing (layout s cs)

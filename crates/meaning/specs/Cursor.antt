@@ -28,11 +28,16 @@ advance c w = placedAt c (c .position .0 + w)
 unfoldable pub hasMoved : LineCursor → Bool
 hasMoved c = not (eqb (c .position .0) (c .start .0))
 
--- A move by any signed distance. One that is too long moves nothing and answers the room: backward, minus the position.
+-- As far on as there is room: at the box's right edge.
+abbrev pub atEdge : LineCursor → LineCursor
+atEdge c = advance c (roomOf c)
+
+-- A move by any signed distance. One that is too long answers the room, which backward is minus the position. Forward the cursor is
+-- then at the edge, backward it is left where it was.
 unfoldable pub moveBy : LineCursor → ℤ → Moved
-moveBy c (pos n) = pick (leb n (roomOf c)) (By (pos n) (advance c n)) (Room (pos (roomOf c)))
+moveBy c (pos n) = pick (leb n (roomOf c)) (By (pos n) (advance c n)) (Room (pos (roomOf c)) (atEdge c))
 moveBy c (negsuc n) =
-    pick (leb (suc n) (c .position .0)) (By (negsuc n) (placedAt c (c .position .0 - suc n))) (Room (negℤ (pos (c .position .0))))
+    pick (leb (suc n) (c .position .0)) (By (negsuc n) (placedAt c (c .position .0 - suc n))) (Room (negℤ (pos (c .position .0))) c)
 
 -- The distance to the next multiple of the tab width above the position, 0 if that width is 0.
 unfoldable pub tabWidth : LineCursor → ℕ

@@ -95,10 +95,17 @@ examples =
     ∷ example (box 18) "abc   d"
     ((0 ∷ 0 ∷ 0 ∷ 3 ∷ 0 ∷ 6 ∷ 0 ∷ 18 ∷ 0 ∷ 7 ∷ []) ∷ (4 ∷ 6 ∷ 2 ∷ 2 ∷ 0 ∷ 6 ∷ 0 ∷ 18 ∷ 0 ∷ 8 ∷ []) ∷ [])
     ((1 ∷ 0 ∷ 3 ∷ 0 ∷ 18 ∷ 0 ∷ []) ∷ (0 ∷ 4 ∷ 6 ∷ 2 ∷ 12 ∷ 0 ∷ []) ∷ (1 ∷ 6 ∷ 7 ∷ 0 ∷ 6 ∷ 12 ∷ []) ∷ [])
-    -- a tab that does not fit moves the pen alone, so "x" is printed outside
+    -- a tab that does not fit carries pen and cursor to the edge, so "x" waits for the second line
     ∷ example (box 30) "abcd\tx"
-    ((0 ∷ 0 ∷ 0 ∷ 2 ∷ 0 ∷ 6 ∷ 0 ∷ 36 ∷ 0 ∷ 7 ∷ []) ∷ [])
-    ((1 ∷ 0 ∷ 4 ∷ 0 ∷ 24 ∷ 0 ∷ []) ∷ (2 ∷ 4 ∷ 5 ∷ 0 ∷ 6 ∷ 24 ∷ []) ∷ (1 ∷ 5 ∷ 6 ∷ 0 ∷ 6 ∷ 30 ∷ []) ∷ [])
+    ((0 ∷ 0 ∷ 0 ∷ 3 ∷ 0 ∷ 6 ∷ 0 ∷ 24 ∷ 0 ∷ 7 ∷ []) ∷ (5 ∷ 0 ∷ 0 ∷ 2 ∷ 0 ∷ 6 ∷ 0 ∷ 6 ∷ 0 ∷ 7 ∷ []) ∷ [])
+    ((1 ∷ 0 ∷ 4 ∷ 0 ∷ 24 ∷ 0 ∷ []) ∷ (2 ∷ 4 ∷ 5 ∷ 0 ∷ 6 ∷ 24 ∷ []) ∷ (1 ∷ 5 ∷ 6 ∷ 0 ∷ 6 ∷ 0 ∷ []) ∷ [])
+    -- on an empty line such a tab leaves no room for "x": it is dropped, or with words that wait it waits, since the cursor has moved
+    ∷ example (box 20) "\tx"
+    ((0 ∷ 0 ∷ 0 ∷ 3 ∷ 0 ∷ 6 ∷ 0 ∷ 0 ∷ 1 ∷ 3 ∷ []) ∷ (2 ∷ 0 ∷ 0 ∷ 2 ∷ 0 ∷ 6 ∷ 0 ∷ 0 ∷ 0 ∷ 3 ∷ []) ∷ [])
+    ((2 ∷ 0 ∷ 1 ∷ 0 ∷ 20 ∷ 0 ∷ []) ∷ [])
+    ∷ example (waitingBox 20) "\tx"
+    ((0 ∷ 0 ∷ 0 ∷ 3 ∷ 0 ∷ 6 ∷ 0 ∷ 0 ∷ 0 ∷ 3 ∷ []) ∷ (1 ∷ 0 ∷ 0 ∷ 2 ∷ 0 ∷ 6 ∷ 0 ∷ 6 ∷ 0 ∷ 3 ∷ []) ∷ [])
+    ((2 ∷ 0 ∷ 1 ∷ 0 ∷ 20 ∷ 0 ∷ []) ∷ (1 ∷ 1 ∷ 2 ∷ 0 ∷ 6 ∷ 0 ∷ []) ∷ [])
     -- a soft hyphen: not needed; printed; and kept for the next line, which a "-" leaves empty
     ∷ example (box 24) "ab\u{ad}cd"
     ((0 ∷ 0 ∷ 0 ∷ 2 ∷ 0 ∷ 6 ∷ 0 ∷ 24 ∷ 0 ∷ 7 ∷ []) ∷ [])
@@ -168,10 +175,10 @@ examples =
     ∷ example (waitingBox 5) "abc"
     ((0 ∷ 0 ∷ 0 ∷ 3 ∷ 0 ∷ 6 ∷ 0 ∷ 0 ∷ 3 ∷ 4 ∷ []) ∷ (3 ∷ 0 ∷ 0 ∷ 2 ∷ 0 ∷ 6 ∷ 0 ∷ 0 ∷ 0 ∷ 4 ∷ []) ∷ [])
     []
-    -- centred: measured from 0 the tab moves the cursor and "a" waits; drawn from 24 the tab does not fit, and "a" is dropped
-    ∷ example (laidOut 24 47 1 1 0 1) "\ta"
-    ((0 ∷ 0 ∷ 0 ∷ 3 ∷ 24 ∷ 24 ∷ 0 ∷ 0 ∷ 1 ∷ 3 ∷ []) ∷ (2 ∷ 0 ∷ 0 ∷ 2 ∷ 24 ∷ 24 ∷ 0 ∷ 0 ∷ 0 ∷ 3 ∷ []) ∷ [])
-    ((2 ∷ 0 ∷ 1 ∷ 0 ∷ 23 ∷ 24 ∷ []) ∷ [])
+    -- to the right: measured from 0 the tab moves the cursor and "a" waits; drawn from the edge nothing moves, and "a" is dropped
+    ∷ example (laidOut 24 47 2 1 0 1) "\ta"
+    ((0 ∷ 0 ∷ 0 ∷ 3 ∷ 47 ∷ 24 ∷ 0 ∷ 0 ∷ 1 ∷ 3 ∷ []) ∷ (2 ∷ 0 ∷ 0 ∷ 2 ∷ 47 ∷ 24 ∷ 0 ∷ 0 ∷ 0 ∷ 3 ∷ []) ∷ [])
+    ((2 ∷ 0 ∷ 1 ∷ 0 ∷ 0 ∷ 47 ∷ []) ∷ [])
     -- justified: measured "a" fits; drawn the wide space and the tab behind it carry the cursor too far, and "a" waits
     ∷ example (laidOut 6 74 3 1 0 1) " \ta\r"
     ((0 ∷ 0 ∷ 0 ∷ 3 ∷ 0 ∷ 50 ∷ 0 ∷ 30 ∷ 0 ∷ 4 ∷ []) ∷ (2 ∷ 0 ∷ 0 ∷ 1 ∷ 0 ∷ 6 ∷ 0 ∷ 6 ∷ 0 ∷ 4 ∷ []) ∷ (4 ∷ 0 ∷ 0 ∷ 2 ∷ 0 ∷ 6 ∷ 0 ∷ 0 ∷ 0 ∷ 5 ∷ []) ∷ [])

@@ -86,9 +86,11 @@ onSpace s p at cs n look =
     (go (movedOn (usedUp p n) width) (drawn Space at to n (when (look .fits) width) ∷ []) (look .reach))
     (cutRun s p at cs n width))
 
--- A tab that does not fit moves the pen by the room, and the cursor not at all.
+-- A tab that does not fit carries pen and cursor to the edge: both by the room.
 abbrev pub beyondTab : Place → (at : ℕ) → Step
-beyondTab p at = go p (drawn Move at (at + 1) 0 (roomOf (p .cursor)) ∷ []) 0
+beyondTab p at =
+    let room = roomOf (p .cursor) in
+    go (movedOn p room) (drawn Move at (at + 1) 0 room ∷ []) 0
 
 unfoldable pub onTab : Settings → Place → (at : ℕ) → Looked → Step
 onTab s p at look =

@@ -57,9 +57,10 @@ tokensFound x = tokensAre (x .text) (map ofToken (ranged 0 (tokens (codes (x .te
 abbrev cursorAt : (position : ℕ) → LineCursor
 cursorAt p = record { width = record { 0 = 30 }; position = record { 0 = p }; tab = record { 0 = 24 }; start = record { 0 = 0 } }
 
--- From 10, minus 11 answers a refused -10; as far as either end of the line a move goes.
+-- From 10, minus 11 answers a refused -10 and stays; as far as either end of the line a move goes; one pixel more answers the room
+-- and the edge.
 pub moves-hold : moveBy (cursorAt 10) (negsuc 10) ∷ moveBy (cursorAt 10) (negsuc 9) ∷ moveBy (cursorAt 10) (pos 20) ∷ moveBy (cursorAt 10) (pos 21) ∷ []
-    ≡ Room (negsuc 9) ∷ By (negsuc 9) (cursorAt 0) ∷ By (pos 20) (cursorAt 30) ∷ Room (pos 20) ∷ []
+    ≡ Room (negsuc 9) (cursorAt 10) ∷ By (negsuc 9) (cursorAt 0) ∷ By (pos 20) (cursorAt 30) ∷ Room (pos 20) (cursorAt 30) ∷ []
 unfolding moveBy linesOf
 moves-hold = refl
 

@@ -10,10 +10,11 @@ pub struct LineCursor {
     pub start: Pixels,
 }
 
-// What a signed move answers: how far it went and the cursor there, or the room that it had.
+// What a signed move answers: how far it went and the cursor there; or, of one too long, the room that it had and the cursor that is
+// left.
 pub enum Moved {
     By(i32, LineCursor),
-    Room(i32),
+    Room(i32, LineCursor),
 }
 
 // Rule 5: the width of a space, and how many of the next spaces are one pixel wider.

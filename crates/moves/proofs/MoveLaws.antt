@@ -43,11 +43,11 @@ module _ (c : LineCursor) where
   unfolding moveBy pick
   back-moved z n e h = rw (e, le-leb _ _ h)
 
-  back-not : (n : ℕ) → c .position .0 < suc n → Room (pos 0 -ℤ pos (c .position .0)) ≡ moveBy c (negsuc n)
+  back-not : (n : ℕ) → c .position .0 < suc n → Room (pos 0 -ℤ pos (c .position .0)) c ≡ moveBy c (negsuc n)
   unfolding moveBy pick
   back-not n h = rw (lt-leb _ _ h, +ℤ-idl (negℤ (pos (c .position .0))))
 
-  pub back-out : (z : ℤ) → ltZ z (pos 0) ≡ true → ltZ z (pos 0 -ℤ pos (c .position .0)) ≡ true → Room (pos 0 -ℤ pos (c .position .0)) ≡ moveBy c z
+  pub back-out : (z : ℤ) → ltZ z (pos 0) ≡ true → ltZ z (pos 0 -ℤ pos (c .position .0)) ≡ true → Room (pos 0 -ℤ pos (c .position .0)) c ≡ moveBy c z
   back-out (pos n) e f = absurd (omega (arith, ltb-true n 0 e))
   back-out (negsuc n) e f = back-not n (too-far (c .position .0) n f)
 
@@ -67,6 +67,6 @@ module _ (c : LineCursor) (r : ℕ) (is : r ≡ roomOf c) where
   pub ahead-moved : (z : ℤ) (n : ℕ) → z ≡ pos n → n ≤ r → By z (advance c (natAbs z)) ≡ moveBy c z
   ahead-moved z n e h = rw e (sym (room-moves c n (omega arith)))
 
-  pub ahead-out : (z : ℤ) → ltZ z (pos 0) ≡ false → ltZ (pos r) z ≡ true → Room (pos r) ≡ moveBy c z
+  pub ahead-out : (z : ℤ) → ltZ z (pos 0) ≡ false → ltZ (pos r) z ≡ true → Room (pos r) (advance c r) ≡ moveBy c z
   ahead-out (pos n) e f = rw is (sym (room-refuses c n (omega (arith, ltb-true r n f))))
   ahead-out (negsuc n) e f = absurd (false≢true (sym e))

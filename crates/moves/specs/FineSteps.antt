@@ -6,7 +6,7 @@ use mathlib.Core.Bool.{Bool, true, false, _&&_, _||_, not}
 use mathlib.Core.List.{List, [], _∷_}
 use native.Mathlib.Nat.{mul-le-mul-left, mul-le-mul-right, div-mul-le-self, le-div-iff-mul-le}
 use native.Mathlib.Omega.{arith}
-use borrow.Author.Tests.{leb-true}
+use borrow.Author.Tests.{leb-true, le-leb}
 use lib.Dec.{eqb}
 use lib.ListN.{length, take, length-take}
 use Rattle.basis.specs.Choice.{pick-cases}
@@ -102,6 +102,10 @@ fit-room : (c : LineCursor) (w : ℕ) → fitsIn c w ≡ true → w ≤ c .width
 unfolding fitsIn roomOf
 fit-room c w e = leb-true w (c .width .0 - c .position .0) e
 
+room-fits : (c : LineCursor) → fitsIn c (roomOf c) ≡ true
+unfolding fitsIn
+room-fits c = le-leb (roomOf c) (roomOf c) (omega arith)
+
 room-small : (c : LineCursor) → FineCursor c → roomOf c ≤ 4096
 unfolding roomOf
 room-small c h = omega arith
@@ -180,7 +184,7 @@ module _ (s : Settings) (p : Place) (at : ℕ) (m : Measure) (fs : FineSettings 
       pick-cases P (skips s p) (λ _. stays (grows-none m _ _)) λ _.
       pick-cases P (fitsIn (p .cursor) w)
       (λ e. moves w e (λ h. grows-one m _ _ _ _ _ _ _ (omega arith) (omega arith)))
-      (λ _. stays (grows-one m _ _ Move _ _ _ _ (omega (arith, room-small (p .cursor) (fp .0))) (omega arith)))
+      (λ _. moves (roomOf (p .cursor)) (room-fits (p .cursor)) (λ h. grows-one m _ _ Move _ _ _ _ (omega arith) (omega arith)))
 
   hyphen-fine : (reach : ℕ) → FineStep p m 2 1 (hyphenated s p at reach)
   unfolding hyphenated

@@ -9,13 +9,13 @@ use Rattle.meaning.specs.declared.cursor.LineCursor.{LineCursor}
 use Rattle.meaning.specs.declared.cursor.Moved.{Moved}
 use Rattle.meaning.specs.declared.cursor.Moved.the-variants.{By, Room}
 
--- The cursor that a move answers. A refused one moves nothing.
-abbrev pub cursorAfter : LineCursor → Moved → LineCursor
-cursorAfter c (By d to) = to
-cursorAfter c (Room d) = c
+-- The cursor that a move answers, whether or not it went all the way.
+abbrev pub cursorAfter : Moved → LineCursor
+cursorAfter (By d to) = to
+cursorAfter (Room d to) = to
 
-abbrev pub positionAfter : LineCursor → Moved → Pixels
-positionAfter c m = cursorAfter c m .position
+abbrev pub positionAfter : Moved → Pixels
+positionAfter m = cursorAfter m .position
 
 -- The cursor with another position stored.
 abbrev pub stored : LineCursor → Pixels → LineCursor
@@ -23,9 +23,9 @@ stored c p = record { width = c .width; position = p; tab = c .tab; start = c .s
 
 -- A move changes nothing but the position.
 abbrev Alone : LineCursor → Moved → Type 0
-Alone c m = stored c (positionAfter c m) ≡ cursorAfter c m
+Alone c m = stored c (positionAfter m) ≡ cursorAfter m
 
-pub moved-alone : (c : LineCursor) (by : ℤ) → stored c (positionAfter c (moveBy c by)) ≡ cursorAfter c (moveBy c by)
+pub moved-alone : (c : LineCursor) (by : ℤ) → stored c (positionAfter (moveBy c by)) ≡ cursorAfter (moveBy c by)
 unfolding moveBy advance
 moved-alone c (pos n) = pick-cases (Alone c) _ (λ _. refl) (λ _. refl)
 moved-alone c (negsuc n) = pick-cases (Alone c) _ (λ _. refl) (λ _. refl)

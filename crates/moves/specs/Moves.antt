@@ -1,5 +1,5 @@
 -- What a pass asks of the cursor and does with it is rule 4's move forward: what fits goes, by as much, and what does not is answered
--- by the room.
+-- by the room and the cursor at the edge.
 -- Assumes nothing.
 use Prim.Native.Nat.{ℕ, _≤_, _<_}
 use mathlib.Core.Path.{_≡_, refl, sym, ap, _∙_}
@@ -8,7 +8,7 @@ use borrow.Author.Tests.{le-leb, lt-leb}
 use lib.Dec.{leb}
 use lib.IntN.{pos}
 use Rattle.basis.specs.Choice.{pick-true, pick-false, by-test}
-use Rattle.meaning.specs.Cursor.{roomOf, fitsIn, advance, moveBy}
+use Rattle.meaning.specs.Cursor.{roomOf, fitsIn, advance, atEdge, moveBy}
 use Rattle.meaning.specs.declared.cursor.LineCursor.{LineCursor}
 use Rattle.meaning.specs.declared.cursor.Moved.{Moved}
 use Rattle.meaning.specs.declared.cursor.Moved.the-variants.{By, Room}
@@ -16,7 +16,7 @@ use Rattle.meaning.specs.declared.cursor.Moved.the-variants.{By, Room}
 -- Did a move go.
 abbrev pub went : Moved → Bool
 went (By d to) = true
-went (Room d) = false
+went (Room d to) = false
 
 module _ (c : LineCursor) (w : ℕ) where
   -- What fits goes, and the cursor then stands where a pass advances it to.
@@ -24,8 +24,8 @@ module _ (c : LineCursor) (w : ℕ) where
   unfolding moveBy fitsIn
   move-fits e = pick-true (leb w (roomOf c)) _ _ e
 
-  -- What does not is refused, and the answer is the room.
-  pub move-refused : fitsIn c w ≡ false → moveBy c (pos w) ≡ Room (pos (roomOf c))
+  -- What does not goes to the edge, and the answer is the room.
+  pub move-refused : fitsIn c w ≡ false → moveBy c (pos w) ≡ Room (pos (roomOf c)) (atEdge c)
   unfolding moveBy fitsIn
   move-refused e = pick-false (leb w (roomOf c)) _ _ e
 
@@ -38,6 +38,6 @@ module _ (c : LineCursor) (w : ℕ) where
   unfolding fitsIn
   room-moves h = move-fits (le-leb w (roomOf c) h)
 
-  pub room-refuses : roomOf c < w → moveBy c (pos w) ≡ Room (pos (roomOf c))
+  pub room-refuses : roomOf c < w → moveBy c (pos w) ≡ Room (pos (roomOf c)) (atEdge c)
   unfolding fitsIn
   room-refuses h = move-refused (lt-leb w (roomOf c) h)

@@ -53,7 +53,8 @@ pub fn advanced(c: LineCursor, w: u32) -> LineCursor
     placed_at(c, c.position.0 + w)
 }
 
-// A move by any signed distance. The least i32 has no negation, so a move back is compared before it is negated.
+// A move by any signed distance. Forward, one that is too long goes to the edge; back, it stays. The least i32 has no negation, so a
+// move back is compared before it is negated.
 pub fn move_by(c: LineCursor, by: i32) -> Moved
     requires { ⌜ FineCursor c ⌝ }
     ensures { λ r. ⌜ r ≡ moveBy c by ⌝ }
@@ -61,13 +62,14 @@ pub fn move_by(c: LineCursor, by: i32) -> Moved
     if by < 0 {
         let back = -(c.position.0 as i32);
         if by < back {
-            return Moved::Room(back);
+            return Moved::Room(back, c);
         }
         return Moved::By(by, placed_at(c, c.position.0 - ((-by) as u32)));
     }
-    let ahead = room(c) as i32;
+    let left = room(c);
+    let ahead = left as i32;
     if ahead < by {
-        return Moved::Room(ahead);
+        return Moved::Room(ahead, advanced(c, left));
     }
     Moved::By(by, advanced(c, by as u32))
 }

@@ -9,13 +9,13 @@ use meaning::counts::Pixels;
 use meaning::cursor::LineCursor;
 use meaning::cursor::Moved;
 
-// Where a cursor stands after a move: a refused one leaves it where it was.
-fn position_after(c: LineCursor, moved: Moved) -> Pixels
-    ensures { λ r. ⌜ r ≡ positionAfter c moved ⌝ }
+// Where the cursor stands that a move answers.
+fn position_after(moved: Moved) -> Pixels
+    ensures { λ r. ⌜ r ≡ positionAfter moved ⌝ }
 {
     match moved {
         Moved::By(_, to) => to.position,
-        Moved::Room(_) => c.position,
+        Moved::Room(_, to) => to.position,
     }
 }
 
@@ -24,10 +24,10 @@ fn position_after(c: LineCursor, moved: Moved) -> Pixels
 pub fn move_cursor(cursor: &mut LineCursor, by: i32) -> Moved
     requires { ⌜ FineCursor (now cursor) ⌝ }
     ensures { λ r. ⌜ (r ≡ moveBy (now (cursor .entry)) by)
-        × (now (cursor .exit) ≡ cursorAfter (now (cursor .entry)) (moveBy (now (cursor .entry)) by)) ⌝ }
+        × (now (cursor .exit) ≡ cursorAfter (moveBy (now (cursor .entry)) by)) ⌝ }
 {
     let before = *cursor;
     let moved = move_by(before, by);
-    cursor.position = position_after(before, moved);
+    cursor.position = position_after(moved);
     moved
 }

@@ -69,16 +69,21 @@ returns-2 c =
 room-requires : tie.Need-room-requires
 room-requires c κs = search needs
 
+moved-on-requires-2 : tie.Need-moved-on-requires-2
+unfolding roomOf
+moved-on-requires-2 c κs = omega (arith, c .room .ensures, begin (c .before .before) .pre .0 .place)
+
 noted-space-requires-2 : tie.Need-noted-space-requires-2
 unfolding roomOf
-noted-space-requires-2 c κs = omega (arith, c .room .ensures, begin (c .before .before) .pre .0)
+noted-space-requires-2 c κs = let r = c .before in omega (arith, r .room .ensures, begin (r .before .before) .pre .0)
 
 returns-3 : tie.Need-returns-3
 returns-3 c =
-    let r = c .before in
+    let q = c .before in
+    let r = q .before in
     let f = r .before .before in
-    tab-beyond (begin f .pre .0) (begin f .pre .1) _ (f .before .tab-width .ensures) (kept f) _ _ (wide f ∙ r .before .if2 .left)
-    (r .room .ensures) (c .noted-space2 .ensures)
+    tab-beyond (begin f .pre .0) (begin f .pre .1) _ (f .before .tab-width .ensures) (kept f) _ _ _ (wide f ∙ r .before .if2 .left)
+    (r .room .ensures) (q .moved-on2 .ensures) (c .noted-space2 .ensures)
 
 pub on-tab-spec : {M : Type 1} → statement M
 on-tab-spec =
@@ -94,5 +99,6 @@ on-tab-spec =
     noted-space-requires
     returns-2
     room-requires
+    moved-on-requires-2
     noted-space-requires-2
     returns-3)

@@ -84,27 +84,32 @@ cast-ahead : tie.Need-cast-ahead
 unfolding roomOf
 cast-ahead c = record { sfits = omega (arith, c .room .ensures) }
 
+advanced-requires : tie.Need-advanced-requires
+unfolding roomOf
+advanced-requires c κs = omega (arith, c .before .room .ensures)
+
 returns-3 : tie.Need-returns-3
 returns-3 c =
-    let s = c .before .before .before in
-    let r = c .before in
-    rw (ahead-is r)
-    (ahead-out (s .args .c) (r .room .result) (r .room .ensures) (s .args .by) (rw (by-is s) at (r .before .if1 .left)) (rw (by-is s, ahead-is r) at (c .if3 .taken)))
+    let d = c .before in
+    let s = d .before .before .before in
+    let r = d .before in
+    rw (ahead-is r, c .advanced .ensures)
+    (ahead-out (s .args .c) (r .room .result) (r .room .ensures) (s .args .by) (rw (by-is s) at (r .before .if1 .left)) (rw (by-is s, ahead-is r) at (d .if3 .taken)))
 
 cast-advanced : tie.Need-cast-advanced
 unfolding roomOf
 cast-advanced c = let i = ahead c in rw (by-is (c .before .before .before), i .is) (tt, record { fits = omega (arith, c .before .room .ensures) })
 
-advanced-requires : tie.Need-advanced-requires
+advanced-requires-2 : tie.Need-advanced-requires-2
 unfolding roomOf
-advanced-requires c κs = let i = ahead c in rw (by-is (c .before .before .before)) (omega (arith, c .before .room .ensures))
+advanced-requires-2 c κs = let i = ahead c in rw (by-is (c .before .before .before)) (omega (arith, c .before .room .ensures))
 
 returns-4 : tie.Need-returns-4
 returns-4 c =
     let d = c .before in
     let s = d .before .before .before in
     let i = ahead d in
-    rw (by-is s, c .advanced .ensures)
+    rw (by-is s, c .advanced2 .ensures)
     (rw (by-is s) (ahead-moved (s .args .c) (d .before .room .result) (d .before .room .ensures) (s .args .by) (i .n) (i .is) (i .small)))
 
 pub move-by-spec : {M : Type 1} → statement M
@@ -121,7 +126,8 @@ move-by-spec =
     returns-2
     room-requires
     cast-ahead
+    advanced-requires
     returns-3
     cast-advanced
-    advanced-requires
+    advanced-requires-2
     returns-4)

@@ -124,22 +124,22 @@ module _ {M : Type 1} (𝓤 : URA M) (H : Heap 𝓤) (A : Atoms 𝓤) (W : Given
 
   -- the call of `position_after`, at the answer m with the machine value u
   abbrev to-after : Moved → Val → PositionAfter 𝓤 H A at-mem run .Ghost
-  to-after m u = ((tt, tt, tt, (h, (m, tt)), (mach ∷ [], (u ∷ [], tt))), tt)
+  to-after m u = ((tt, tt, tt, (m, tt), (u ∷ [], tt)), tt)
 
-  goes-after : Is R h (mach ∷ []) → (m : Moved) (u : Val) → Is S.the-row m (u ∷ []) → ent 𝓤 (emp 𝓤) (PositionAfter 𝓤 H A at-mem run .pre (to-after m u))
-  goes-after was m u is =
+  goes-after : (m : Moved) (u : Val) → Is S.the-row m (u ∷ []) → ent 𝓤 (emp 𝓤) (PositionAfter 𝓤 H A at-mem run .pre (to-after m u))
+  goes-after m u is =
       qed W [] ∵ nothing ! $ owned ! S.the-row (Is S.the-row) (EL.makes S.the-type S′.the-plain 𝓤 H A) m _ is $ fjoin ! $
-      owned ! R (Is R) (LL.makes T.the-type T′.the-plain 𝓤 H A) h _ was $ fjoin ! $ nothing ! $ join ! $ frame ! $ done !
+      nothing ! $ join ! $ frame ! $ done !
 
-  after-said : (m : Moved) (p : Pixels) → ent 𝓤 (ensured 𝓤 H A position-after.ended (position-after.clauses 𝓤 H A at-mem run) tt (h, (m, tt)) tt p) (fact 𝓤 (p ≡ positionAfter h m))
-  after-said m p = exE 𝓤 _ (λ ws. snd∗ 𝓤 (sem 𝓤 H A (lasts position-after.ended tt (h, (m, tt)) ws)) (fact 𝓤 (p ≡ positionAfter h m)))
+  after-said : (m : Moved) (p : Pixels) → ent 𝓤 (ensured 𝓤 H A position-after.ended (position-after.clauses 𝓤 H A at-mem run) tt (m, tt) tt p) (fact 𝓤 (p ≡ positionAfter m))
+  after-said m p = exE 𝓤 _ (λ ws. snd∗ 𝓤 (sem 𝓤 H A (lasts position-after.ended tt (m, tt) ws)) (fact 𝓤 (p ≡ positionAfter m)))
 
-  exits : (m : Moved) (u : Val) (p : Pixels) → m ≡ moveBy h z → p ≡ positionAfter h m
+  exits : (m : Moved) (u : Val) (p : Pixels) → m ≡ moveBy h z → p ≡ positionAfter m
       → ent 𝓤 (⋆ 𝓤 H A (‵ (fobs γ (R .coded .code (stored h p))) ∷ ‵ (fbor κ (Body (mem R) b o γ)) ∷ ‵ (flft κ q) ∷ ‵ (S.the-row .own m (u ∷ [])) ∷ [])) (Post u)
   exits m u p moved placed =
       qed W (‵ (fobs γ (R .coded .code (stored h p))) ∷ ‵ (fbor κ (Body (mem R) b o γ)) ∷ ‵ (flft κ q) ∷ ‵ (S.the-row .own m (u ∷ [])) ∷ []) ∵
       suffices ! _ (ends-at 𝓤 H A move-cursor.ended stayed (move-cursor.clauses 𝓤 H A at-mem run) W (((κ, tt), (q, tt), tt, x, at), tt) u m (stored h p, (tt, tt)) (tt, (tt, tt))) $
-      says ! (moved, ap (stored h) (placed ∙ ap (positionAfter h) moved) ∙ moved-alone h z) $
+      says ! (moved, ap (stored h) (placed ∙ ap positionAfter moved) ∙ moved-alone h z) $
       nothing ! $ move ! (3 ∷ 0 ∷ []) $ join ! $ frame ! $ feqI ! (List Val) (vptr b o ∷ []) (vptr b o ∷ []) refl $ fjoin3 ! $
       nothing ! $ owned ! i32 (Is i32) (sint-makes 𝓤 H A W w32) z _ (refl, ok) $ fjoin ! $ move ! (1 ∷ 0 ∷ []) $ fjoin ! $ done !
 
@@ -164,10 +164,10 @@ module _ {M : Type 1} (𝓤 : URA M) (H : Heap 𝓤) (A : Atoms 𝓤) (W : Given
         peeks ! S.the-row (Is S.the-row) (shows 𝓤 H A S.the-row) m (u ∷ []) (λ is.
         land ! (from ! (stop !)) (init ! 10 refl (EL.lawful S.the-type S′.the-laws 𝓤 H A W tt .typed m _ is .0)) $
         -- `position_after`
-        use0 W (raw (PositionAfter 𝓤 H A at-mem run .pre (to-after m u))) (goes-after was m u is) $
-        calls-at ! fm (PositionAfter 𝓤 H A at-mem run) known-after (to-after m u) (and-then ! (load ! (from ! (stop !)) (look ! 13 refl)) (and-then ! (load ! (from ! (stop !)) (look ! 11 refl)) (no-more !))) (λ w.
-        use1 W (later (some (λ (p : Pixels). (‵ ftrue ⊛ ‵ (P.the-row .own p (w ∷ []))) ⊛ raw (ensured 𝓤 H A position-after.ended (position-after.clauses 𝓤 H A at-mem run) tt (h, (m, tt)) tt p)))) (id⊢ 𝓤 _) $ await ! tt $ pick ! (λ p.
-        split ! $ move ! (1 ∷ []) $ use1 W (raw (fact 𝓤 (p ≡ positionAfter h m))) (after-said m p) $ heard ! (p ≡ positionAfter h m) (λ placed. split ! $ drop ! $
+        use0 W (raw (PositionAfter 𝓤 H A at-mem run .pre (to-after m u))) (goes-after m u is) $
+        calls-at ! fm (PositionAfter 𝓤 H A at-mem run) known-after (to-after m u) (and-then ! (load ! (from ! (stop !)) (look ! 11 refl)) (no-more !)) (λ w.
+        use1 W (later (some (λ (p : Pixels). (‵ ftrue ⊛ ‵ (P.the-row .own p (w ∷ []))) ⊛ raw (ensured 𝓤 H A position-after.ended (position-after.clauses 𝓤 H A at-mem run) tt (m, tt) tt p)))) (id⊢ 𝓤 _) $ await ! tt $ pick ! (λ p.
+        split ! $ move ! (1 ∷ []) $ use1 W (raw (fact 𝓤 (p ≡ positionAfter m))) (after-said m p) $ heard ! (p ≡ positionAfter m) (λ placed. split ! $ drop ! $
         peeks ! P.the-row (Is P.the-row) (shows 𝓤 H A P.the-row) p (w ∷ []) (λ is′.
         land ! (from ! (stop !)) (init ! 9 refl (LL.lawful P.the-type P′.the-laws 𝓤 H A W .typed p _ is′ .0)) $ rewrite ! 9 (λ (y : Val). ‵ (fat fullShare P′.mir l₅ 0 y)) (ap only (LL.tells P.the-type P′.the-laws p (w ∷ []) is′)) refl $ drop ! $
         -- the position is stored, and the answer is the result
