@@ -15,6 +15,7 @@ pub mod LayoutCalls
 pub mod LineBounds
 pub mod LineLocal
 pub mod LineTokens
+pub mod LineWidths
 pub mod LinesTake
 pub mod Local
 pub mod Longest
@@ -23,6 +24,8 @@ pub mod Meeting
 pub mod Moved
 pub mod NothingDropped
 pub mod PassBounds
+pub mod PenBounds
+pub mod Pens
 pub mod Ranges
 pub mod Reaches
 pub mod Relaid

@@ -1,0 +1,77 @@
+-- The measured width of a line is never above the box, whatever the settings, the rest and the text; so the room that rule 6 goes by
+-- is the box less that width, and nothing is cut off at 0. Rule 6, rule 10.
+-- Assumes nothing.
+use Prim.Native.Nat.{ℕ, zero, suc, _+_, _-_, _≤_}
+use mathlib.Core.Path.{_≡_, refl}
+use mathlib.Core.Logic.{inl}
+use mathlib.Core.List.{List, [], _∷_, map}
+use native.Mathlib.Omega.{arith}
+use lib.ListN.{length, take, drop}
+use Rattle.basis.specs.Choice.{pick-cases}
+use Rattle.unicode.specs.Encoding.{size}
+use Rattle.meaning.specs.Tokens.{Tok}
+use Rattle.meaning.specs.Alignment.{plainSpaces}
+use Rattle.meaning.specs.LineIter.{Held, nothingHeld, trailingOn, process}
+use Rattle.meaning.specs.Line.{unmeasured, measured, measuredWidth, lineTokens, startPlace, measuring, lineOf, layLine, entryAt}
+use Rattle.meaning.specs.Layout.{Row, rowAt, rowsBy, rows, entryOfRow, layout}
+use Rattle.meaning.specs.declared.settings.Settings.{Settings}
+use Rattle.meaning.specs.declared.cursor.Spaces.{Spaces}
+use Rattle.meaning.specs.declared.line.Entry.{Entry}
+use Rattle.meaning.specs.declared.line.Measure.{Measure}
+use Rattle.laws.specs.Measuring.{measured-behind}
+use Rattle.laws.specs.RowInduction.{unless-cases}
+use Rattle.laws.specs.Pens.{penAfter, measured-pen, Plain}
+use Rattle.laws.specs.PenBounds.{Within, pass-inside}
+
+-- Each of these lines is at most so wide.
+abbrev pub NoneWider : ℕ → List Entry → Type 0
+NoneWider n [] = Unit {0}
+NoneWider n (e ∷ es) = (e .width .0 ≤ n) × NoneWider n es
+
+module _ (s : Settings) where
+  pub plain-spaces : Plain (s .glyph .0) (plainSpaces s)
+  unfolding plainSpaces
+  plain-spaces = record { width = refl; extra = refl }
+
+  -- Where a pass starts, pen and cursor are one.
+  pub starts-within : (left : ℕ) (sp : Spaces) → left ≤ s .width .0 → Within s (startPlace s left sp) left
+  unfolding startPlace
+  starts-within left sp h = record { pen-by = omega arith; cursor-by = h; box = refl }
+
+  measuring-inside : (ts : List Tok) → penAfter 0 (measuring s ts .drawn) ≤ s .width .0
+  unfolding measuring startPlace
+  measuring-inside ts =
+      pass-inside s ts (startPlace s 0 (plainSpaces s)) 0 0 (starts-within 0 (plainSpaces s) (omega arith)) (inl plain-spaces)
+
+  -- The width is the pen at the line's end, or as it was before.
+  width-behind : (m : Measure) → m .width .0 ≤ m .pen .0 → measuredWidth s m ≤ m .pen .0
+  unfolding measuredWidth
+  width-behind m h = pick-cases (λ n. n ≤ m .pen .0) (trailingOn s) (λ _. omega arith) (λ _. h)
+
+  pub line-width : (h : Held) (cs : List ℕ) → layLine s h cs .width ≤ s .width .0
+  unfolding layLine lineOf
+  line-width h cs =
+      let ds = measuring s (lineTokens h cs) .drawn in
+      let m = measured unmeasured ds in
+      omega (arith, width-behind m (measured-behind unmeasured ds (omega arith) .0), measured-pen unmeasured ds, measuring-inside (lineTokens h cs))
+
+  -- Room and width are the box.
+  pub line-room : (h : Held) (cs : List ℕ) → layLine s h cs .width + (s .width .0 - layLine s h cs .width) ≡ s .width .0
+  line-room h cs = omega (arith, line-width h cs)
+
+  rows-width : (n start : ℕ) (h : Held) (cs : List ℕ) → NoneWider (s .width .0) (map entryOfRow (rowsBy n s start h cs))
+  unfolding rowsBy rowAt entryAt
+  rows-width zero start h cs = tt
+  rows-width (suc n) start h cs =
+      let l = layLine s h cs in
+      let next = start + size (take (l .chars) cs) in
+      let more = rowsBy n s next (l .held) (drop (l .chars) cs) in (
+        line-width h cs,
+        unless-cases (λ (rs : List Row). NoneWider (s .width .0) (map entryOfRow rs)) (l .ended) more (λ _. tt)
+            (λ _. rows-width n next (l .held) (drop (l .chars) cs)),
+      )
+
+  -- So of every line of a layout.
+  pub layout-width : (cs : List ℕ) → NoneWider (s .width .0) (layout s cs)
+  unfolding layout rows
+  layout-width cs = rows-width (suc (length cs)) 0 nothingHeld cs
