@@ -9,6 +9,7 @@ pub mod EditSettings
 pub mod Fuel
 pub mod GoodChecks
 pub mod GoodLines
+pub mod InsideBox
 pub mod Kept
 pub mod LayoutBounds
 pub mod LayoutCalls
