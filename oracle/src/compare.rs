@@ -63,13 +63,19 @@ pub struct Sides {
     pub library: library::Library,
 }
 
-const RULES: model::Ways = model::Ways { last_move_unmeasured: false, room_below_zero: false };
+const RULES: model::Ways = model::Ways { last_move_unmeasured: false, room_below_zero: false, tab_stays: false };
 
-/// The crate's ways that the scope does away with, each with what the list of differences calls it.
+/// The old rule of a tab that does not fit, which is the crate's (#102).
+const OLD_TAB: model::Ways = model::Ways { tab_stays: true, ..RULES };
+
+/// The crate's ways with such a tab that the rules did away with before, each with what it is called here.
 const WAYS: [(model::Ways, &str); 3] = [
-    (model::Ways { last_move_unmeasured: true, room_below_zero: false }, "a move at the line's end is not measured (rule 10)"),
-    (model::Ways { last_move_unmeasured: false, room_below_zero: true }, "the remaining room is below 0 (rule 6)"),
-    (model::Ways { last_move_unmeasured: true, room_below_zero: true }, "both a move that is not measured and room below 0"),
+    (model::Ways { last_move_unmeasured: true, ..OLD_TAB }, "a move at the line's end is not measured (rule 10)"),
+    (model::Ways { room_below_zero: true, ..OLD_TAB }, "the remaining room is below 0 (rule 6)"),
+    (
+        model::Ways { last_move_unmeasured: true, room_below_zero: true, ..OLD_TAB },
+        "both a move that is not measured and room below 0",
+    ),
 ];
 
 impl Sides {
@@ -94,10 +100,11 @@ impl Sides {
         assert_eq!(settings.wrap, 0, "the crate knows the old rule alone");
         tally.cases += 1;
         let outside = checked::lay(settings, text, true, &mut self.krate);
-        model::lay(settings, RULES, &self.text, &mut self.measure, &mut self.model);
+        let beyond = model::lay(settings, RULES, &self.text, &mut self.measure, &mut self.model);
+        self.inside(settings, text, &self.model, tally);
 
         #[cfg(library)]
-        if self.library_layout(settings, text, deep, tally) && outside == Outside::default() {
+        if self.library_layout(settings, text, deep, tally) && outside == Outside::default() && !beyond {
             self.library_to_crate(settings, text, tally);
         }
 
@@ -113,29 +120,59 @@ impl Sides {
 
         if outside.endless {
             Tally::note(&mut tally.unexplained, "the crate does not end".into(), settings, text, String::new);
-        } else if outside.overflow {
+        } else if beyond {
+            self.old_tab(settings, text, deep, outside, tally);
+        } else {
+            self.hold_crate(settings, text, deep, outside, tally);
+        }
+        self.waits(settings, text, deep, tally);
+    }
+
+    /// Every tab fits: the crate's layout is the rules', without a way of its own.
+    fn hold_crate(&mut self, settings: &Settings, text: &str, deep: bool, outside: Outside, tally: &mut Tally) {
+        if outside.overflow {
+            let key = "the crate stops on an overflow where every tab fits".into();
+            Tally::note(&mut tally.unexplained, key, settings, text, String::new);
+            return;
+        }
+        let differs = difference(&self.krate, &self.model);
+        if outside.cut_zero_width {
+            tally.cut += 1;
+            Tally::note(&mut tally.outside, "U+200B in a cut run".into(), settings, text, String::new);
+            tally.cut_same += u64::from(differs.is_none());
+        } else {
+            tally.compared += 1;
+            self.count(settings, tally);
+        }
+        if let Some(field) = differs {
+            let besides = if outside.cut_zero_width { ", U+200B in a cut" } else { "" };
+            self.explain(settings, text, &[], field, besides, tally);
+        }
+        if deep {
+            self.whole(settings, text, tally);
+        }
+    }
+
+    /// A tab does not fit, which leaves the domain: the crate is held to the old rule, by which it goes.
+    fn old_tab(&mut self, settings: &Settings, text: &str, deep: bool, outside: Outside, tally: &mut Tally) {
+        tally.tabs += 1;
+        Tally::note(&mut tally.outside, "a tab that does not fit".into(), settings, text, || self.both());
+        let mut ours = std::mem::take(&mut self.model);
+        tally.tabs_same += u64::from(!outside.overflow && difference(&self.krate, &ours).is_none());
+        model::lay(settings, OLD_TAB, &self.text, &mut self.measure, &mut self.model);
+        if outside.overflow {
             tally.overflow += 1;
-            Tally::note(&mut tally.outside, "a measured width above the box".into(), settings, text, String::new);
             self.beyond(settings, text, tally);
         } else {
-            let differs = difference(&self.krate, &self.model);
-            if outside.cut_zero_width {
-                tally.cut += 1;
-                Tally::note(&mut tally.outside, "U+200B in a cut run".into(), settings, text, String::new);
-                tally.cut_same += u64::from(differs.is_none());
-            } else {
-                tally.compared += 1;
-                self.count(settings, tally);
-            }
-            if let Some(field) = differs {
-                let besides = if outside.cut_zero_width { ", U+200B in a cut" } else { "" };
-                self.explain(settings, text, &WAYS[..1], field, besides, tally);
+            if let Some(field) = difference(&self.krate, &self.model) {
+                let cut = if outside.cut_zero_width { " and U+200B in a cut" } else { "" };
+                self.explain(settings, text, &WAYS[..1], field, &format!(", by the old rule of such a tab{cut}"), tally);
             }
             if deep {
                 self.whole(settings, text, tally);
             }
         }
-        self.waits(settings, text, deep, tally);
+        std::mem::swap(&mut self.model, &mut ours);
     }
 
     fn count(&mut self, settings: &Settings, tally: &mut Tally) {
@@ -187,7 +224,7 @@ impl Sides {
         format!(" crate:\n{} rules:\n{}", show::laid(&self.krate), show::laid(&self.model))
     }
 
-    /// Outside the domain by an overflow: the crate compiled to wrap around goes on.
+    /// Outside the domain by such a tab and an overflow: the crate compiled to wrap around goes on.
     fn beyond(&mut self, settings: &Settings, text: &str, tally: &mut Tally) {
         let went_on = catch_unwind(AssertUnwindSafe(|| wrapping::lay(settings, text, false, &mut self.krate)));
         let Ok(outside) = went_on else {
@@ -199,7 +236,7 @@ impl Sides {
             None => tally.overflow_same += 1,
             Some(field) => {
                 let cut = if outside.cut_zero_width { " and U+200B in a cut" } else { "" };
-                self.explain(settings, text, &WAYS, field, &format!(", outside the domain by overflow{cut}"), tally);
+                self.explain(settings, text, &WAYS, field, &format!(", by the old rule of such a tab, overflow{cut}"), tally);
             }
         }
     }

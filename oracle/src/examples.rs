@@ -1,5 +1,5 @@
 //! The examples: those of the scope, by hand, and those of the definitions' tables, read from their files. Each is held to
-//! the rules, and to the crate unless words wait.
+//! the rules, and to the crate unless words wait or a tab does not fit.
 
 use crate::{antt, model, show, EXAMPLE};
 use shape::*;
@@ -39,23 +39,23 @@ fn both_tokens(text: &str) -> [(&'static str, Vec<Token>); 2] {
     [("crate", krate), ("rules", rules)]
 }
 
-/// The crate's layout, and whether it had to be had from the crate with wrapping arithmetic, because a line is measured wider
-/// than the box and the crate that checks its arithmetic stops there.
-fn by_crate(settings: &Settings, text: &str) -> (Laid, bool) {
+/// The crate's layout, from the crate with wrapping arithmetic where a line is measured wider than the box: the crate that checks
+/// its arithmetic stops there.
+fn by_crate(settings: &Settings, text: &str) -> Laid {
     let mut laid = Laid::default();
-    let beyond = checked::lay(settings, text, true, &mut laid).overflow;
-    if beyond {
+    if checked::lay(settings, text, true, &mut laid).overflow {
         wrapping::lay(settings, text, false, &mut laid);
     }
-    (laid, beyond)
+    laid
 }
 
-fn by_rules(settings: &Settings, text: &str) -> Laid {
+/// The rules' layout, and whether a tab does not fit in it.
+fn by_rules(settings: &Settings, text: &str) -> (Laid, bool) {
     let mut apart = model::Text::default();
     apart.take_apart(text);
     let mut laid = Laid::default();
-    model::lay(settings, model::Ways::default(), &apart, &mut Vec::new(), &mut laid);
-    laid
+    let beyond = model::lay(settings, model::Ways::default(), &apart, &mut Vec::new(), &mut laid);
+    (laid, beyond)
 }
 
 /// Runs all of them. True if every claim holds.
@@ -121,10 +121,7 @@ fn hold_events(claims: &mut Claims, name: &str, side: &str, laid: &Laid, events:
 /// Holds the crate to the first eight numbers of each row.
 fn hold_crate(claims: &mut Claims, settings: &Settings, text: &str, lines: &[Vec<u32>], events: Option<&[Vec<u32>]>) {
     let name = format!("{} at {}", show::text(text), show::settings(settings, false));
-    let (krate, beyond) = by_crate(settings, text);
-    if beyond {
-        println!("note: {name}: outside the domain, the crate stops on an overflow; compared with wrapping arithmetic");
-    }
+    let krate = by_crate(settings, text);
     let found: Vec<_> = krate.lines.iter().map(eight).collect();
     let first_eight: Vec<_> = lines.iter().map(|line| line[..8].to_vec()).collect();
     claims.claim(found == first_eight, || format!("lines of {name}\n  crate   {found:?}\n  example {first_eight:?}"));
@@ -133,11 +130,11 @@ fn hold_crate(claims: &mut Claims, settings: &Settings, text: &str, lines: &[Vec
 
 /// Holds the sides to rows of ten numbers, and to rows of six where events are given.
 fn hold(claims: &mut Claims, settings: &Settings, text: &str, lines: &[Vec<u32>], events: Option<&[Vec<u32>]>) {
-    if settings.wrap == 0 {
+    let name = format!("{} at {}", show::text(text), show::settings(settings, false));
+    let (rules, beyond) = by_rules(settings, text);
+    if settings.wrap == 0 && !beyond {
         hold_crate(claims, settings, text, lines, events);
     }
-    let name = format!("{} at {}", show::text(text), show::settings(settings, false));
-    let rules = by_rules(settings, text);
     let found = ten(&rules);
     claims.claim(found == lines, || format!("lines of {name}\n  rules   {found:?}\n  example {lines:?}"));
     hold_events(claims, &name, "rules", &rules, events);
@@ -204,7 +201,7 @@ fn heights(claims: &mut Claims, specs: &str) {
         let text = values[1].text();
         let (height, first, second) = (values[2].number(), signed(&values[3]), signed(&values[4]));
         let name = || format!("{} at {}", show::text(text), show::settings(&settings, true));
-        let laid = by_rules(&settings, text);
+        let (laid, _) = by_rules(&settings, text);
         let rule = model::height(&settings, text.len() as u32, &laid.lines);
         let ys = model::places(&settings, rule, &laid.lines);
         claims.claim((rule, ys[0], ys[1]) == (height, first, second), || {
@@ -231,7 +228,11 @@ fn cursors(claims: &mut Claims, _specs: &str) {
             for position in (0..=width).filter(|&position| position < 12 || position > 4090) {
                 for by in (-14..=14).chain([i32::MIN, -4097, -4096, 4090, 4096, 4097, i32::MAX]) {
                     let (answer, after) = model::moved(width, position, by);
-                    let rules = (model::tab_width(&settings, position), answer, after as i32);
+                    // The crate's cursor stays where a move forward is too long, and ours goes to the edge (#102).
+                    let beyond = by > 0 && answer.is_err();
+                    claims.claim(!beyond || after == width, || format!("box {width}, from {position} by {by}: at {after}"));
+                    let stands = if beyond { position } else { after };
+                    let rules = (model::tab_width(&settings, position), answer, stands as i32);
                     let krate = checked::move_by(width, tab, position, by);
                     claims.claim(krate == rules, || {
                         format!("box {width} tab {tab}, from {position} by {by}: crate {krate:?}, rules {rules:?}")
@@ -258,10 +259,7 @@ fn cursors(claims: &mut Claims, _specs: &str) {
 /// The scope's own examples, in its order.
 fn scope(claims: &mut Claims, _specs: &str) {
     let wide = |width| Settings { width, ..EXAMPLE };
-    let sides = |settings: &Settings, text: &str| {
-        let (krate, _) = by_crate(settings, text);
-        [("crate", krate), ("rules", by_rules(settings, text))]
-    };
+    let sides = |settings: &Settings, text: &str| [("crate", by_crate(settings, text)), ("rules", by_rules(settings, text).0)];
     let starts = |laid: &Laid| laid.lines.iter().map(|line| line.start).collect::<Vec<_>>();
     let kinds = |laid: &Laid| laid.events.iter().map(|event| event.kind).collect::<Vec<_>>();
     let drawn = |laid: &Laid, text: &str| {
@@ -315,11 +313,11 @@ fn scope(claims: &mut Claims, _specs: &str) {
         let last = laid.events.last().unwrap();
         claim(last.x + last.width as i32 == 18, side, "\"abc   d\" box 18: second line ends at 18", &laid);
     }
-    for (side, laid) in sides(&wide(30), "abcd\tx") {
-        let last = laid.events.last().unwrap();
-        let good = (last.kind, last.start, last.x) == (PRINTED, 5, 30) && laid.lines[0].width == 36;
-        claim(good, side, "\"abcd\" tab \"x\" box 30: x is printed at 30, width 36", &laid);
-    }
+    let [(_, krate), (_, rules)] = sides(&wide(30), "abcd\tx");
+    let good = drawn(&krate, "abcd\tx") == ["abcdx"] && krate.lines[0].width == 36;
+    claim(good, "crate", "\"abcd\" tab \"x\" box 30: x is printed outside, width 36", &krate);
+    let good = drawn(&rules, "abcd\tx") == ["abcd", "x"] && rules.lines[0].width == 24;
+    claim(good, "rules", "\"abcd\" tab \"x\" box 30: x is on line two, width 24", &rules);
     let hyphened = "ab\u{ad}cd";
     for (side, laid) in sides(&wide(24), hyphened) {
         claim(laid.lines.len() == 1, side, "\"ab\" SHY \"cd\" box 24: one line", &laid);

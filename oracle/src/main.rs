@@ -14,6 +14,7 @@ mod definitions;
 #[cfg(library)]
 mod edits;
 mod examples;
+mod inside;
 #[cfg(library)]
 mod library;
 mod model;

@@ -16,6 +16,8 @@ pub struct Ways {
     pub last_move_unmeasured: bool,
     /// Rule 6: the remaining room may fall below 0. Then no line is moved to the right, and justified spaces are narrower.
     pub room_below_zero: bool,
+    /// Rule 8: a tab that does not fit moves the pen alone, and the cursor stays where it was.
+    pub tab_stays: bool,
 }
 
 /// Rule 1.
@@ -146,13 +148,14 @@ impl Spaces {
     }
 }
 
-/// Rule 4: a move of the cursor by any signed distance. One that is too long moves nothing and answers the room.
+/// Rule 4: a move of the cursor by any signed distance. One that is too long answers the room: forward the cursor is then at the
+/// edge, backward it stays.
 pub fn moved(width: u32, position: u32, by: i32) -> (Result<i32, i32>, u32) {
     let to = i64::from(position) + i64::from(by);
     if to < 0 {
         (Err(-(position as i32)), position)
     } else if to > i64::from(width) {
-        (Err((width - position) as i32), position)
+        (Err((width - position) as i32), width)
     } else {
         (Ok(by), to as u32)
     }
@@ -184,6 +187,10 @@ struct Pass<'t> {
     empty: bool,
     reach: u32,
     dropped: u32,
+    /// By the crate's way: a tab that does not fit leaves the cursor.
+    tab_stays: bool,
+    /// A tab did not fit.
+    beyond: bool,
 }
 
 /// How a pass ended, and where the next line starts.
@@ -193,6 +200,24 @@ struct Ended {
 }
 
 impl<'t> Pass<'t> {
+    /// A pass from a place, on an empty line.
+    fn new(settings: &'t Settings, ways: Ways, text: &'t Text, start: Start, spaces: Spaces, position: u32) -> Self {
+        Pass {
+            settings,
+            text,
+            start,
+            spaces,
+            position,
+            starting_place: position,
+            pen: position as i32,
+            empty: true,
+            reach: 0,
+            dropped: 0,
+            tab_stays: ways.tab_stays,
+            beyond: false,
+        }
+    }
+
     fn room(&self) -> u32 {
         self.settings.width - self.position
     }
@@ -302,6 +327,10 @@ impl<'t> Pass<'t> {
                     let width = tab_width(self.settings, self.position);
                     if width > self.room() {
                         let room = self.room();
+                        self.beyond = true;
+                        if !self.tab_stays {
+                            self.position += room;
+                        }
                         self.event(events, MOVE, from, to, 0, room);
                     } else {
                         self.position += width;
@@ -434,23 +463,14 @@ fn placed(settings: &Settings, ways: Ways, width: u32, n: u32, by: u32) -> (i32,
     }
 }
 
-/// Rules 10, 12 and 13: the lines of a text, each measured and then drawn from where the last one's draw ended.
-pub fn lay(settings: &Settings, ways: Ways, text: &Text, measure: &mut Vec<Event>, laid: &mut Laid) {
+/// Rules 10, 12 and 13: the lines of a text, each measured and then drawn from where the last one's draw ended. True if a tab did not
+/// fit in one of the passes.
+pub fn lay(settings: &Settings, ways: Ways, text: &Text, measure: &mut Vec<Event>, laid: &mut Laid) -> bool {
     laid.clear();
+    let mut beyond = false;
     let mut start = Start { token: 0, left: None };
     loop {
-        let pass = |spaces, position| Pass {
-            settings,
-            text,
-            start,
-            spaces,
-            position,
-            starting_place: position,
-            pen: position as i32,
-            empty: true,
-            reach: 0,
-            dropped: 0,
-        };
+        let pass = |spaces, position| Pass::new(settings, ways, text, start, spaces, position);
 
         measure.clear();
         let mut measuring = pass(Spaces { width: settings.glyph, extra: 0 }, 0);
@@ -460,6 +480,7 @@ pub fn lay(settings: &Settings, ways: Ways, text: &Text, measure: &mut Vec<Event
 
         let mut drawing = pass(spaces, left.max(0) as u32);
         let ended = drawing.run(&mut laid.events);
+        beyond |= measuring.beyond || drawing.beyond;
 
         let (at, rest_end, rest_count) = match start.left {
             Some(left) if left.kind == WHITESPACE => (left.from, text.offsets[left.to], left.count),
@@ -479,7 +500,7 @@ pub fn lay(settings: &Settings, ways: Ways, text: &Text, measure: &mut Vec<Event
         laid.extents.push(Extent { dropped: drawing.dropped, reach: measuring.reach.max(drawing.reach) });
         laid.upto.push(laid.events.len() as u32);
         if ended.by == BY_END_OF_TEXT {
-            return;
+            return beyond;
         }
         assert!(laid.lines.len() <= text.chars.len() + 1, "a line took nothing");
         start = ended.next;
@@ -538,15 +559,14 @@ pub fn height_by_widths(settings: &Settings, lines: &[Line]) -> u32 {
 
 /// The height as the crate has it, by both ways: the lines are the measure's, too, each from where the last one's measure ended.
 pub fn height_by_measures(settings: &Settings, text: &Text, measure: &mut Vec<Event>) -> u32 {
-    let ways = Ways { last_move_unmeasured: true, ..Ways::default() };
+    let ways = Ways { last_move_unmeasured: true, tab_stays: true, ..Ways::default() };
     let mut start = Start { token: 0, left: None };
     let mut height = settings.base;
     let mut before = BY_END_OF_TEXT;
     loop {
         measure.clear();
         let spaces = Spaces { width: settings.glyph, extra: 0 };
-        let mut pass =
-            Pass { settings, text, start, spaces, position: 0, starting_place: 0, pen: 0, empty: true, reach: 0, dropped: 0 };
+        let mut pass = Pass::new(settings, ways, text, start, spaces, 0);
         let ended = pass.run(measure);
         if before == BY_LINE_BREAK && measured(settings, ways, measure).0 > 0 {
             height += settings.spacing;

@@ -1,8 +1,8 @@
 //! A recorded sample of the crate's answers, one case a line, for a replay with no Rust at hand.
 //!
 //! A line has decimal numbers with single spaces between them: six settings, the text's bytes, and the crate's tokens, lines and
-//! events of it, each list after its length. Only cases in the domain of the comparison are recorded, and of them only those in
-//! which the crate does what the scope says; the others are counted by reason.
+//! events of it, each list after its length. Only cases in the domain of the comparison are recorded, where the crate does what the
+//! scope says; the others are counted by reason.
 
 use crate::runs::{spread, ALPHABET};
 use crate::{compare, model, random, EXAMPLE};
@@ -22,16 +22,14 @@ const MOST_EVENTS: usize = 200;
 const LONGEST: usize = 40;
 
 /// Why a case is left out.
-const REASONS: [&str; 4] = [
-    "outside the domain: a line is measured wider than the box, and the crate stops on an overflow",
+const REASONS: [&str; 3] = [
+    "outside the domain: a tab does not fit, and carries the cursor to the edge here",
     "outside the domain: a cut run of spaces holds U+200B",
-    "a difference of docs/DIFFERENCES.md: a move at the line's end that the crate does not measure (rule 10)",
     "more tokens, lines or events than a line of this file may hold",
 ];
-const OVERFLOW: usize = 0;
+const TAB_BEYOND: usize = 0;
 const CUT: usize = 1;
-const MOVE_UNMEASURED: usize = 2;
-const TOO_LARGE: usize = 3;
+const TOO_LARGE: usize = 2;
 
 /// The classes of character, as the header counts them.
 const CLASSES: [&str; 12] = [
@@ -139,7 +137,7 @@ impl Coverage {
 struct Sample {
     cases: Vec<String>,
     seen: HashSet<([u32; 6], String)>,
-    left_out: [u64; 4],
+    left_out: [u64; 3],
     coverage: Coverage,
     apart: model::Text,
     tokens: Vec<Token>,
@@ -164,21 +162,14 @@ impl Sample {
 
         let outside = checked::lay(settings, text, true, &mut self.krate);
         assert!(!outside.endless, "the crate does not end");
-        if outside.overflow {
-            return Err(OVERFLOW);
+        if model::lay(settings, model::Ways::default(), &self.apart, &mut self.measure, &mut self.rules) {
+            return Err(TAB_BEYOND);
         }
+        assert!(!outside.overflow, "the crate stops on an overflow where every tab fits");
         if outside.cut_zero_width {
             return Err(CUT);
         }
-        let mut same = |ways| {
-            model::lay(settings, ways, &self.apart, &mut self.measure, &mut self.rules);
-            compare::difference(&self.krate, &self.rules).is_none()
-        };
-        if !same(model::Ways::default()) {
-            let explained = same(model::Ways { last_move_unmeasured: true, ..model::Ways::default() });
-            assert!(explained, "a difference that is not explained");
-            return Err(MOVE_UNMEASURED);
-        }
+        assert_eq!(compare::difference(&self.krate, &self.rules), None, "a difference that is not explained");
         let large =
             self.tokens.len() > MOST_TOKENS || self.krate.lines.len() > MOST_LINES || self.krate.events.len() > MOST_EVENTS;
         if large || text.len() > MOST_BYTES {

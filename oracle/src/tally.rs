@@ -39,6 +39,9 @@ pub struct Tally {
     pub drawn: u64,
     pub heights: u64,
     /// Layouts outside the domain, and those of them that come out the same all the same.
+    /// A tab that does not fit; of those, where the crate stops on an overflow.
+    pub tabs: u64,
+    pub tabs_same: u64,
     pub overflow: u64,
     pub overflow_same: u64,
     pub cut: u64,
@@ -62,6 +65,9 @@ pub struct Tally {
     pub kinds: [u64; 3],
     pub rests: u64,
     pub dropped: u64,
+    /// Lines by the rules, whose widths and events were held to the box; and the layouts that end past its right edge all the same.
+    pub held_inside: u64,
+    pub past_edge: BTreeMap<String, Found>,
     /// The smallest layouts outside the domain, by their reason.
     pub outside: BTreeMap<String, Found>,
     /// Differences that are explained, by their reason, and the others.
@@ -93,8 +99,8 @@ impl Tally {
         println!("layouts looked at            {}", self.cases);
         println!("  in the domain, compared    {}  ({} lines, {} events)", self.compared, self.lines, self.events);
         println!(
-            "  outside: overflow          {}  (with wrapping arithmetic the same all the same: {})",
-            self.overflow, self.overflow_same
+            "  outside: a tab too wide    {}  (the same all the same: {}; by the old rule, an overflow: {}, and then the same: {})",
+            self.tabs, self.tabs_same, self.overflow, self.overflow_same
         );
         println!("  outside: U+200B in a cut   {}  (by rule 9 as stand-in the same all the same: {})", self.cut, self.cut_same);
         println!("token lists compared         {}  ({} tokens)", self.token_texts, self.tokens);
@@ -124,6 +130,11 @@ impl Tally {
             }
             println!("events  space {} printed {} move {}", self.kinds[0], self.kinds[1], self.kinds[2]);
             println!("lines with a rest {}, with dropped characters {}", self.rests, self.dropped);
+        }
+        println!("lines held inside the box    {}", self.held_inside);
+        for (reason, found) in &self.past_edge {
+            println!("past the right edge: {reason}: {} times, smallest {}", found.count, found.name(false));
+            found.details.lines().for_each(|line| println!("{line}"));
         }
         for (reason, found) in &self.outside {
             println!("outside the domain: {reason}: {} times, smallest {}", found.count, found.name(false));
