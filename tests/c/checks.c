@@ -59,6 +59,8 @@ int main(int count, char **words)
     test_refused();
     printf("texts by both wraps\n");
     test_wraps();
+    printf("texts in their boxes\n");
+    test_inside();
     printf("%lu spoiled tables, seed %lu\n", edits, seed);
     test_spoiled(edits, seed);
     printf("%lu random edits, seed %lu\n", edits, seed);

@@ -46,10 +46,14 @@ const struct example examples[] = {
     {6, 18, LEFT, 1, 0, DROP, "abc   d",
      2, {0, 0, 0, 3, 0, 6, 0, 18, 0, 7, /**/ 4, 6, 2, 2, 0, 6, 0, 18, 0, 8},
      3, {PRINTED, 0, 3, 0, 18, 0, /**/ SPACE, 4, 6, 2, 12, 0, /**/ PRINTED, 6, 7, 0, 6, 12}},
-    /* a tab that does not fit moves the pen by the room, and "x" is printed outside */
+    /* a tab that does not fit carries pen and cursor to the edge, and "x" waits for the second line */
     {6, 30, LEFT, 1, 0, DROP, "abcd\tx",
-     1, {0, 0, 0, 2, 0, 6, 0, 36, 0, 7},
-     3, {PRINTED, 0, 4, 0, 24, 0, /**/ MOVE, 4, 5, 0, 6, 24, /**/ PRINTED, 5, 6, 0, 6, 30}},
+     2, {0, 0, 0, 3, 0, 6, 0, 24, 0, 7, /**/ 5, 0, 0, 2, 0, 6, 0, 6, 0, 7},
+     3, {PRINTED, 0, 4, 0, 24, 0, /**/ MOVE, 4, 5, 0, 6, 24, /**/ PRINTED, 5, 6, 0, 6, 0}},
+    /* on an empty line it leaves no room for "x", which is dropped; words that wait are below */
+    {6, 20, LEFT, 1, 0, DROP, "\tx",
+     2, {0, 0, 0, 3, 0, 6, 0, 0, 1, 3, /**/ 2, 0, 0, 2, 0, 6, 0, 0, 0, 3},
+     1, {MOVE, 0, 1, 0, 20, 0}},
     /* a soft hyphen: not needed, printed, kept for the next line */
     {6, 24, LEFT, 1, 0, DROP, "ab" SHY "cd",
      1, {0, 0, 0, 2, 0, 6, 0, 24, 0, 7},
@@ -255,11 +259,15 @@ const struct example examples[] = {
     {6, 5, LEFT, 1, 0, WAIT, "abc",
      2, {0, 0, 0, 3, 0, 6, 0, 0, 3, 4, /**/ 3, 0, 0, 2, 0, 6, 0, 0, 0, 4},
      0, {0}},
-    /* centred: measured, the tab moves the cursor and "a" waits; drawn further right, the tab does not fit, and "a" is
+    /* a tab that does not fit has moved the cursor too */
+    {6, 20, LEFT, 1, 0, WAIT, "\tx",
+     2, {0, 0, 0, 3, 0, 6, 0, 0, 0, 3, /**/ 1, 0, 0, 2, 0, 6, 0, 6, 0, 3},
+     2, {MOVE, 0, 1, 0, 20, 0, /**/ PRINTED, 1, 2, 0, 6, 0}},
+    /* to the right: measured, the tab moves the cursor and "a" waits; drawn from the edge, nothing moves, and "a" is
        dropped */
-    {24, 47, CENTRE, 1, 0, WAIT, "\ta",
-     2, {0, 0, 0, 3, 24, 24, 0, 0, 1, 3, /**/ 2, 0, 0, 2, 24, 24, 0, 0, 0, 3},
-     1, {MOVE, 0, 1, 0, 23, 24}},
+    {24, 47, RIGHT, 1, 0, WAIT, "\ta",
+     2, {0, 0, 0, 3, 47, 24, 0, 0, 1, 3, /**/ 2, 0, 0, 2, 47, 24, 0, 0, 0, 3},
+     1, {MOVE, 0, 1, 0, 0, 47}},
     /* justified: measured, "a" fits; drawn, a wider space and the tab behind it take the room, and "a" waits */
     {6, 74, JUSTIFIED, 1, 0, WAIT, " \ta\r",
      3, {0, 0, 0, 3, 0, 50, 0, 30, 0, 4, /**/ 2, 0, 0, 1, 0, 6, 0, 6, 0, 4, /**/ 4, 0, 0, 2, 0, 6, 0, 0, 0, 5},

@@ -93,6 +93,7 @@ void test_heights(void);
 void test_again(void);
 void test_refused(void);
 void test_wraps(void);
+void test_inside(void);
 void test_spoiled(unsigned long tables, unsigned long seed);
 void test_edits(unsigned long edits, unsigned long seed);
 
