@@ -112,7 +112,7 @@ enum bisquemop_line_column {
     BISQUEMOP_LINE_LEFT = 4,       /* how far from the box's left side the line is drawn */
     BISQUEMOP_LINE_SPACE = 5,      /* the width of a space */
     BISQUEMOP_LINE_EXTRA = 6,      /* so many of the line's first spaces are one pixel wider, each */
-    BISQUEMOP_LINE_WIDTH = 7,      /* the width measured, with plain spaces */
+    BISQUEMOP_LINE_WIDTH = 7,      /* the width measured, with plain spaces: never above the box's */
     BISQUEMOP_LINE_DROPPED = 8,    /* how many characters belong to a word dropped here, which no line draws: the line's
                                       last characters */
     BISQUEMOP_LINE_REACH = 9       /* the offset after the furthest character that the line depends on, and the text's
@@ -172,7 +172,8 @@ enum bisquemop_drawn {
                                     as spaces at the start or the end of a line are where the setting is off */
     BISQUEMOP_DRAWN_PRINTED = 1, /* the characters of its bytes, which are of a word; "-" if its bytes are U+00AD's;
                                     nothing if it has no bytes, as at the end of a word that ends in U+00A0 */
-    BISQUEMOP_DRAWN_MOVE = 2     /* a tab that does not fit, or one at a line's end where `trailing` is off */
+    BISQUEMOP_DRAWN_MOVE = 2     /* a tab that does not fit, as wide as the room up to the box's right side, or one at a
+                                    line's end where `trailing` is off */
 };
 
 /* How a text is laid: eight numbers of pixels, two alignments, two switches, and what becomes of a word that has no
