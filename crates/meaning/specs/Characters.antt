@@ -1,14 +1,14 @@
 -- Rule 1 and rule 2: what each character does in a text. A character is a scalar value.
 -- Assumes nothing.
 use Prim.Native.Nat.{ℕ}
-use mathlib.Core.Bool.{Bool, true, false, _&&_, not}
+use mathlib.Core.Bool.{Bool, true, false, _&&_, _||_, not}
 use lib.Dec.{eqb}
 use Rattle.basis.specs.Choice.{pick}
 use Rattle.unicode.specs.WhiteSpace.{isWhite}
 
--- White space that holds a word together and is drawn as one space: U+00A0.
+-- White space that holds a word together and is drawn as one space: U+00A0, U+2007 and U+202F.
 unfoldable pub glue : ℕ → Bool
-glue c = eqb c 0x00A0
+glue c = eqb c 0x00A0 || eqb c 0x2007 || eqb c 0x202F
 
 -- LF, CR, tab, U+00AD, U+200B, any other white space that does not glue, and what words are made of.
 pub data Class : Type 0 where

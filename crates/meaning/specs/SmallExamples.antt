@@ -46,6 +46,10 @@ tokenExamples =
     -- LF, CR, tab and U+00AD are single; U+00A0 is part of a word; U+3000 is a space like any other
     ∷ tokensAre "\n\r\t\u{ad}" ((0 ∷ 0 ∷ 1 ∷ 0 ∷ []) ∷ (1 ∷ 1 ∷ 2 ∷ 0 ∷ []) ∷ (2 ∷ 2 ∷ 3 ∷ 0 ∷ []) ∷ (5 ∷ 3 ∷ 5 ∷ 0 ∷ []) ∷ [])
     ∷ tokensAre "\u{a0}é\u{3000}\u{2003}" ((4 ∷ 0 ∷ 4 ∷ 0 ∷ []) ∷ (3 ∷ 4 ∷ 10 ∷ 2 ∷ []) ∷ [])
+    -- so are U+2007 and U+202F part of a word, by themselves and behind a space, but not the spaces beside them in Unicode
+    ∷ tokensAre "12\u{202f}345" ((4 ∷ 0 ∷ 8 ∷ 0 ∷ []) ∷ [])
+    ∷ tokensAre " \u{202f}\u{2007}\u{a0} " ((3 ∷ 0 ∷ 1 ∷ 1 ∷ []) ∷ (4 ∷ 1 ∷ 9 ∷ 0 ∷ []) ∷ (3 ∷ 9 ∷ 10 ∷ 1 ∷ []) ∷ [])
+    ∷ tokensAre "\u{2006}\u{2008}\u{2029}\u{205f}" ((3 ∷ 0 ∷ 12 ∷ 4 ∷ []) ∷ [])
     ∷ []
 
 unfoldable pub tokensFound : TokenExample → TokenExample
