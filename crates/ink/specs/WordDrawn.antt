@@ -6,7 +6,7 @@ use mathlib.Core.Bool.{true, false}
 use mathlib.Core.List.{List, [], _∷_, _++_, append-nil, append-assoc}
 use native.Mathlib.Nat.{add-zero}
 use native.Mathlib.Omega.{arith}
-use borrow.Author.Tests.{eq-eqb, ne-eqb, eqb-true}
+use borrow.Author.Tests.{eq-eqb, ne-eqb}
 use lib.Dec.{eqb}
 use lib.ListN.{length, length-append}
 use Rattle.basis.specs.Choice.{pick, by-test}
@@ -17,6 +17,7 @@ use Rattle.meaning.specs.SpaceConfig.{spacesWidth, spacesAfter}
 use Rattle.meaning.specs.Words.{Drawn, drawn, Stretches, last, glued, grow, stretches, printedFirst, drawnStretches, drawnWord}
 use Rattle.meaning.specs.declared.cursor.Spaces.{Spaces}
 use Rattle.meaning.specs.declared.line.EventKind.the-variants.{Space, Printed}
+use Rattle.parser.specs.GlueLaws.{by-glue}
 
 -- A stretch of a width, from one offset to another, and the space after it. An empty one is not printed.
 unfoldable pub closed : (from to wide end : ℕ) → Spaces → List Drawn
@@ -108,8 +109,8 @@ rest-ends g sp from at wide = refl
 
 -- Gluing characters are no single bytes.
 glue-bytes : (c : ℕ) → glue c ≡ true → 2 ≤ bytes c
-unfolding glue bytes pick
-glue-bytes c e = rw (eqb-true c 0x00A0 e) (omega arith)
+unfolding bytes pick
+glue-bytes = by-glue (λ c. 2 ≤ bytes c) (omega arith) (omega arith) (omega arith)
 
 closed-few : (from to wide end : ℕ) (sp : Spaces) (ds : List Drawn) → length (closed from to wide end sp ++ ds) ≤ 2 + length ds
 unfolding closed pick

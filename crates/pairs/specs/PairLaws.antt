@@ -9,7 +9,7 @@ use native.Mathlib.Omega.{arith}
 use borrow.Author.Tests.{eqb-true}
 use lib.Dec.{eqb}
 use lib.ListN.{length, getD}
-use Rattle.basis.specs.Choice.{pick, and-true, by-either}
+use Rattle.basis.specs.Choice.{pick, and-true}
 use Rattle.unicode.specs.Decoding.{value3, decodeAt}
 use Rattle.unicode.specs.Rows.{Three}
 use Rattle.unicode.specs.Long.{decode-three}
@@ -40,12 +40,7 @@ blank-char t at c n d l =
 pub blank-space : (t : List ℕ) (at : ℕ) → spaceAt t at ≡ true → Blank t at 1
 blank-space t at e = blank-char t at 0x20 1 (space-char t at e) space-left
 
--- The two others of three bytes.
-narrow-left : Left 0x202F
-unfolding inWord classOf glue isWhite member whiteSpaces pick
-narrow-left =
-    record { word = refl; lf = λ q. omega arith; cr = λ q. omega arith; ht = λ q. omega arith; shy = λ q. omega arith; zwsp = λ q. omega arith }
-
+-- That of three bytes.
 broad-left : Left 0x3000
 unfolding inWord classOf glue isWhite member whiteSpaces pick
 broad-left =
@@ -61,24 +56,17 @@ module _ (t : List ℕ) (at : ℕ) (h : at + 3 ≤ length t) where
   abbrev C : ℕ
   C = getD t (at + 2) 0
 
-  blank-three : (c : ℕ) → Three A B C → value3 A B C ≡ c → Left c → Blank t at 3
-  blank-three c x v = blank-char t at c 3 (decode-three t at h x ∙ ap (λ (k : ℕ). Char k 3) v)
-
   pub blank-long : longSpace A B C ≡ true → Blank t at 3
   blank-long e =
-      let f = and-true (eqb B 0x80) _ e in
-      let b = eqb-true B 0x80 (f .0) in
-      by-either (eqb A 0xE2 && eqb C 0xAF) (eqb A 0xE3 && eqb C 0x80) (f .1)
-      (λ p.
-      let g = and-true (eqb A 0xE2) (eqb C 0xAF) p in
-      let a = eqb-true A 0xE2 (g .0) in
-      let c = eqb-true C 0xAF (g .1) in
-      blank-three 0x202F (record { lead = omega arith; second = omega arith; third = omega arith; long = omega arith; scalar = inl (omega arith) }) (omega arith) narrow-left)
-      (λ p.
-      let g = and-true (eqb A 0xE3) (eqb C 0x80) p in
+      let f = and-true (eqb A 0xE3 && eqb B 0x80) (eqb C 0x80) e in
+      let g = and-true (eqb A 0xE3) (eqb B 0x80) (f .0) in
       let a = eqb-true A 0xE3 (g .0) in
-      let c = eqb-true C 0x80 (g .1) in
-      blank-three 0x3000 (record { lead = omega arith; second = omega arith; third = omega arith; long = omega arith; scalar = inl (omega arith) }) (omega arith) broad-left)
+      let b = eqb-true B 0x80 (g .1) in
+      let c = eqb-true C 0x80 (f .1) in
+      let x : Three A B C
+      = record { lead = omega arith; second = omega arith; third = omega arith; long = omega arith; scalar = inl (omega arith) } in
+      let v : value3 A B C ≡ 0x3000 = omega arith in
+      blank-char t at 0x3000 3 (decode-three t at h x ∙ ap (λ (k : ℕ). Char k 3) v) broad-left
 
 module _ (t : List ℕ) (at n k : ℕ) (b : Blank t at n) (l : Letter t (at + n) k) where
   abbrev next : ℕ

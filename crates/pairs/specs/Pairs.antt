@@ -2,7 +2,7 @@
 -- Assumes nothing.
 use Prim.Native.Nat.{ℕ, _+_, _≤_}
 use mathlib.Core.Path.{_≡_}
-use mathlib.Core.Bool.{Bool, _&&_, _||_}
+use mathlib.Core.Bool.{Bool, _&&_}
 use mathlib.Core.List.{List}
 use lib.Dec.{eqb}
 use lib.ListN.{length}
@@ -27,9 +27,9 @@ oneSpace end reach =
       reach = record { 0 = reach };
     }
 
--- The bytes of U+202F and of U+3000.
+-- The bytes of U+3000.
 abbrev pub longSpace : ℕ → ℕ → ℕ → Bool
-longSpace a b c = eqb b 0x80 && (eqb a 0xE2 && eqb c 0xAF || eqb a 0xE3 && eqb c 0x80)
+longSpace a b c = eqb a 0xE3 && eqb b 0x80 && eqb c 0x80
 
 -- White space of so many bytes that counts as a space stands at a position: a word ends before it, and a space run starts with it.
 pub record Blank (t : List ℕ) (at n : ℕ) : Type 0 where

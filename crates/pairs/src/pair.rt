@@ -36,14 +36,14 @@ fn no_pair() -> Pair
     }
 }
 
-// U+202F and U+3000, neither of which glues (glue.rt).
+// U+3000, which does not glue (glue.rt).
 fn is_long_space(a: u8, b: u8, c: u8) -> bool
     ensures { λ r. ⌜ r ≡ longSpace a b c ⌝ }
 {
-    (b == 0x80) & (((a == 0xE2) & (c == 0xAF)) | ((a == 0xE3) & (c == 0x80)))
+    (a == 0xE3) & (b == 0x80) & (c == 0x80)
 }
 
-// Does one of them stand at a position.
+// Does it stand at a position.
 fn long_space_at(text: &[u8], at: usize) -> bool
     ensures { λ r. ⌜ (r ≡ true → Blank (now (text .entry)) at 3) ⌝ }
 {

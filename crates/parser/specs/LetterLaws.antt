@@ -1,23 +1,25 @@
 -- The characters of a word, told by their bytes: ASCII, letters of two and three bytes, and what glues; and what ends it.
 -- Assumes nothing.
 use mathlib.Core.Path.{_≡_, refl, ap, subst, _∙_}
-use mathlib.Core.Bool.{Bool, true, false}
+use mathlib.Core.Logic.{inl}
+use mathlib.Core.Bool.{Bool, true, false, _&&_, _||_}
 use mathlib.Core.List.{List}
 use Prim.Native.Nat.{ℕ, _+_, _-_, _≤_, _<_}
 use native.Mathlib.Omega.{arith}
 use borrow.Author.Tests.{lt-ltb, ltb-true, ltb-false, eqb-true}
 use lib.Dec.{ltb, eqb}
 use lib.ListN.{length, getD}
-use Rattle.basis.specs.Choice.{pick, pick-cases, by-either}
-use Rattle.unicode.specs.Decoding.{value2}
+use Rattle.basis.specs.Choice.{pick, pick-cases, and-true, by-either}
+use Rattle.unicode.specs.Decoding.{value2, value3, decodeAt}
+use Rattle.unicode.specs.Rows.{Three}
 use Rattle.unicode.specs.Ascii.{decode-ascii}
-use Rattle.unicode.specs.Long.{Long, decode-two}
+use Rattle.unicode.specs.Long.{Long, decode-two, decode-three}
 use Rattle.unicode.specs.declared.sequence.Decoded.the-variants.{Char}
 use Rattle.meaning.specs.Characters.{glue, inWord, inRun}
 use Rattle.parser.specs.Lexing.{charsFrom}
 use Rattle.parser.specs.Scanning.{glueOf, spaceOf, scannedAt, scanFrom}
 use Rattle.parser.specs.Ascii.{plain, plainAt, isEnder, enderAt, plain-range, plain-byte}
-use Rattle.parser.specs.Letters.{Spells, Letter, Glues, GoesOn, Lettered, Ends}
+use Rattle.parser.specs.Letters.{longGlue, Spells, Letter, Glues, GoesOn, Lettered, Ends}
 use Rattle.parser.specs.GlueLaws.{glue-word, low-glue, black-glue, glue-some, glue-none, glue-one}
 use Rattle.parser.specs.CharacterLaws.{word-no-run, ascii-word, high-word}
 use Rattle.parser.specs.ScanLaws.{scan-more, scan-stop, scan-past, char-room}
@@ -48,16 +50,43 @@ module _ (t : List ℕ) (at : ℕ) where
       let g = black-glue c (b .solid) in
       record { char = c; is = x .is; word = high-word c (omega arith) (b .shown) g (λ e. omega arith) ∙ rw (b .solid); glue = glue-none c g }
 
+  glues-char : (c n : ℕ) → decodeAt t at ≡ Char c n → glue c ≡ true → Glues t at n
+  glues-char c n d g = record { char = c; is = d; word = glue-word c g .0; glue = glue-some c g }
+
   -- The bytes C2 A0, which are U+00A0.
   pub glues-here : at + 2 ≤ length t → getD t at 0 ≡ 0xC2 → getD t (at + 1) 0 ≡ 0xA0 → Glues t at 2
   unfolding glue
   glues-here h p q =
-      record {
-        char = 0x00A0;
-        is = decode-two t at h (record { lead = omega arith; second = omega arith }) ∙ (λ i. Char (value2 (p i) (q i)) 2);
-        word = glue-word 0x00A0 refl .0;
-        glue = glue-some 0x00A0 refl;
-      }
+      glues-char 0x00A0 2 (decode-two t at h (record { lead = omega arith; second = omega arith }) ∙ (λ i. Char (value2 (p i) (q i)) 2)) refl
+
+  -- Three bytes: E2 80 87, which are U+2007, and E2 80 AF, which are U+202F.
+  module _ (h : at + 3 ≤ length t) where
+    abbrev A : ℕ
+    A = getD t at 0
+
+    abbrev B : ℕ
+    B = getD t (at + 1) 0
+
+    abbrev C : ℕ
+    C = getD t (at + 2) 0
+
+    glues-three : (c : ℕ) → Three A B C → value3 A B C ≡ c → glue c ≡ true → Glues t at 3
+    glues-three c x v = glues-char c 3 (decode-three t at h x ∙ ap (λ (k : ℕ). Char k 3) v)
+
+    pub glues-long : longGlue A B C ≡ true → Glues t at 3
+    unfolding glue
+    glues-long e =
+        let f = and-true (eqb A 0xE2 && eqb B 0x80) (eqb C 0x87 || eqb C 0xAF) e in
+        let g = and-true (eqb A 0xE2) (eqb B 0x80) (f .0) in
+        let a = eqb-true A 0xE2 (g .0) in
+        let b = eqb-true B 0x80 (g .1) in
+        by-either (eqb C 0x87) (eqb C 0xAF) (f .1)
+        (λ p.
+        let c = eqb-true C 0x87 p in
+        glues-three 0x2007 (record { lead = omega arith; second = omega arith; third = omega arith; long = omega arith; scalar = inl (omega arith) }) (omega arith) refl)
+        (λ p.
+        let c = eqb-true C 0xAF p in
+        glues-three 0x202F (record { lead = omega arith; second = omega arith; third = omega arith; long = omega arith; scalar = inl (omega arith) }) (omega arith) refl)
 
   pub spells-room : (n g : ℕ) → Spells t at n g → (1 ≤ n) × (n ≤ 4) × (at + n ≤ length t)
   spells-room n g x = char-room t at (x .char) n (x .is)

@@ -1,15 +1,20 @@
 -- The characters of a word as a scan meets them in a text, and what ends it.
 -- Assumes nothing.
 use mathlib.Core.Path.{_≡_}
-use mathlib.Core.Bool.{true}
+use mathlib.Core.Bool.{Bool, true, _&&_, _||_}
 use mathlib.Core.List.{List}
 use Prim.Native.Nat.{ℕ, _+_, _-_, _≤_}
+use lib.Dec.{eqb}
 use lib.ListN.{length}
 use Rattle.unicode.specs.Decoding.{decodeAt}
 use Rattle.unicode.specs.declared.sequence.Decoded.the-variants.{Char}
 use Rattle.meaning.specs.Characters.{inWord}
 use Rattle.parser.specs.Lexing.{charsFrom}
 use Rattle.parser.specs.Scanning.{glueOf, scannedAt, scanFrom}
+
+-- The bytes of U+2007 and of U+202F.
+abbrev pub longGlue : ℕ → ℕ → ℕ → Bool
+longGlue a b c = eqb a 0xE2 && eqb b 0x80 && (eqb c 0x87 || eqb c 0xAF)
 
 -- A character of words stands at a position and has so many bytes; of the one character so many glue.
 pub record Spells (t : List ℕ) (at n glues : ℕ) : Type 0 where
