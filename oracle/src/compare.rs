@@ -3,7 +3,7 @@
 #[cfg(library)]
 use crate::library;
 use crate::tally::{Tally, ALIGNMENTS};
-use crate::{model, show};
+use crate::{glue, model, show};
 use shape::*;
 use std::panic::{catch_unwind, AssertUnwindSafe};
 
@@ -83,6 +83,14 @@ impl Sides {
     pub fn tokens(&mut self, text: &str, tally: &mut Tally) {
         self.text.take_apart(text);
         self.text.tokens(&mut self.model_tokens);
+        if !glue::splits(text) {
+            self.crate_tokens(text, tally);
+        }
+        #[cfg(library)]
+        self.library_tokens(text, tally);
+    }
+
+    fn crate_tokens(&mut self, text: &str, tally: &mut Tally) {
         checked::tokens(text, &mut self.crate_tokens);
         tally.token_texts += 1;
         tally.tokens += self.crate_tokens.len() as u64;
@@ -90,8 +98,6 @@ impl Sides {
             let details = || format!("  crate {:?}\n  rules {:?}\n", self.crate_tokens, self.model_tokens);
             Tally::note(&mut tally.unexplained, "tokens".into(), &crate::EXAMPLE, text, details);
         }
-        #[cfg(library)]
-        self.library_tokens(text, tally);
     }
 
     /// Lays a text, whose tokens were compared before, on every side, and compares; and then lays it where words wait. A deep look
@@ -99,9 +105,19 @@ impl Sides {
     pub fn layout(&mut self, settings: &Settings, text: &str, deep: bool, tally: &mut Tally) {
         assert_eq!(settings.wrap, 0, "the crate knows the old rule alone");
         tally.cases += 1;
-        let outside = checked::lay(settings, text, true, &mut self.krate);
         let beyond = model::lay(settings, RULES, &self.text, &mut self.measure, &mut self.model);
         self.inside(settings, text, &self.model, tally);
+        if glue::splits(text) {
+            self.like_no_break(settings, text, deep, tally);
+        } else {
+            self.like_crate(settings, text, deep, beyond, tally);
+        }
+        self.waits(settings, text, deep, tally);
+    }
+
+    /// The case that was just laid by the rules, by the crate. Beyond: a tab does not fit.
+    fn like_crate(&mut self, settings: &Settings, text: &str, deep: bool, beyond: bool, tally: &mut Tally) {
+        let outside = checked::lay(settings, text, true, &mut self.krate);
 
         #[cfg(library)]
         if self.library_layout(settings, text, deep, tally) && outside == Outside::default() && !beyond {
@@ -125,7 +141,6 @@ impl Sides {
         } else {
             self.hold_crate(settings, text, deep, outside, tally);
         }
-        self.waits(settings, text, deep, tally);
     }
 
     /// Every tab fits: the crate's layout is the rules', without a way of its own.

@@ -1,7 +1,8 @@
 //! Cases by chance in the form of the definitions' own examples, as a module that the prover computes: so the definitions
 //! themselves are held to the crate, with no running code in between.
 
-use crate::{model, random, show, EXAMPLE};
+use crate::runs::ALPHABET;
+use crate::{glue, model, random, show, EXAMPLE};
 use shape::*;
 use std::fmt::Write;
 
@@ -79,6 +80,13 @@ fn settings(chance: &mut random::Chance) -> Settings {
     }
 }
 
+/// Up to nine characters of the alphabet; in one text of four U+2007 and U+202F may be among them.
+fn text(chance: &mut random::Chance) -> String {
+    let more: &[char] = if chance.below(4) == 0 { &['\u{2007}', '\u{202f}'] } else { &[] };
+    let alphabet = [&ALPHABET[..], more].concat();
+    (0..chance.below(10)).map(|_| chance.pick(&alphabet)).collect()
+}
+
 /// Writes a module of some cases to standard output. How many of them are the crate's own goes to standard error; the
 /// others are the rules' layouts: where words wait, and where the crate is outside the domain.
 pub fn write(count: u64, seed: u64) -> bool {
@@ -89,10 +97,11 @@ pub fn write(count: u64, seed: u64) -> bool {
     let mut out = String::from(HEAD);
     for number in 0..count {
         let settings = settings(&mut chance);
-        let text: String = (0..chance.below(10)).map(|_| crate::runs::ALPHABET[chance.below(12) as usize]).collect();
+        let text = text(&mut chance);
         apart.take_apart(&text);
         let beyond = model::lay(&settings, model::Ways::default(), &apart, &mut Vec::new(), &mut rules);
-        let comparable = settings.wrap == 0 && !beyond && checked::lay(&settings, &text, true, &mut krate) == Outside::default();
+        let in_domain = settings.wrap == 0 && !beyond && !glue::splits(&text);
+        let comparable = in_domain && checked::lay(&settings, &text, true, &mut krate) == Outside::default();
         if comparable && crate::compare::difference(&krate, &rules).is_none() {
             own += 1;
         } else {

@@ -1,7 +1,7 @@
 //! The examples: those of the scope, by hand, and those of the definitions' tables, read from their files. Each is held to
 //! the rules, and to the crate unless words wait or a tab does not fit.
 
-use crate::{antt, model, show, EXAMPLE};
+use crate::{antt, glue, model, show, EXAMPLE};
 use shape::*;
 
 use embedded_text_checked::plugin::probe as checked;
@@ -29,14 +29,17 @@ impl Claims {
     }
 }
 
-/// The tokens of a text, by the crate and by the rules.
-fn both_tokens(text: &str) -> [(&'static str, Vec<Token>); 2] {
+/// The tokens of a text, by the rules, and by the crate where U+2007 and U+202F do not keep it out of the domain.
+fn tokens_by_side(text: &str) -> Vec<(&'static str, Vec<Token>)> {
     let mut apart = model::Text::default();
     apart.take_apart(text);
     let (mut krate, mut rules) = (Vec::new(), Vec::new());
-    checked::tokens(text, &mut krate);
     apart.tokens(&mut rules);
-    [("crate", krate), ("rules", rules)]
+    if glue::splits(text) {
+        return vec![("rules", rules)];
+    }
+    checked::tokens(text, &mut krate);
+    vec![("crate", krate), ("rules", rules)]
 }
 
 /// The crate's layout, from the crate with wrapping arithmetic where a line is measured wider than the box: the crate that checks
@@ -132,7 +135,7 @@ fn hold_crate(claims: &mut Claims, settings: &Settings, text: &str, lines: &[Vec
 fn hold(claims: &mut Claims, settings: &Settings, text: &str, lines: &[Vec<u32>], events: Option<&[Vec<u32>]>) {
     let name = format!("{} at {}", show::text(text), show::settings(settings, false));
     let (rules, beyond) = by_rules(settings, text);
-    if settings.wrap == 0 && !beyond {
+    if settings.wrap == 0 && !beyond && !glue::splits(text) {
         hold_crate(claims, settings, text, lines, events);
     }
     let found = ten(&rules);
@@ -180,7 +183,7 @@ fn tokens(claims: &mut Claims, specs: &str) {
     for example in antt::table(&file(specs, "SmallExamples.antt"), "tokenExamples") {
         let (_, values) = example.applied();
         let (text, rows) = (values[0].text(), values[1].rows());
-        for (side, found) in both_tokens(text) {
+        for (side, found) in tokens_by_side(text) {
             let found: Vec<_> = found.iter().map(|t| vec![t.kind, t.start, t.end, t.count]).collect();
             claims.claim(found == rows, || format!("tokens of {}\n  {side}   {found:?}\n  example {rows:?}", show::text(text)));
         }
@@ -356,7 +359,7 @@ fn scope(claims: &mut Claims, _specs: &str) {
     }
 
     let text = " \u{200b} ";
-    for (side, found) in both_tokens(text) {
+    for (side, found) in tokens_by_side(text) {
         let good = found == [Token { kind: WHITESPACE, start: 0, end: 5, count: 2 }];
         claims.claim(good, || format!("{side}: space ZWSP space: one Whitespace(2): {found:?}"));
     }

@@ -1,8 +1,8 @@
 //! What the rules keep inside the box, now that a tab goes no further than its edge (#102). The crate is asked nothing.
 
 use crate::compare::Sides;
-use crate::show;
 use crate::tally::Tally;
+use crate::{model, show};
 use shape::*;
 
 /// The events of each line.
@@ -21,11 +21,11 @@ impl Sides {
             Tally::note(&mut tally.unexplained, key, settings, text, || show::laid(laid));
         }
         let past = |event: &&Event| event.x + event.width as i32 > settings.width as i32;
-        let glues = |event: &Event| &text[event.start as usize..event.end as usize] == "\u{a0}";
+        let glues = |event: &Event| text[event.start as usize..event.end as usize].contains(model::glues);
         for events in by_line(laid) {
             let Some(first) = events.iter().find(past) else { continue };
             if settings.alignment == 3 && events.iter().any(glues) {
-                let key = format!("a {} of a justified line with U+00A0", ["space", "print", "move"][first.kind as usize]);
+                let key = format!("a {} of a justified line that glues", ["space", "print", "move"][first.kind as usize]);
                 Tally::note(&mut tally.past_edge, key, settings, text, || show::laid(laid));
             } else {
                 let key = "an event by the rules ends outside the box".into();

@@ -14,6 +14,7 @@ mod definitions;
 #[cfg(library)]
 mod edits;
 mod examples;
+mod glue;
 mod inside;
 #[cfg(library)]
 mod library;
@@ -54,6 +55,7 @@ usage: oracle examples SPECS            the scope's examples, and those of the d
        oracle short LENGTH              every text of up to LENGTH characters, at every setting of a spread
        oracle longer LENGTH BOXES       every text of LENGTH characters, in some boxes of those where classes meet
        oracle dense LENGTH              every text of up to LENGTH of five kinds of character, in narrow boxes
+       oracle glued LENGTH              every text of up to LENGTH of what glues and three others, in the same boxes
        oracle random COUNT SEED         texts and settings by chance
        oracle large COUNT SEED          the same with texts of up to 65,535 bytes
        oracle edits COUNT SEED          edits by chance, laid again by the library and laid afresh
@@ -82,6 +84,7 @@ fn main() {
             length.parse().ok().zip(boxes.parse().ok()).map(|(length, boxes)| runs::longer(length, boxes))
         }
         ["dense", length] => length.parse().ok().map(runs::dense),
+        ["glued", length] => length.parse().ok().map(runs::glued),
         ["large", count, seed] => count.parse().ok().zip(seed.parse().ok()).map(|(count, seed)| runs::large(count, seed)),
         ["random", count, seed] => count.parse().ok().zip(seed.parse().ok()).map(|(count, seed)| runs::random(count, seed)),
         ["definitions", count, seed] => {

@@ -26,18 +26,22 @@ pub fn is_white(c: char) -> bool {
         0x9..=0xD | 0x20 | 0x85 | 0xA0 | 0x1680 | 0x2000..=0x200A | 0x2028 | 0x2029 | 0x202F | 0x205F | 0x3000)
 }
 
-const NO_BREAK: char = '\u{a0}';
 const ZERO_WIDTH: char = '\u{200b}';
 const SOFT_HYPHEN: char = '\u{ad}';
 
-/// Rule 2: "all but white space, U+200B and U+00AD; U+00A0 is one".
-fn in_word(c: char) -> bool {
-    c == NO_BREAK || !(is_white(c) || c == ZERO_WIDTH || c == SOFT_HYPHEN)
+/// Rules 2 and 8: white space that is of words, and is drawn as one space.
+pub fn glues(c: char) -> bool {
+    matches!(c, '\u{a0}' | '\u{2007}' | '\u{202f}')
 }
 
-/// Rule 2: what a run of spaces may go on with. LF, CR, tab and U+00A0 have tokens of their own.
+/// Rule 2: "all but white space, U+200B and U+00AD; but U+00A0, U+2007 and U+202F belong to words".
+fn in_word(c: char) -> bool {
+    glues(c) || !(is_white(c) || c == ZERO_WIDTH || c == SOFT_HYPHEN)
+}
+
+/// Rule 2: what a run of spaces may go on with. LF, CR, tab and what glues have tokens of their own.
 fn in_run(c: char) -> bool {
-    c == ZERO_WIDTH || (is_white(c) && !matches!(c, '\n' | '\r' | '\t' | NO_BREAK))
+    c == ZERO_WIDTH || (is_white(c) && !glues(c) && !matches!(c, '\n' | '\r' | '\t'))
 }
 
 /// A token as a stretch of characters, by their numbers.
@@ -282,12 +286,12 @@ impl<'t> Pass<'t> {
         }
     }
 
-    /// Rule 8: a printed word: its parts between U+00A0, each of those a space, and a last part that may be empty.
+    /// Rule 8: a printed word: its parts between what glues, each of those a space, and a last part that may be empty.
     fn print(&mut self, events: &mut Vec<Event>, from: usize, to: usize) {
         self.empty = false;
         let mut part = from;
         for at in from..to {
-            if self.text.chars[at] == NO_BREAK {
+            if glues(self.text.chars[at]) {
                 if part < at {
                     self.print_part(events, part, at);
                 }

@@ -68,7 +68,7 @@ pub fn settings_of_both(chance: &mut Chance) -> Settings {
     Settings { wrap: chance.below(2), ..settings(chance) }
 }
 
-/// White space that starts or goes on with a run.
+/// White space that starts or goes on with a run, and the two of it that glue here and not in the crate.
 const RUNS: [char; 21] = [
     ' ', '\u{b}', '\u{c}', '\u{85}', '\u{1680}', '\u{2000}', '\u{2001}', '\u{2002}', '\u{2003}', '\u{2004}', '\u{2005}',
     '\u{2006}', '\u{2007}', '\u{2008}', '\u{2009}', '\u{200a}', '\u{2028}', '\u{2029}', '\u{202f}', '\u{205f}', '\u{3000}',

@@ -5,7 +5,7 @@
 //! scope says; the others are counted by reason.
 
 use crate::runs::{spread, ALPHABET};
-use crate::{compare, model, random, EXAMPLE};
+use crate::{compare, glue, model, random, EXAMPLE};
 use shape::*;
 use std::collections::HashSet;
 use std::fmt::Write;
@@ -22,14 +22,16 @@ const MOST_EVENTS: usize = 200;
 const LONGEST: usize = 40;
 
 /// Why a case is left out.
-const REASONS: [&str; 3] = [
+const REASONS: [&str; 4] = [
     "outside the domain: a tab does not fit, and carries the cursor to the edge here",
     "outside the domain: a cut run of spaces holds U+200B",
     "more tokens, lines or events than a line of this file may hold",
+    "outside the domain: U+2007 or U+202F, which glue here and are spaces in the crate",
 ];
 const TAB_BEYOND: usize = 0;
 const CUT: usize = 1;
 const TOO_LARGE: usize = 2;
+const SPLIT: usize = 3;
 
 /// The classes of character, as the header counts them.
 const CLASSES: [&str; 12] = [
@@ -137,7 +139,7 @@ impl Coverage {
 struct Sample {
     cases: Vec<String>,
     seen: HashSet<([u32; 6], String)>,
-    left_out: [u64; 3],
+    left_out: [u64; 4],
     coverage: Coverage,
     apart: model::Text,
     tokens: Vec<Token>,
@@ -154,6 +156,9 @@ fn six(s: &Settings) -> [u32; 6] {
 impl Sample {
     /// Lays one text by the crate, and by the rules to know why it is left out, if it is.
     fn lay(&mut self, settings: &Settings, text: &str) -> Result<(), usize> {
+        if glue::splits(text) {
+            return Err(SPLIT);
+        }
         self.apart.take_apart(text);
         self.apart.tokens(&mut self.tokens);
         let by_rules = self.tokens.clone();

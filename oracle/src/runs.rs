@@ -13,6 +13,9 @@ pub const ALPHABET: [char; 12] = ['a', ' ', '\u{2003}', '\u{a0}', '\u{200b}', '\
 /// The characters whose widths depend on one another in a line.
 pub const DENSE: [char; 5] = ['a', ' ', '\t', '\u{a0}', '\u{ad}'];
 
+/// What glues, which is of words, and what its widths depend on.
+pub const GLUED: [char; 6] = ['a', ' ', '\u{a0}', '\u{2007}', '\u{202f}', '\n'];
+
 /// A line on standard error, now and then.
 pub struct Progress {
     begun: Instant,
@@ -109,6 +112,11 @@ pub fn longer(length: u32, boxes: usize) -> bool {
 /// Every text of up to some characters whose widths depend on one another.
 pub fn dense(longest: u32) -> bool {
     every(&DENSE, 0..=longest, &narrow(), usize::MAX)
+}
+
+/// Every text of up to some characters of words that are glued.
+pub fn glued(longest: u32) -> bool {
+    every(&GLUED, 0..=longest, &narrow(), usize::MAX)
 }
 
 /// Every text of some lengths over an alphabet, at the settings of some of the boxes, or of all if there are not so many.

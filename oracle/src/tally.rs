@@ -46,6 +46,8 @@ pub struct Tally {
     pub overflow_same: u64,
     pub cut: u64,
     pub cut_same: u64,
+    /// Layouts of texts with U+2007 or U+202F, which are not lent to the crate, and not counted among its token lists.
+    pub glued: u64,
     /// Layouts where words wait; those of them that drop nothing by the old rule, and are the same; those that are others than by the
     /// old rule; and those that drop something by the old rule and, left aligned and with room for a glyph, must not.
     pub waiting: u64,
@@ -103,6 +105,7 @@ impl Tally {
             self.tabs, self.tabs_same, self.overflow, self.overflow_same
         );
         println!("  outside: U+200B in a cut   {}  (by rule 9 as stand-in the same all the same: {})", self.cut, self.cut_same);
+        println!("  outside: U+2007 or U+202F  {}  (held to the rules with U+00A0 in their place)", self.glued);
         println!("token lists compared         {}  ({} tokens)", self.token_texts, self.tokens);
         println!("drawn by the whole text box  {}  (heights compared: {})", self.drawn, self.heights);
         println!("lent without the guard       {}", self.unguarded);

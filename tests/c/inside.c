@@ -20,11 +20,19 @@ static uint32_t table[LINE * (BYTES + 1)], drawn[EVENT * BYTES];
 /* How many texts were of a kind that matters. */
 static unsigned long to_the_edge, past_the_edge;
 
-/* U+00A0 is C2 A0, and no other character has these two bytes side by side. */
+/* U+00A0 is C2 A0, U+2007 is E2 80 87, U+202F is E2 80 AF. No other character has these bytes side by side. */
+static int glue_at(const uint8_t *text, size_t left)
+{
+    if (left < 3 || text[0] != 0xE2) {
+        return left >= 2 && text[0] == 0xC2 && text[1] == 0xA0;
+    }
+    return text[1] == 0x80 && (text[2] == 0x87 || text[2] == 0xAF);
+}
+
 static int has_glue(const uint8_t *text, size_t len)
 {
-    for (size_t i = 0; i + 1 < len; i++) {
-        if (text[i] == 0xC2 && text[i + 1] == 0xA0) {
+    for (size_t i = 0; i < len; i++) {
+        if (glue_at(text + i, len - i)) {
             return 1;
         }
     }
@@ -78,7 +86,7 @@ void test_inside(void)
         snprintf(what, sizeof what, "text %lu in its box", i);
         one_text(what, random_settings());
     }
-    printf("%d texts: %lu with a move to the edge; %lu justified, with U+00A0, past it\n", TEXTS, to_the_edge,
+    printf("%d texts: %lu with a move to the edge; %lu justified, with a character that glues, past it\n", TEXTS, to_the_edge,
            past_the_edge);
     expect("texts with a move to the edge, and past it", to_the_edge >= TEXTS / 100 && past_the_edge >= 10);
 }
