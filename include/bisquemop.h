@@ -149,9 +149,10 @@ enum bisquemop_kind {
     BISQUEMOP_KIND_NEW_LINE = 0,        /* U+000A */
     BISQUEMOP_KIND_CARRIAGE_RETURN = 1, /* U+000D */
     BISQUEMOP_KIND_TAB = 2,             /* U+0009 */
-    BISQUEMOP_KIND_WHITESPACE = 3,      /* other white space as long as it goes on, U+00A0 not being one, and U+200B,
-                                           which counts 0 and stands alone where a token starts with it */
-    BISQUEMOP_KIND_WORD = 4,            /* other characters, U+00A0 among them, as long as they go on */
+    BISQUEMOP_KIND_WHITESPACE = 3,      /* other white space as long as it goes on, but not U+00A0, U+2007 and U+202F;
+                                           and U+200B, which counts 0 and stands alone where a token starts with it */
+    BISQUEMOP_KIND_WORD = 4,            /* other characters as long as they go on. U+00A0, U+2007 and U+202F are among
+                                           them: they glue, so that no line breaks at them unless it breaks the word */
     BISQUEMOP_KIND_BREAK = 5            /* U+00AD, where a word may be broken */
 };
 
@@ -168,10 +169,12 @@ enum bisquemop_event_column {
 
 /* What an event is. Only printed ones show, but others move the pen too. */
 enum bisquemop_drawn {
-    BISQUEMOP_DRAWN_SPACE = 0,   /* spaces, U+00A0, a tab, or the U+000A or U+000D that ends the line, which is 0 wide,
-                                    as spaces at the start or the end of a line are where the setting is off */
+    BISQUEMOP_DRAWN_SPACE = 0,   /* spaces, one gluing character of a word, a tab, or the U+000A or U+000D that ends the
+                                    line, which is 0 wide, as spaces at a line's start or end are where the setting is
+                                    off */
     BISQUEMOP_DRAWN_PRINTED = 1, /* the characters of its bytes, which are of a word; "-" if its bytes are U+00AD's;
-                                    nothing if it has no bytes, as at the end of a word that ends in U+00A0 */
+                                    nothing if it has no bytes, as at the end of a word that ends in a gluing
+                                    character */
     BISQUEMOP_DRAWN_MOVE = 2     /* a tab that does not fit, as wide as the room up to the box's right side, or one at a
                                     line's end where `trailing` is off */
 };

@@ -38,7 +38,7 @@ static const uint32_t white_space[] = {0x09,   0x0A,   0x0B,   0x0C,   0x0D,   0
 static const uint32_t mixes[KINDS][MIX] = {
     {'a', 'b', 'c', 'd', ' ', ' ', ' ', '\n', '\r', '\t', 0xA0, 0xAD, 0xE9, 0x200B, 0x3000, 0x1F600},
     {'a', 'b', ' ', ' ', ' ', ' ', ' ', ' ', ' ', ' ', '\n', 0x3000, 0x3000, 0x200B, 0x85, '\t'},
-    {'a', 'b', 'c', 'd', 'e', 'f', 'g', ' ', ' ', 0xA0, 0xA0, 0xAD, 0xAD, 0xE9, '\n', 0x1F600},
+    {'a', 'b', 'c', 'd', 'e', 'f', 'g', ' ', ' ', 0xA0, 0x202F, 0xAD, 0xAD, 0xE9, '\n', 0x1F600},
     {'a', 'b', 'c', 'd', 'e', 'f', 'g', 'h', 'i', 'j', 'k', 0xE9, ' ', ' ', ' ', '\n'},
 };
 

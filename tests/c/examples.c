@@ -6,6 +6,8 @@
 
 #define SHY "\xC2\xAD"
 #define NBSP "\xC2\xA0"
+#define FIGURE "\xE2\x80\x87"
+#define NARROW "\xE2\x80\xAF"
 
 struct bisquemop_settings laid(uint32_t glyph, uint32_t width, uint32_t alignment, uint32_t leading, uint32_t trailing,
                                uint32_t wrap)
@@ -235,6 +237,46 @@ const struct example examples[] = {
     {6, 30, LEFT, 0, 0, DROP, "\tx",
      1, {0, 0, 0, 2, 0, 6, 0, 6, 0, 3},
      1, {PRINTED, 1, 2, 0, 6, 0}},
+
+    /* ---- U+2007 and U+202F, which glue as U+00A0 does: those that the definitions are held to */
+
+    /* a number: cut like any word, whole, and waiting whole behind another word */
+    {6, 24, LEFT, 1, 0, DROP, "12" NARROW "345",
+     2, {0, 0, 0, 3, 0, 6, 0, 24, 0, 9, /**/ 6, 0, 0, 2, 0, 6, 0, 12, 0, 9},
+     4, {PRINTED, 0, 2, 0, 12, 0, /**/ SPACE, 2, 5, 1, 6, 12, /**/ PRINTED, 5, 6, 0, 6, 18, /**/
+         PRINTED, 6, 8, 0, 12, 0}},
+    {6, 36, LEFT, 1, 0, DROP, "12" NARROW "345",
+     1, {0, 0, 0, 2, 0, 6, 0, 36, 0, 9},
+     3, {PRINTED, 0, 2, 0, 12, 0, /**/ SPACE, 2, 5, 1, 6, 12, /**/ PRINTED, 5, 8, 0, 18, 18}},
+    {6, 48, LEFT, 1, 0, DROP, "ab 12" NARROW "345",
+     2, {0, 0, 0, 3, 0, 6, 0, 12, 0, 12, /**/ 3, 0, 0, 2, 0, 6, 0, 36, 0, 12},
+     5, {PRINTED, 0, 2, 0, 12, 0, /**/ SPACE, 2, 3, 1, 0, 12, /**/ PRINTED, 3, 5, 0, 12, 0, /**/
+         SPACE, 5, 8, 1, 6, 12, /**/ PRINTED, 8, 11, 0, 18, 18}},
+    /* lines that begin and end with each of the three; leading spaces are off, and none is skipped */
+    {6, 30, LEFT, 0, 0, DROP, NBSP "a" NBSP "\n" FIGURE "b" FIGURE "\n" NARROW "c" NARROW,
+     3, {0, 0, 0, 0, 0, 6, 0, 18, 0, 6, /**/ 6, 0, 0, 0, 0, 6, 0, 18, 0, 14, /**/ 14, 0, 0, 2, 0, 6, 0, 18, 0, 22},
+     14, {SPACE, 0, 2, 1, 6, 0, /**/ PRINTED, 2, 3, 0, 6, 6, /**/ SPACE, 3, 5, 1, 6, 12, /**/
+          PRINTED, 5, 5, 0, 0, 18, /**/ SPACE, 5, 6, 0, 0, 18, /**/ SPACE, 6, 9, 1, 6, 0, /**/
+          PRINTED, 9, 10, 0, 6, 6, /**/ SPACE, 10, 13, 1, 6, 12, /**/ PRINTED, 13, 13, 0, 0, 18, /**/
+          SPACE, 13, 14, 0, 0, 18, /**/ SPACE, 14, 17, 1, 6, 0, /**/ PRINTED, 17, 18, 0, 6, 6, /**/
+          SPACE, 18, 21, 1, 6, 12, /**/ PRINTED, 21, 21, 0, 0, 18}},
+    /* a word of the three alone, whole and cut into lines of one */
+    {6, 30, LEFT, 1, 0, DROP, NBSP FIGURE NARROW,
+     1, {0, 0, 0, 2, 0, 6, 0, 18, 0, 9},
+     4, {SPACE, 0, 2, 1, 6, 0, /**/ SPACE, 2, 5, 1, 6, 6, /**/ SPACE, 5, 8, 1, 6, 12, /**/ PRINTED, 8, 8, 0, 0, 18}},
+    {6, 6, LEFT, 1, 0, DROP, NBSP FIGURE NARROW,
+     3, {0, 0, 0, 3, 0, 6, 0, 6, 0, 9, /**/ 2, 0, 0, 3, 0, 6, 0, 6, 0, 9, /**/ 5, 0, 0, 2, 0, 6, 0, 6, 0, 9},
+     6, {SPACE, 0, 2, 1, 6, 0, /**/ PRINTED, 2, 2, 0, 0, 6, /**/ SPACE, 2, 5, 1, 6, 0, /**/
+         PRINTED, 5, 5, 0, 0, 6, /**/ SPACE, 5, 8, 1, 6, 0, /**/ PRINTED, 8, 8, 0, 0, 6}},
+    /* justified: each is as wide as the next space, the first has the extra pixel, and the line ends at the edge */
+    {6, 39, JUSTIFIED, 0, 0, DROP, "a" FIGURE "b" NARROW "c dd",
+     2, {0, 0, 0, 3, 0, 10, 1, 30, 0, 13, /**/ 10, 0, 0, 2, 0, 6, 0, 12, 0, 13},
+     6, {PRINTED, 0, 1, 0, 6, 0, /**/ SPACE, 1, 4, 1, 11, 6, /**/ PRINTED, 4, 5, 0, 6, 17, /**/
+         SPACE, 5, 8, 1, 10, 23, /**/ PRINTED, 8, 9, 0, 6, 33, /**/ PRINTED, 10, 12, 0, 12, 0}},
+    {6, 51, JUSTIFIED, 0, 0, DROP, "aa" NARROW "bb cc dd",
+     2, {0, 0, 0, 3, 0, 7, 1, 48, 0, 12, /**/ 11, 0, 0, 2, 0, 6, 0, 12, 0, 14},
+     6, {PRINTED, 0, 2, 0, 12, 0, /**/ SPACE, 2, 5, 1, 8, 12, /**/ PRINTED, 5, 7, 0, 12, 20, /**/
+         SPACE, 7, 8, 1, 7, 32, /**/ PRINTED, 8, 10, 0, 12, 39, /**/ PRINTED, 11, 13, 0, 12, 0}},
 
     /* ---- words that wait: those that the definitions are held to */
 

@@ -24,7 +24,7 @@ struct example {
     size_t count;
     uint32_t lines[4 * BISQUEMOP_LINE_NUMBERS];
     size_t event_count;
-    uint32_t events[7 * BISQUEMOP_EVENT_NUMBERS];
+    uint32_t events[14 * BISQUEMOP_EVENT_NUMBERS];
 };
 
 /* The first is the clue that lost a streak. */

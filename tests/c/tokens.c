@@ -51,6 +51,10 @@ static void test_examples(void)
         /* U+00A0 is part of a word; U+3000 and U+2003 are spaces like any other */
         {"\xC2\xA0\xC3\xA9\xE3\x80\x80\xE2\x80\x83", 2, {WORD, 0, 4, 0, SPACE, 4, 10, 2}},
         {"a\xC2\xA0" "b c", 3, {WORD, 0, 4, 0, SPACE, 4, 5, 1, WORD, 5, 6, 0}},
+        /* so are U+2007 and U+202F, but not the spaces beside them: U+2006, U+2008, U+2029, U+205F */
+        {"12\xE2\x80\xAF" "345", 1, {WORD, 0, 8, 0}},
+        {" \xE2\x80\xAF\xE2\x80\x87\xC2\xA0 ", 3, {SPACE, 0, 1, 1, WORD, 1, 9, 0, SPACE, 9, 10, 1}},
+        {"\xE2\x80\x86\xE2\x80\x88\xE2\x80\xA9\xE2\x81\x9F", 1, {SPACE, 0, 12, 4}},
         {"ab cde", 3, {WORD, 0, 2, 0, SPACE, 2, 3, 1, WORD, 3, 6, 0}},
         {"     not the",
          4,
@@ -83,14 +87,15 @@ static void add_token(uint32_t kind, size_t bytes, uint32_t spaces)
     length += bytes;
 }
 
-/* The kind of a character by itself: White_Space as the Unicode Standard lists it, and what rule 2 says. */
+/* The kind of a character by itself: White_Space as the Unicode Standard lists it, and what rule 2 says. U+00A0, U+2007
+   and U+202F are of words. */
 static uint32_t kind_of(uint32_t c)
 {
     if (c == 0x0A || c == 0x0D || c == 0x09 || c == 0xAD) {
         return c == 0x0A ? LF : c == 0x0D ? CR : c == 0x09 ? TAB : SHY;
     }
-    if (c == 0x0B || c == 0x0C || c == 0x20 || c == 0x85 || c == 0x1680 || (0x2000 <= c && c <= 0x200B) ||
-        c == 0x2028 || c == 0x2029 || c == 0x202F || c == 0x205F || c == 0x3000) {
+    if (c == 0x0B || c == 0x0C || c == 0x20 || c == 0x85 || c == 0x1680 || (0x2000 <= c && c <= 0x2006) ||
+        (0x2008 <= c && c <= 0x200B) || c == 0x2028 || c == 0x2029 || c == 0x205F || c == 0x3000) {
         return SPACE;
     }
     return WORD;
