@@ -1,5 +1,5 @@
-//! U+2007 and U+202F (#103). They hold words together here and are spaces in the crate, which is asked nothing of a text that has one:
-//! the library is held to the rules, and the rules to what the request promises of them.
+//! U+2007 and U+202F (#103). They hold words together here and are spaces in the crate, which is asked nothing of a text that has
+//! one: the library is held to the rules, and the rules to what the request promises of them.
 
 use crate::compare::{difference, Sides};
 use crate::tally::Tally;
@@ -43,7 +43,7 @@ fn carry(laid: &mut Laid, places: &[u32]) {
 }
 
 impl Sides {
-    /// The case that was just laid by the rules, with U+00A0 in place of the two: that is the same, but for the bytes that each has.
+    /// The case that was just laid by the rules, with U+00A0 in place of the two: it is the same, but for the bytes of each.
     pub fn like_no_break(&mut self, settings: &Settings, text: &str, deep: bool, tally: &mut Tally) {
         tally.glued += 1;
         Tally::note(&mut tally.outside, "U+2007 or U+202F".into(), settings, text, String::new);

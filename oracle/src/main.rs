@@ -155,6 +155,9 @@ fn unescape(text: &str) -> String {
 
 fn show_one(text: &str, settings: &Settings) -> bool {
     println!("{} at {}", show::text(text), show::settings(settings, true));
+    if glue::splits(text) {
+        println!("the crate takes U+2007 and U+202F for spaces, and is not asked");
+    }
     let (mut sides, mut tally) = (Sides::default(), Tally::default());
     sides.tokens(text, &mut tally);
     sides.layout(settings, text, true, &mut tally);
