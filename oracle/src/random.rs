@@ -156,11 +156,23 @@ pub fn large_text(chance: &mut Chance, text: &mut String) {
     }
 }
 
+/// U+2007 and U+202F keep a text from the crate. So of eight lengths one has them, in place of U+00A0 too, and the others have
+/// other white space in their place.
+fn by_length(c: char, len: u32, left: u32) -> char {
+    match (c, len % 8) {
+        ('\u{a0}', 0) => ['\u{a0}', '\u{2007}', '\u{202f}'][left as usize % 3],
+        (c, 0) => c,
+        ('\u{2007}', _) => '\u{2006}',
+        ('\u{202f}', _) => '\u{2029}',
+        (c, _) => c,
+    }
+}
+
 fn fill(chance: &mut Chance, mix: u32, len: u32, text: &mut String) {
     text.clear();
     let mut left = len;
     while left > 0 {
-        let c = character(chance, mix);
+        let c = by_length(character(chance, mix), len, left);
         // now and then the same character many times
         let times = if chance.below(12) == 0 { 1 + chance.below(7).min(left - 1) } else { 1 };
         for _ in 0..times {
