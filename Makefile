@@ -2,18 +2,29 @@
 PREFIX = /usr/local
 DESTDIR =
 VERSION = 0.1.0
+TARGET = $(patsubst armv7%,armv7,$(shell uname -m))-linux
 
-archive = target/staticlib/libbisquemop.a
+archive = target/$(TARGET)/libbisquemop.a
+module = target/module/bisquemop.ll
+compiling = scripts/build-target scripts/targets.sh
 sources = crates.txt $(shell find crates -name '*.rt' -o -name '*.antt')
 installed = lib/libbisquemop.a lib/pkgconfig/bisquemop.pc include/bisquemop.h
 to = $(DESTDIR)$(PREFIX)
 
-.PHONY: library install uninstall test help full-path
+.PHONY: library install uninstall test help full-path known-target parted
 
-library: $(archive)
+library: known-target $(archive)
 
-# Only what is proved is built.
-$(archive): $(sources)
+# An unknown target is refused before anything is proved.
+known-target:
+	@scripts/build-target --known '$(TARGET)'
+
+$(archive): $(module) $(compiling) | known-target
+	@scripts/build-target '$(TARGET)'
+
+# Only what is proved is built. The module and the archive that rt wrote with it belong together: where one of them has changed since,
+# they are made anew.
+$(module): $(sources) $(shell sha256sum --check --status target/module/sums 2>/dev/null || echo parted) | known-target
 	@scripts/build library
 	@touch $@
 
@@ -27,10 +38,10 @@ full-path:
 	[ -z "$$wrong" ] || { echo "make: PREFIX must be a full path without blanks, as in: make install PREFIX=/usr/local" >&2; exit 1; }
 
 install: full-path $(archive)
-	sed -e 's|@PREFIX@|$(PREFIX)|' -e 's|@VERSION@|$(VERSION)|' bisquemop.pc.in >target/bisquemop.pc
+	sed -e 's|@PREFIX@|$(PREFIX)|' -e 's|@VERSION@|$(VERSION)|' -e 's|@TARGET@|$(TARGET)|' bisquemop.pc.in >target/$(TARGET)/bisquemop.pc
 	install -d '$(to)/lib/pkgconfig' '$(to)/include'
 	install -m 644 $(archive) '$(to)/lib'
-	install -m 644 target/bisquemop.pc '$(to)/lib/pkgconfig'
+	install -m 644 target/$(TARGET)/bisquemop.pc '$(to)/lib/pkgconfig'
 	install -m 644 include/bisquemop.h '$(to)/include'
 
 uninstall: full-path
@@ -41,10 +52,13 @@ test:
 
 help:
 	@echo 'make                          prove the library and build $(archive)'
+	@echo 'make TARGET=NAME              the same for another machine: target/NAME/libbisquemop.a. NAME is one of'
+	@sh -c '. scripts/helpers.sh && . scripts/targets.sh && target_names' scripts/help | sed 's/^/                              /'
 	@echo 'make install PREFIX=FOLDER    install it: FOLDER/lib/libbisquemop.a, FOLDER/include/bisquemop.h and'
 	@echo '                              FOLDER/lib/pkgconfig/bisquemop.pc; by default FOLDER is /usr/local.'
-	@echo '                              DESTDIR=STAGE puts STAGE before each of these paths, as packagers need it'
+	@echo '                              DESTDIR=STAGE puts STAGE before each of these paths, as packagers need it,'
+	@echo '                              and TARGET=NAME installs the library for that machine'
 	@echo 'make uninstall PREFIX=FOLDER  remove them'
 	@echo 'make test                     all proofs and all tests'
 	@echo
-	@echo 'The Rattle kit has to be on the PATH for all but make uninstall. The library is for x86-64 Linux.'
+	@echo 'The Rattle kit has to be on the PATH for all but make uninstall.'

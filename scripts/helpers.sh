@@ -3,7 +3,7 @@
 # Set here:
 #   name      the script's own name, for what it says
 #   root      the repository's folder
-#   archive   where the library for C is when it is built
+#   archive   where the library is that rt writes, for x86-64
 # A script that installs, compiles or builds sets
 #   out       a folder for what it makes
 
@@ -91,51 +91,40 @@ needs_kit() {
     command -v rt >/dev/null || die "there is no command rt: put the Rattle kit's bin folder on the PATH"
 }
 
-# ---- programs for x86-64, which the library is for
-
-# Finds the kit's loader and C library, in $tools, and on a machine of another kind the kit's emulator.
-find_tools() {
+# Finds the kit, in $kit, and its tools for this machine, in $tools.
+find_kit() {
     needs_kit
-    tools=$(dirname "$(dirname "$(rt doc)")")/on/$(uname -m)/toolchain emulator=''
-    [ "$(uname -m)" != x86_64 ] || return 0
-    emulator=$tools/bin/qemu-x86_64
-    [ -x "$emulator" ] || die "the kit has no emulator at $emulator"
+    kit=$(dirname "$(dirname "$(rt doc)")")
+    tools=$kit/on/$(uname -m)/toolchain
 }
 
-# Does $cc compile, and link with the machine's C library, a program that does nothing.
-# shellcheck disable=SC2086
-links() { printf 'int main(void) { return 0; }\n' | "$cc" $static -x c -o "$out/nothing" - 2>/dev/null; }
-
-# Finds the compiler: $cc with $static makes programs that `emulated` runs.
-find_cc() {
-    mkdir -p "$out"
-    find_tools
-    cc=gcc static='' packages='gcc libc6-dev'
-    [ -z "$emulator" ] || cc=x86_64-linux-gnu-gcc static=-static packages='gcc-x86-64-linux-gnu libc6-dev-amd64-cross'
-    # shellcheck disable=SC2086
-    links || install_packages "C compiler for x86-64" $packages
-    links || die "$cc makes no programs"
-}
-
-# Compiles C, with any warning an error.
-# shellcheck disable=SC2086
-compile_c() { quietly "$out/cc.log" "$cc" -std=c99 -O2 -Wall -Wextra -Wpedantic -Werror $static -o "$@"; } # PROGRAM WORD..
-
-# Runs a program for x86-64 that needs nothing but this machine, and one that `rt check` made.
-emulated() { ${emulator:+"$emulator"} "$@"; } # PROGRAM WORD..
-run_program() { emulated "$tools/lib/ld-linux-x86-64.so.2" --library-path "$tools/lib" "$root/target/bin/$1"; } # NAME
-
-# Proves and builds the library for C, or a program, unless that is done already, and shows how far that is.
+# Proves and builds the library for C, for this machine, unless that is done already, and shows how far that is.
 build_library() {
     needs_kit
     needs make make
     make -s -C "$root" library >&2 || exit 1
 }
+
+# ---- the programs of the repository, which rt makes for x86-64
+
+# Finds the kit's loader and C library, in $tools, and on a machine of another kind the kit's emulator.
+find_tools() {
+    find_kit
+    emulator=''
+    [ "$(uname -m)" != x86_64 ] || return 0
+    emulator=$tools/bin/qemu-x86_64
+    [ -x "$emulator" ] || die "the kit has no emulator at $emulator"
+}
+
 build_program() { # NAME
     find_tools
     mkdir -p "$out"
     "$root/scripts/build" "$1" </dev/null || exit
 }
+
+# Runs a program for x86-64 that needs nothing but this machine, and one that `rt check` made.
+emulated() { ${emulator:+"$emulator"} "$@"; } # PROGRAM WORD..
+run_program() { emulated "$tools/lib/ld-linux-x86-64.so.2" --library-path "$tools/lib" "$root/target/bin/$1"; } # NAME
 
 # Runs a command in the repository's folder.
 in_root() { (cd "$root" && "$@"); }
