@@ -14,7 +14,7 @@
  *
  * Those that take thirteen settings have a twin bisquemop_settings_.. that takes a struct of them.
  *
- * Link with libbisquemop.a (x86-64 Linux). The header is C99, and C++ can include it too. It is the same on every
+ * Link with libbisquemop.a of your machine. The header is C99, and C++ can include it too. It is the same on every
  * machine: counts have 64 bits on machines of 32 bits too.
  *
  * What holds of every call:

@@ -1,0 +1,212 @@
+/*
+ * A digest of what the library answers to many cases, so that machines can be compared: random texts, settings, tables
+ * and edits, good ones and spoiled ones, given to every call. All that a call returns and all that it was lent go into
+ * the digest. The cases follow from a seed and are the same on every machine; none needs much memory.
+ *
+ * usage: digest [CASES]
+ */
+#include "chance.h"
+#include "sum.h"
+
+#include <inttypes.h>
+#include <stdio.h>
+#include <stdlib.h>
+
+enum {
+    SHORT = 160, /* bytes of most texts */
+    LONG = 4000, /* and of some */
+    TOKENS = BISQUEMOP_TOKEN_NUMBERS * LONG,
+    TABLE = BISQUEMOP_LINE_NUMBERS * (LONG + 1),
+    EVENTS = BISQUEMOP_EVENT_NUMBERS * LONG
+};
+
+/* A case: what the calls are given, and the buffers that they are lent. */
+static struct bisquemop_settings settings;
+static uint8_t text[LONG], edited[LONG], inserted[LONG];
+static uint64_t len;
+static uint32_t tokens[TOKENS], table[TABLE], events[EVENTS];
+static uint64_t lines;
+
+/* One time in so many. */
+static int seldom(uint32_t times)
+{
+    return below(times) == 0;
+}
+
+/* A length for a buffer: mostly all that a text of so many bytes can need, at times less. */
+static uint64_t random_room(uint64_t most)
+{
+    return seldom(6) ? below((uint32_t)most + 1) : most;
+}
+
+/* A number for a place where a small one is expected: any, one near zero, or one near the largest. */
+static uint32_t random_number(void)
+{
+    switch (below(3)) {
+    case 0:
+        return below(UINT32_MAX);
+    case 1:
+        return below(70000);
+    default:
+        return UINT32_MAX - below(4);
+    }
+}
+
+/* ---- the calls, each with all that it answers */
+
+/* How often each number was returned. */
+static unsigned long returned[BISQUEMOP_TOO_SMALL + 1];
+
+static void add_answer(uint32_t number, uint64_t value)
+{
+    if (number <= BISQUEMOP_TOO_SMALL) {
+        returned[number]++;
+    }
+    add_number(number);
+    add_long(value);
+}
+
+static void ask_checks(void)
+{
+    uint64_t value = 0;
+    uint32_t number = bisquemop_settings_check(&settings, &value);
+    add_answer(number, value);
+    number = bisquemop_check_text(text, len, &value);
+    add_answer(number, value);
+}
+
+static void ask_tokens(void)
+{
+    uint64_t value = 0, room = random_room(BISQUEMOP_TOKEN_NUMBERS * len);
+    uint32_t number = bisquemop_tokens(text, len, tokens, room, &value);
+    add_answer(number, value);
+    add_numbers(tokens, room);
+}
+
+static void ask_layout(void)
+{
+    uint64_t value = 0, room = random_room(BISQUEMOP_LINE_NUMBERS * (len + 1));
+    uint32_t number = bisquemop_settings_layout(&settings, text, len, table, room, &value);
+    add_answer(number, value);
+    add_numbers(table, room);
+}
+
+/* Leaves the table of the text, if it has one. */
+static void ask_events(void)
+{
+    uint64_t count = 0, room = random_room(BISQUEMOP_EVENT_NUMBERS * len), need = BISQUEMOP_LINE_NUMBERS * (len + 1);
+    uint32_t number = bisquemop_settings_layout_events(&settings, text, len, table, need, events, room, &lines, &count);
+    add_answer(number, lines);
+    add_long(count);
+    add_numbers(table, need);
+    add_numbers(events, room);
+    if (number != BISQUEMOP_OK) {
+        lines = 1 + below(3);
+    }
+}
+
+static void ask_places(void)
+{
+    uint64_t value = 0, line = below((uint32_t)lines + 2);
+    int32_t y = 0;
+    uint32_t number = bisquemop_settings_height(&settings, table, TABLE, lines, &value);
+    add_answer(number, value);
+    number = bisquemop_settings_line_y(&settings, table, TABLE, lines, line, &value, &y);
+    add_answer(number, value);
+    add_number((uint32_t)y);
+}
+
+/* ---- an edit */
+
+static struct edit make_edit(void)
+{
+    struct edit e = random_edit(text, (size_t)len, len > SHORT ? LONG : SHORT, inserted);
+    if (seldom(12)) {
+        uint32_t *numbers[] = {&e.a, &e.b, &e.inserted};
+        uint32_t which = below(3);
+        *numbers[which] = random_number();
+    }
+    return e;
+}
+
+/* The line that the text is to be lent from: the answer, or line 0 if there is none. */
+static uint64_t ask_affected(struct edit e)
+{
+    uint64_t value = 0;
+    uint32_t number = bisquemop_first_affected(table, TABLE, lines, e.a, e.b, e.inserted, &value);
+    add_answer(number, value);
+    return number == BISQUEMOP_OK && value < lines ? value : 0;
+}
+
+static void ask_again(void)
+{
+    struct edit e = make_edit();
+    int good = e.a <= e.b && e.b <= len && e.inserted <= LONG - (len - (e.b - e.a));
+    uint64_t new_len = good ? put_edited(edited, text, (size_t)len, e, inserted) : len, value = 0, laid = 0;
+    uint64_t first = ask_affected(e), start = table[BISQUEMOP_LINE_NUMBERS * first + BISQUEMOP_LINE_START];
+    uint64_t from = start < new_len ? start : new_len, room = random_room(TABLE);
+    uint32_t number = bisquemop_settings_lay_again(&settings, edited + from, new_len - from, table, room, lines, e.a,
+                                                   e.b, e.inserted, &value, &laid);
+    add_answer(number, value);
+    add_long(laid);
+    add_numbers(table, BISQUEMOP_LINE_NUMBERS * ((new_len > len ? new_len : len) + 1));
+}
+
+/* ---- the cases */
+
+static void spoil_settings(void)
+{
+    uint32_t *numbers[] = {&settings.glyph,     &settings.width,   &settings.tab,      &settings.spacing,
+                           &settings.paragraph, &settings.base,    &settings.height,   &settings.alignment,
+                           &settings.vertical,  &settings.leading, &settings.trailing, &settings.wrap};
+    uint32_t which = below(sizeof numbers / sizeof numbers[0]);
+    *numbers[which] = random_number();
+}
+
+static void spoil_table(void)
+{
+    uint32_t where = below((uint32_t)(BISQUEMOP_LINE_NUMBERS * lines));
+    table[where] = seldom(2) ? random_number() : table[where] + 1;
+}
+
+static void make_text(void)
+{
+    len = random_text(text, below(1 + (seldom(50) ? (uint32_t)LONG : (uint32_t)SHORT) / 4));
+    if (len > 0 && seldom(12)) {
+        uint32_t where = below((uint32_t)len);
+        text[where] = (uint8_t)below(256);
+    }
+}
+
+static void one_case(void)
+{
+    settings = random_settings();
+    make_text();
+    if (seldom(12)) {
+        spoil_settings();
+    }
+    ask_checks();
+    ask_tokens();
+    ask_layout();
+    ask_events();
+    if (seldom(8)) {
+        spoil_table();
+    }
+    ask_places();
+    ask_again();
+}
+
+int main(int count, char **words)
+{
+    unsigned long cases = count > 1 ? strtoul(words[1], NULL, 10) : 20000;
+    seed_with(1);
+    for (unsigned long i = 0; i < cases; i++) {
+        one_case();
+    }
+    printf("%016" PRIx64 " of %" PRIu64 " numbers in %lu cases; returned", sum(), summed(), cases);
+    for (size_t i = 0; i < sizeof returned / sizeof returned[0]; i++) {
+        printf(" %lu:%lu", (unsigned long)i, returned[i]);
+    }
+    printf("\n");
+    return 0;
+}
