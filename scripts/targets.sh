@@ -125,7 +125,9 @@ compile_object() { # OBJECT WORD..
     quietly "$out/cc.log" "$cc" -std=c99 -O2 -Wall -Wextra -Wpedantic -Wconversion -Werror $(program_words) -c -o "$@"
 }
 
-# Runs a program that was compiled for the target.
+# Runs a program that was compiled for the target. $emulator_words is what its emulator is told besides.
+emulator_words=''
+# shellcheck disable=SC2086
 run_for_target() { # PROGRAM WORD..
     case $runs in
     '') "$@" ;;
@@ -134,9 +136,9 @@ run_for_target() { # PROGRAM WORD..
         program=$1 words=arg=$(basename "$1")
         shift
         for word; do words=$words,arg=$word; done
-        qemu-system-arm -M mps2-an386 -nographic -monitor none -serial none \
+        qemu-system-arm -M mps2-an386 -nographic -monitor none -serial none $emulator_words \
             -semihosting-config "enable=on,target=native,$words" -kernel "$program"
         ;;
-    *) "$runs" "$@" ;;
+    *) "$runs" $emulator_words "$@" ;;
     esac
 }

@@ -6,15 +6,8 @@ use embedded_text_wrapping::plugin::probe as wrapping;
 use shape::Settings;
 use std::hint::black_box;
 
-const ENGLISH: [&str; 6] = [
-    "Not the baker, says the note.",
-    "Who left the oven door open before the second bell, and why was nobody told about it?",
-    "The key is under the third pot from the left.",
-    "Turn the page by a quarter, read every other line aloud, and you will hear the name of the town where the letter was posted.",
-    "Six across: a bird that never lands twice",
-    "Each of the four guests lies exactly once; the cook says that the gardener was in the cellar, the gardener says that the cook was \
-     there, and the twins say nothing at all until supper.",
-];
+/// A clue a line. devices/bench.c lays the same on other machines.
+const ENGLISH: &str = include_str!("../../samples/clues.txt");
 
 const FRENCH: [&str; 5] = [
     "Ce n’est pas le boulanger\u{202f}!",
@@ -32,9 +25,9 @@ const JAPANESE: [&str; 4] = [
 ];
 
 /// A text from sentences, one after the other, of so many bytes at most.
-fn repeated(sentences: &[&str], bytes: usize) -> String {
+fn repeated(sentences: impl Iterator<Item = &'static str> + Clone, bytes: usize) -> String {
     let mut text = String::new();
-    for part in sentences.iter().cycle().flat_map(|sentence| sentence.chars().chain([' '])) {
+    for part in sentences.cycle().flat_map(|sentence| sentence.chars().chain([' '])) {
         if text.len() + part.len_utf8() > bytes {
             return text;
         }
@@ -52,10 +45,10 @@ fn filled(first: &str, then: &str, bytes: usize) -> String {
 fn texts(name: &str, bytes: usize) -> Option<Vec<String>> {
     let clues = |from: &[&str]| from.iter().map(|&text| text.to_owned()).collect();
     Some(match name {
-        "english" => clues(&ENGLISH),
+        "english" => ENGLISH.lines().map(str::to_owned).collect(),
         "french" => clues(&FRENCH),
         "japanese" => clues(&JAPANESE),
-        "prose" => vec![repeated(&ENGLISH, bytes)],
+        "prose" => vec![repeated(ENGLISH.lines(), bytes)],
         "word" => vec![filled("", "a", bytes)],
         "tabs" => vec![filled("a", "\t", bytes)],
         "zero-width" => vec![filled("a", "\u{200b}", bytes)],
