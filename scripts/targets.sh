@@ -89,10 +89,11 @@ program_words() {
     esac
 }
 
-# What it links besides.
+# What it links besides. $memory is a map of the Cortex-M4's memory in devices/cortex-m4.
+memory=emulator
 start_words() {
     [ "$target" != cortex-m4 ] ||
-        echo '--specs=rdimon.specs -nostartfiles -Ldevices/cortex-m4 -T emulator.ld -Wl,--no-warn-execstack devices/cortex-m4/start.c'
+        echo "--specs=rdimon.specs -nostartfiles -Ldevices/cortex-m4 -T $memory.ld -Wl,--no-warn-execstack devices/cortex-m4/start.c"
 }
 
 # Does the C compiler make programs for the target; where none can be run here, does it compile.
