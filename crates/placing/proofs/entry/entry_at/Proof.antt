@@ -16,7 +16,22 @@ greater-requires c κs = search needs
 
 returns : tie.Need-returns
 unfolding laidAt
-returns c = let r = c .before .before .before .before .before in rw (c .greater .ensures, r .rest-in .ensures, r .before .end-number .ensures)
+returns c =
+    let rest = c .before .before .before .before .before in
+    let end = rest .before in
+    let a = end .before .args in
+    λ i.
+    record {
+      start = a .at;
+      rest = rest .rest-in .ensures i;
+      ending = end .end-number .ensures i;
+      left = a .p .left;
+      space = a .p .spaces .width;
+      extra = a .p .spaces .extra;
+      width = a .width;
+      dropped = a .e .dropped;
+      reach = record { 0 = c .greater .ensures i };
+    }
 
 pub entry-at-spec : {M : Type 1} → statement M
 entry-at-spec = tie.close (tie.spec end-number-requires rest-in-requires greater-requires returns)
