@@ -310,6 +310,10 @@ const struct example examples[] = {
     {24, 47, RIGHT, 1, 0, WAIT, "\ta",
      2, {0, 0, 0, 3, 47, 24, 0, 0, 1, 3, /**/ 2, 0, 0, 2, 47, 24, 0, 0, 0, 3},
      1, {MOVE, 0, 1, 0, 0, 47}},
+    /* centred: measured, "a" fits; drawn from 12, the tab goes on to the next stop, and "a" waits */
+    {12, 59, CENTRE, 1, 0, WAIT, " \ta",
+     2, {0, 0, 0, 3, 12, 12, 0, 36, 0, 4, /**/ 2, 0, 0, 2, 24, 12, 0, 12, 0, 4},
+     3, {SPACE, 0, 1, 1, 12, 12, /**/ SPACE, 1, 2, 0, 24, 24, /**/ PRINTED, 2, 3, 0, 12, 24}},
     /* justified: measured, "a" fits; drawn, a wider space and the tab behind it take the room, and "a" waits */
     {6, 74, JUSTIFIED, 1, 0, WAIT, " \ta\r",
      3, {0, 0, 0, 3, 0, 50, 0, 30, 0, 4, /**/ 2, 0, 0, 1, 0, 6, 0, 6, 0, 4, /**/ 4, 0, 0, 2, 0, 6, 0, 0, 0, 5},

@@ -208,6 +208,10 @@ examples =
     ∷ example (laidOut 24 47 2 1 0 1) "\ta"
     ((0 ∷ 0 ∷ 0 ∷ 3 ∷ 47 ∷ 24 ∷ 0 ∷ 0 ∷ 1 ∷ 3 ∷ []) ∷ (2 ∷ 0 ∷ 0 ∷ 2 ∷ 47 ∷ 24 ∷ 0 ∷ 0 ∷ 0 ∷ 3 ∷ []) ∷ [])
     ((2 ∷ 0 ∷ 1 ∷ 0 ∷ 0 ∷ 47 ∷ []) ∷ [])
+    -- centred: measured from 0 the tab goes to 24 and "a" fits; drawn from 12 it goes to 48, and "a" waits
+    ∷ example (laidOut 12 59 1 1 0 1) " \ta"
+    ((0 ∷ 0 ∷ 0 ∷ 3 ∷ 12 ∷ 12 ∷ 0 ∷ 36 ∷ 0 ∷ 4 ∷ []) ∷ (2 ∷ 0 ∷ 0 ∷ 2 ∷ 24 ∷ 12 ∷ 0 ∷ 12 ∷ 0 ∷ 4 ∷ []) ∷ [])
+    ((0 ∷ 0 ∷ 1 ∷ 1 ∷ 12 ∷ 12 ∷ []) ∷ (0 ∷ 1 ∷ 2 ∷ 0 ∷ 24 ∷ 24 ∷ []) ∷ (1 ∷ 2 ∷ 3 ∷ 0 ∷ 12 ∷ 24 ∷ []) ∷ [])
     -- justified: measured "a" fits; drawn the wide space and the tab behind it carry the cursor too far, and "a" waits
     ∷ example (laidOut 6 74 3 1 0 1) " \ta\r"
     ((0 ∷ 0 ∷ 0 ∷ 3 ∷ 0 ∷ 50 ∷ 0 ∷ 30 ∷ 0 ∷ 4 ∷ []) ∷ (2 ∷ 0 ∷ 0 ∷ 1 ∷ 0 ∷ 6 ∷ 0 ∷ 6 ∷ 0 ∷ 4 ∷ []) ∷ (4 ∷ 0 ∷ 0 ∷ 2 ∷ 0 ∷ 6 ∷ 0 ∷ 0 ∷ 0 ∷ 5 ∷ []) ∷ [])
