@@ -39,7 +39,7 @@ ghost use Rattle.meaning.specs.Answers.{tokensNumber, tokensValue, layoutNumber
 ghost use Rattle.meaning.specs.Calls.{tokensAnswer, tokensBuffer, layoutAnswer, layoutTable, drawingAnswer, drawingTable, drawingEvents, affectedAnswer, relayAnswer, relayTable, heightAnswer, yAnswer};
 ghost use Rattle.bisquemop.specs.Edits.{editOf};
 
-// The settings from the twelve numbers that C passes.
+// The settings from the thirteen numbers that C passes.
 fn settings_from(
     glyph: u32,
     width: u32,

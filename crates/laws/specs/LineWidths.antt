@@ -1,32 +1,29 @@
 -- The measured width of a line is never above the box, whatever the settings, the rest and the text; so the room that rule 6 goes by
 -- is the box less that width, and nothing is cut off at 0. Rule 6, rule 10.
 -- Assumes nothing.
-use Prim.Native.Nat.{ℕ, zero, suc, _+_, _-_, _≤_}
+use Prim.Native.Nat.{ℕ, _+_, _-_, _≤_}
 use mathlib.Core.Path.{_≡_, refl}
 use mathlib.Core.Logic.{inl}
-use mathlib.Core.List.{List, [], _∷_, map}
+use mathlib.Core.List.{List}
 use native.Mathlib.Omega.{arith}
-use lib.ListN.{length, take, drop}
 use Rattle.basis.specs.Choice.{pick-cases}
-use Rattle.unicode.specs.Encoding.{size}
 use Rattle.meaning.specs.Tokens.{Tok}
 use Rattle.meaning.specs.Alignment.{plainSpaces}
-use Rattle.meaning.specs.LineIter.{Held, nothingHeld, trailingOn, process}
+use Rattle.meaning.specs.LineIter.{Held, trailingOn, process}
 use Rattle.meaning.specs.Line.{unmeasured, measured, measuredWidth, lineTokens, startPlace, measuring, lineOf, layLine, entryAt}
-use Rattle.meaning.specs.Layout.{Row, rowAt, rowsBy, rows, entryOfRow, layout}
+use Rattle.meaning.specs.Layout.{layout}
 use Rattle.meaning.specs.declared.settings.Settings.{Settings}
 use Rattle.meaning.specs.declared.cursor.Spaces.{Spaces}
 use Rattle.meaning.specs.declared.line.Entry.{Entry}
 use Rattle.meaning.specs.declared.line.Measure.{Measure}
 use Rattle.laws.specs.Measuring.{measured-behind}
-use Rattle.laws.specs.RowInduction.{unless-cases}
+use Rattle.laws.specs.RowInduction.{Each, each-line}
 use Rattle.laws.specs.Pens.{penAfter, measured-pen, Plain}
 use Rattle.laws.specs.PenBounds.{Within, pass-inside}
 
 -- Each of these lines is at most so wide.
 abbrev pub NoneWider : ℕ → List Entry → Type 0
-NoneWider n [] = Unit {0}
-NoneWider n (e ∷ es) = (e .width .0 ≤ n) × NoneWider n es
+NoneWider n = Each (λ (e : Entry). e .width .0 ≤ n)
 
 module _ (s : Settings) where
   pub plain-spaces : Plain (s .glyph .0) (plainSpaces s)
@@ -59,19 +56,7 @@ module _ (s : Settings) where
   pub line-room : (h : Held) (cs : List ℕ) → layLine s h cs .width + (s .width .0 - layLine s h cs .width) ≡ s .width .0
   line-room h cs = omega (arith, line-width h cs)
 
-  rows-width : (n start : ℕ) (h : Held) (cs : List ℕ) → NoneWider (s .width .0) (map entryOfRow (rowsBy n s start h cs))
-  unfolding rowsBy rowAt entryAt
-  rows-width zero start h cs = tt
-  rows-width (suc n) start h cs =
-      let l = layLine s h cs in
-      let next = start + size (take (l .chars) cs) in
-      let more = rowsBy n s next (l .held) (drop (l .chars) cs) in (
-        line-width h cs,
-        unless-cases (λ (rs : List Row). NoneWider (s .width .0) (map entryOfRow rs)) (l .ended) more (λ _. tt)
-            (λ _. rows-width n next (l .held) (drop (l .chars) cs)),
-      )
-
   -- So of every line of a layout.
   pub layout-width : (cs : List ℕ) → NoneWider (s .width .0) (layout s cs)
-  unfolding layout rows
-  layout-width cs = rows-width (suc (length cs)) 0 nothingHeld cs
+  unfolding entryAt
+  layout-width = each-line s (λ (e : Entry). e .width .0 ≤ s .width .0) (λ start h cs. line-width h cs)

@@ -4,22 +4,21 @@
 use Prim.Native.Nat.{ℕ, zero, suc, _+_, _*_, _/_, _≤_, _<_}
 use mathlib.Core.Path.{_≡_, refl}
 use mathlib.Core.Bool.{true, false, _&&_, _||_, not}
-use mathlib.Core.List.{List, [], _∷_, map}
+use mathlib.Core.List.{List, [], _∷_}
 use native.Mathlib.Nat.{mul-zero, le-div-iff-mul-le}
 use native.Mathlib.Omega.{arith}
 use borrow.Author.Tests.{eqb-true, eq-eqb, not-false}
 use lib.Dec.{eqb}
-use lib.ListN.{length, take, drop}
+use lib.ListN.{length}
 use Rattle.basis.specs.Choice.{pick-true, pick-cases}
 use Rattle.meaning.specs.Tokens.{Tok, newLine, carriageReturn, tab, softHyphen, space, word, charsOf, sizeOf, needOf}
 use Rattle.meaning.specs.Cursor.{roomOf, fitsIn, advance, hasMoved, tabWidth}
 use Rattle.meaning.specs.SpaceConfig.{spacesWidth}
 use Rattle.meaning.specs.Lookahead.{Looked}
 use Rattle.meaning.specs.Alignment.{place}
-use Rattle.meaning.specs.LineIter.{Held, nothingHeld, Step, go, stop, skips, cutRun, onSpace, onTab, hyphenated, onBreak, wrapOn, unfitWord, cutWord, onWord, step, Ran, passOn, process}
+use Rattle.meaning.specs.LineIter.{Held, Step, go, stop, skips, cutRun, onSpace, onTab, hyphenated, onBreak, wrapOn, unfitWord, cutWord, onWord, step, Ran, passOn, process}
 use Rattle.meaning.specs.Line.{lineTokens, startPlace, measuring, placing, lineOf, layLine, entryAt}
-use Rattle.meaning.specs.Layout.{Row, rowAt, rowsBy, rows, entryOfRow, layout}
-use Rattle.unicode.specs.Encoding.{size}
+use Rattle.meaning.specs.Layout.{layout}
 use Rattle.meaning.specs.declared.settings.Settings.{Settings}
 use Rattle.meaning.specs.declared.cursor.Spaces.{Spaces}
 use Rattle.meaning.specs.declared.cursor.Place.{Place}
@@ -27,7 +26,7 @@ use Rattle.meaning.specs.declared.cursor.NextWord.{NextWord}
 use Rattle.meaning.specs.declared.cursor.NextWord.the-variants.{Nothing, Width}
 use Rattle.meaning.specs.declared.line.Entry.{Entry}
 use Rattle.laws.specs.Steps.{too-wide}
-use Rattle.laws.specs.RowInduction.{unless-cases}
+use Rattle.laws.specs.RowInduction.{Each, each-line}
 
 -- Settings by which words wait and the box has room for a glyph.
 pub record Waits (s : Settings) : Type 0 where
@@ -37,8 +36,7 @@ pub record Waits (s : Settings) : Type 0 where
 
 -- No line of these dropped a character.
 abbrev pub DropNothing : List Entry → Type 0
-DropNothing [] = Unit {0}
-DropNothing (e ∷ es) = (e .dropped .0 ≡ 0) × DropNothing es
+DropNothing = Each (λ (e : Entry). e .dropped .0 ≡ 0)
 
 -- A place of a pass that started at the box's left.
 record FromLeft (s : Settings) (p : Place) : Type 0 where
@@ -136,18 +134,6 @@ module _ (s : Settings) (w : Waits s) where
       pass-keeps ts (startPlace s (placing s (measuring s ts) .left .0) (placing s (measuring s ts) .spaces)) 0
       (record { width = refl; start = from-left ts })
 
-  rows-keep : (n start : ℕ) (h : Held) (cs : List ℕ) → DropNothing (map entryOfRow (rowsBy n s start h cs))
-  unfolding rowsBy rowAt entryAt
-  rows-keep zero start h cs = tt
-  rows-keep (suc n) start h cs =
-      let l = layLine s h cs in
-      let next = start + size (take (l .chars) cs) in
-      let more = rowsBy n s next (l .held) (drop (l .chars) cs) in (
-        nothing-dropped h cs,
-        unless-cases (λ (rs : List Row). DropNothing (map entryOfRow rs)) (l .ended) more (λ _. tt)
-            (λ _. rows-keep n next (l .held) (drop (l .chars) cs)),
-      )
-
   pub layout-keeps : (cs : List ℕ) → DropNothing (layout s cs)
-  unfolding layout rows
-  layout-keeps cs = rows-keep (suc (length cs)) 0 nothingHeld cs
+  unfolding entryAt
+  layout-keeps = each-line s (λ (e : Entry). e .dropped .0 ≡ 0) (λ start h cs. nothing-dropped h cs)

@@ -2,14 +2,15 @@
 -- Assumes nothing.
 use Prim.Native.Nat.{ℕ, zero, suc, _+_, _≤_, _<_}
 use mathlib.Core.Path.{_≡_, refl}
-use mathlib.Core.List.{List, [], _∷_}
+use mathlib.Core.List.{List, [], _∷_, map}
 use native.Mathlib.Omega.{arith}
 use lib.ListN.{length, take, drop, length-drop}
 use Rattle.unicode.specs.Encoding.{size}
-use Rattle.meaning.specs.LineIter.{Held}
-use Rattle.meaning.specs.Line.{layLine}
-use Rattle.meaning.specs.Layout.{Row, rowAt, unlessEnded, rowsBy}
+use Rattle.meaning.specs.LineIter.{Held, nothingHeld}
+use Rattle.meaning.specs.Line.{layLine, entryAt}
+use Rattle.meaning.specs.Layout.{Row, rowAt, unlessEnded, rowsBy, mostLines, rows, entryOfRow, layout}
 use Rattle.meaning.specs.declared.settings.Settings.{Settings}
+use Rattle.meaning.specs.declared.line.Entry.{Entry}
 use Rattle.meaning.specs.declared.line.LineEnd.{LineEnd}
 use Rattle.meaning.specs.declared.line.LineEnd.the-variants.{NewLine, CarriageReturn, EndOfText, LineBreak}
 use Rattle.laws.specs.LineBounds.{line-chars, line-held, line-rest, line-takes}
@@ -47,3 +48,28 @@ module _ {ℓ} (s : Settings) (P : ℕ → Held → List ℕ → List Row → Ty
       (λ d.
       let fewer : length rest < suc n = rw length-drop (omega (arith, line-takes s h cs (f .0) (f .1) d, line-chars s h cs (f .0) (f .1))) in
       more start h cs f d _ _ (each-row (suc n) next (l .held) rest fewer (line-rest s h cs (f .0) (f .1), line-held s h cs (f .0) (f .1))))
+
+-- ---- every line by itself
+
+-- It holds of each of these lines.
+abbrev pub Each : (Entry → Type 0) → List Entry → Type 0
+Each P [] = Unit {0}
+Each P (e ∷ es) = P e × Each P es
+
+module _ (s : Settings) (P : Entry → Type 0) (holds : (start : ℕ) (h : Held) (cs : List ℕ) → P (entryAt start h cs (layLine s h cs))) where
+  each-by : (n start : ℕ) (h : Held) (cs : List ℕ) → Each P (map entryOfRow (rowsBy n s start h cs))
+  unfolding rowsBy rowAt
+  each-by zero start h cs = tt
+  each-by (suc n) start h cs =
+      let l = layLine s h cs in
+      let next = start + size (take (l .chars) cs) in
+      let more = rowsBy n s next (l .held) (drop (l .chars) cs) in (
+        holds start h cs,
+        unless-cases (λ (rs : List Row). Each P (map entryOfRow rs)) (l .ended) more (λ _. tt)
+            (λ _. each-by n next (l .held) (drop (l .chars) cs)),
+      )
+
+  -- What holds of every line, wherever it starts and whatever is held before it, holds of each line of a layout.
+  pub each-line : (cs : List ℕ) → Each P (layout s cs)
+  unfolding layout rows
+  each-line cs = each-by (mostLines cs) 0 nothingHeld cs

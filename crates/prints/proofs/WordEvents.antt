@@ -2,7 +2,7 @@
 -- Assumes nothing.
 use Prim.Native.Nat.{ℕ, _*_, _/_, _≤_}
 use mathlib.Core.Path.{_≡_, refl, sym, _∙_}
-use mathlib.Core.Bool.{Bool, true, false, _&&_, not}
+use mathlib.Core.Bool.{true, false, _&&_}
 use mathlib.Core.List.{List, []}
 use native.Mathlib.Nat.{mul-comm, div-le-of-le-mul}
 use native.Mathlib.Omega.{arith}
@@ -54,13 +54,3 @@ module _ (sh : Sheet) (s : Settings) (p : Place) (t : List ℕ) (at : ℕ) (x : 
       word-parts z =
           let same : take k (wordAt t at x) ≡ take k (charsFrom t at) = take-take k (x .chars .0) (charsFrom t at) part-few in
           rw (w .tok, ← (w .chars), e, f, ne-eqb (roomOf (p .cursor) / s .glyph .0) 0 (λ q. z (g ∙ q)), ← g, same)
-
--- ---- a test that was turned round
-
-pub was-false : (b : Bool) → not b ≡ true → b ≡ false
-was-false true e = sym e
-was-false false e = refl
-
-pub was-true : (b : Bool) → not b ≡ false → b ≡ true
-was-true true e = refl
-was-true false e = sym e

@@ -3,12 +3,13 @@
 use Prim.Native.Nat.{ℕ, _/_, _≤_}
 use mathlib.Core.Path.{_≡_, sym, ap, _∙_}
 use native.Mathlib.Omega.{arith}
+use borrow.Author.Tests.{not-true, not-false}
 use Rattle.meaning.specs.Cursor.{roomOf}
 use Rattle.moves.specs.FineLaws.{times-bound}
 use Rattle.steps.specs.WordLaws.{WordAt, word-at}
 use Rattle.ink.specs.Sheet.{sheet}
 use Rattle.ink.specs.Stretching.{WordRoom}
-use Rattle.prints.proofs.WordEvents.{word-takes, word-waits, word-unfit, part-few, word-parts, was-false, was-true}
+use Rattle.prints.proofs.WordEvents.{word-takes, word-waits, word-unfit, part-few, word-parts}
 use borrow.Author.Needs.{needs}
 use Rattle.prints.proofs.tokens.draw_if_taken.Statement.{statement}
 use Rattle.prints.proofs.tokens.draw_if_taken.Tie as tie
@@ -65,7 +66,7 @@ returns-2 c =
     let e = c .before .before in
     let s = e .before .before .before .before .before .before .before in
     let a = s .args in
-    word-waits (sheet (a .events .now) (a .pen)) (a .s) (a .p) (a .text .now) (a .at) (a .x) (word s) (sym (e .before .fits2 .ensures) ∙ e .if1 .left) (was-false _ (c .if2 .taken))
+    word-waits (sheet (a .events .now) (a .pen)) (a .s) (a .p) (a .text .now) (a .at) (a .x) (word s) (sym (e .before .fits2 .ensures) ∙ e .if1 .left) (not-true _ (c .if2 .taken))
 
 room-requires : tie.Need-room-requires
 room-requires c κs = search needs
@@ -79,7 +80,7 @@ returns-3 c =
     let e = r .before .before .before in
     let s = e .before .before .before .before .before .before .before in
     let a = s .args in
-    word-unfit (sheet (a .events .now) (a .pen)) (a .s) (a .p) (a .text .now) (a .at) (a .x) (word s) (sym (e .before .fits2 .ensures) ∙ e .if1 .left) (was-true _ (r .before .if2 .left)) _ (fitting-is r) (c .if3 .taken)
+    word-unfit (sheet (a .events .now) (a .pen)) (a .s) (a .p) (a .text .now) (a .at) (a .x) (word s) (sym (e .before .fits2 .ensures) ∙ e .if1 .left) (not-false _ (r .before .if2 .left)) _ (fitting-is r) (c .if3 .taken)
 
 draw-word-requires-2 : tie.Need-draw-word-requires-2
 draw-word-requires-2 c κs =
@@ -87,7 +88,7 @@ draw-word-requires-2 c κs =
     let e = r .before .before .before in
     let s = e .before .before .before .before .before .before .before in
     let a = s .args in
-    roomy s _ (omega (arith, few s, part-few (sheet (a .events .now) (a .pen)) (a .s) (a .p) (a .text .now) (a .at) (a .x) (word s) (sym (e .before .fits2 .ensures) ∙ e .if1 .left) (was-true _ (r .before .if2 .left)) _ (fitting-is r)))
+    roomy s _ (omega (arith, few s, part-few (sheet (a .events .now) (a .pen)) (a .s) (a .p) (a .text .now) (a .at) (a .x) (word s) (sym (e .before .fits2 .ensures) ∙ e .if1 .left) (not-false _ (r .before .if2 .left)) _ (fitting-is r)))
 
 same-length-2 : tie.Need-same-length-2
 same-length-2 c = search needs
@@ -100,7 +101,7 @@ returns-4 c =
     let s = e .before .before .before .before .before .before .before in
     let a = s .args in
     f .draw-word2 .ensures
-    ∙ word-parts (sheet (a .events .now) (a .pen)) (a .s) (a .p) (a .text .now) (a .at) (a .x) (word s) (sym (e .before .fits2 .ensures) ∙ e .if1 .left) (was-true _ (r .before .if2 .left)) _ (fitting-is r) (f .before .before .if3 .left)
+    ∙ word-parts (sheet (a .events .now) (a .pen)) (a .s) (a .p) (a .text .now) (a .at) (a .x) (word s) (sym (e .before .fits2 .ensures) ∙ e .if1 .left) (not-false _ (r .before .if2 .left)) _ (fitting-is r) (f .before .before .if3 .left)
 
 pub draw-if-taken-spec : {M : Type 1} → statement M
 draw-if-taken-spec =
