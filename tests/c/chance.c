@@ -2,6 +2,7 @@
 
 #include "utf8.h"
 
+#include <stdio.h>
 #include <string.h>
 
 /* xorshift64 */
@@ -85,6 +86,17 @@ struct bisquemop_settings random_settings(void)
     s.wrap = below(2);
     redraw_heights(&s);
     return s;
+}
+
+void test_by_chance(uint64_t seed, unsigned long times, const char *of,
+                    void (*test)(const char *what, struct bisquemop_settings s))
+{
+    seed_with(seed);
+    for (unsigned long i = 0; i < times; i++) {
+        char what[64];
+        snprintf(what, sizeof what, "text %lu %s", i, of);
+        test(what, random_settings());
+    }
 }
 
 void redraw_heights(struct bisquemop_settings *s)

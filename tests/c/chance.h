@@ -15,6 +15,10 @@ size_t random_text(uint8_t *text, size_t characters);
 /* Settings that are good, by which small texts have some lines. */
 struct bisquemop_settings random_settings(void);
 
+/* Makes a test so many times, each by settings of its own. `of` says in its message what it is of. */
+void test_by_chance(uint64_t seed, unsigned long times, const char *of,
+                    void (*test)(const char *what, struct bisquemop_settings s));
+
 /* What the table of a text does not depend on, drawn anew. */
 void redraw_heights(struct bisquemop_settings *s);
 

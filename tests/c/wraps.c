@@ -86,12 +86,7 @@ static void one_text(const char *what, struct bisquemop_settings s)
 
 void test_wraps(void)
 {
-    seed_with(101);
-    for (unsigned long i = 0; i < TEXTS; i++) {
-        char what[64];
-        snprintf(what, sizeof what, "text %lu by both wraps", i);
-        one_text(what, random_settings());
-    }
+    test_by_chance(101, TEXTS, "by both wraps", one_text);
     printf("%d texts: %lu drop nothing and are the same by both; %lu differ; %lu are kept whole by waiting; "
            "%lu drop by both\n",
            TEXTS, same, told_apart, kept_whole, dropped_by_both);
