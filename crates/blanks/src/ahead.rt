@@ -34,7 +34,7 @@ fn look_beyond(text: &[u8], s: Settings, p: Place, at: usize, x: Lexeme, seen: F
     Foreseen::Known(next_word_fits(text, x.end.0 as usize, s.glyph.0, next, left))
 }
 
-// What is known of the look from after the token x: with trailing spaces on there is none, and only white space is looked beyond.
+// What is known of the look from after the token x: only white space is looked beyond.
 pub fn look_after(
     text: &[u8],
     s: Settings,
@@ -46,9 +46,6 @@ pub fn look_after(
     requires { ⌜ LookReady s p (now text) at x seen ⌝ }
     ensures { λ r. ⌜ ForeseesAfter s p (now (text .entry)) x r ⌝ }
 {
-    if s.trailing == 1 {
-        return Foreseen::Nothing;
-    }
     let kind = x.kind;
     match kind {
         TokenKind::Tab | TokenKind::Whitespace => look_beyond(text, s, p, at, x, seen),

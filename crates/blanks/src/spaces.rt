@@ -34,7 +34,7 @@ ghost use Rattle.moves.specs.Fine.{FineSettings, FinePlace};
 ghost use Rattle.steps.specs.Stepping.{lookOf, resumedAt};
 ghost use Rattle.steps.specs.Ready.{Ready, stepFrom};
 ghost use Rattle.steps.specs.Foreseeing.{Foresees, ForeseesAfter};
-ghost use Rattle.steps.specs.Runs.{cutShown, CutRun, cutAnswer, WholeRun, wholeAnswer};
+ghost use Rattle.steps.specs.Runs.{CutRun, cutAnswer, WholeRun, wholeAnswer};
 
 // What is held of a run of so many characters and counted spaces that ends at an offset, of which some are taken.
 fn held_rest(end: Offset, chars: Chars, count: Chars, taken: u32) -> Resumed
@@ -51,21 +51,7 @@ fn held_rest(end: Offset, chars: Chars, count: Chars, taken: u32) -> Resumed
     }
 }
 
-// The spaces that fit are measured, wide only with trailing spaces on.
-fn cut_measure(s: Settings, m: Measure, fitting: Chars, width: Pixels) -> Measure
-    requires { ⌜ (m .pen .0 + width .0 < 4294967296) × (m .spaces .0 + fitting .0 < 4294967296) ⌝ }
-    ensures { λ r. ⌜ r ≡ cutShown s m (fitting .0) (width .0) ⌝ }
-{
-    if fitting.0 == 0 {
-        return m;
-    }
-    if s.trailing == 1 {
-        return noted_space(m, fitting, width);
-    }
-    noted_space(m, fitting, Pixels(0))
-}
-
-// A run that is too wide: the spaces that fit are drawn, one more is taken, and the rest is held for the next line.
+// A run that is too wide: the spaces that fit count, one more is taken, and the rest is held for the next line.
 fn cut_run(
     text: &[u8],
     s: Settings,
@@ -87,7 +73,7 @@ fn cut_run(
     let end = x.end;
     let chars = x.chars;
     let count = x.count;
-    let measure = cut_measure(s, m, Chars(fitting), Pixels(fitting * single));
+    let measure = noted_space(m, Chars(fitting), Pixels(0));
     let rest = held_rest(end, chars, count, taken);
     Stepped::Stop(Ended {
         ended: LineEnd::LineBreak,
@@ -106,12 +92,6 @@ pub fn draws_space(text: &[u8], s: Settings, q: Place, at: usize, seen: Foreseen
     ensures { λ r. ⌜ r ≡ lookOf (drawsSpace s q at (tokens (charsFrom (now (text .entry)) at))) ⌝ }
 {
     if q.empty {
-        return Look {
-            fits: true,
-            reach: Offset(0),
-        };
-    }
-    if s.trailing == 1 {
         return Look {
             fits: true,
             reach: Offset(0),

@@ -48,7 +48,7 @@ fn in_range(s: Settings) -> bool
         s.base.0,
         s.height.0,
     );
-    sizes & top_in_range(s) & (s.leading <= 1) & (s.trailing <= 1) & (s.wrap <= 1)
+    sizes & top_in_range(s) & (s.leading <= 1) & (s.trailing == 0) & (s.wrap <= 1)
 }
 
 // Refusal 1 and refusal 2.

@@ -37,17 +37,14 @@ use Rattle.steps.specs.Running.{PassReady}
 use Rattle.steps.specs.Stopping.{wordPlace}
 use Rattle.strides.specs.Strides.{Waits}
 use Rattle.steps.specs.declared.look.Look.{Look}
-use Rattle.strides.specs.Trail.{trailOf}
 use Rattle.strides.specs.declared.going.Waiting.{Waiting}
-use Rattle.strides.specs.declared.waiting.Trail.{Trail}
-use Rattle.strides.specs.declared.waiting.Trail.the-variants.{Cut, Shown}
 use Rattle.steps.specs.declared.step.Stepped.the-variants.{Go}
 use Rattle.steps.specs.DrawLaws.{whole-drawn, whole-hidden}
 use Rattle.steps.specs.RunLaws.{run-tok, space-whole, space-cut}
 use Rattle.steps.specs.WordLaws as rendered
 use Rattle.steps.specs.WordLaws.{wordAt, WordAt, word-at, word-goes}
 use Rattle.strides.specs.OnwardLaws.{read-pending, read-ready}
-use Rattle.strides.specs.StrideLaws.{stays, behind, looks-all, looks-word, space-goes}
+use Rattle.strides.specs.StrideLaws.{stays, behind, looks-word, space-goes}
 use Rattle.strides.specs.WaitLaws.{over-full}
 use Rattle.drawing.specs.Drawn.{drawnFrom}
 use Rattle.ink.specs.Sheet.{widths}
@@ -135,24 +132,17 @@ module _ {s : Settings} {p : Place} {t : List ℕ} {at : ℕ} {m : Measure} (r :
             space-goes r e w wide is f l _ far a .ready,
           )
 
-      -- With trailing spaces on it is drawn whatever follows.
-      space-trails : s .trailing ≡ 1 → SpaceFirst wide
-      space-trails h =
-          let l = lookAt true 0 in
-          space-first l wide (omega arith) (whole-drawn s after t run wide m l (looks-all r e w wide is f h) _ refl refl)
-
       -- The word behind it fits too.
       pub space-shown : fitsIn (after .cursor) (x .chars .0 * s .glyph .0) ≡ true → SpaceFirst wide
       space-shown g =
           let l = lookAt true (x .reach .0) in
-          by-eq (s .trailing) 1 space-trails
-          (λ h. space-first l wide (omega arith) (whole-drawn s after t run wide m l (looks-word r e w wide is f h true (sym g)) _ refl refl))
+          space-first l wide (omega arith) (whole-drawn s after t run wide m l (looks-word r e w wide is f true (sym g)) _ refl refl)
 
       -- Else it has no width.
-      space-hidden : (s .trailing ≡ 1 → ⊥) → fitsIn (after .cursor) (x .chars .0 * s .glyph .0) ≡ false → SpaceFirst 0
-      space-hidden h g =
+      space-hidden : fitsIn (after .cursor) (x .chars .0 * s .glyph .0) ≡ false → SpaceFirst 0
+      space-hidden g =
           let l = lookAt false (x .reach .0) in
-          space-first l 0 (omega arith) (whole-hidden s after t run wide m l (looks-word r e w wide is f h false (sym g)) _ refl refl)
+          space-first l 0 (omega arith) (whole-hidden s after t run wide m l (looks-word r e w wide is f false (sym g)) _ refl refl)
 
     -- One that does not fit is not drawn.
     cut-none : fitsIn (p .cursor) wide ≡ false → tokDrawn s p t at run ≡ []
@@ -182,28 +172,8 @@ module _ {s : Settings} {p : Place} {t : List ℕ} {at : ℕ} {m : Measure} (r :
           ∙ ap (λ (ds : List Drawn). drawn Space at (v .next .0) 1 shown ∷ ds)
           (word-left (there .1) (w .word) (w .pair .word) (w .pair .kind) (over-full r v w wide is f) (w .empty))
 
-      waits-wide : s .trailing ≡ 1 → drawnFrom s p t at 0 0 ≡ drawn Space at (v .next .0) 1 wide ∷ []
-      waits-wide h = only-space wide (space-trails r (w .empty) (w .pair) wide is f h)
+      pub waits-thin : drawnFrom s p t at 0 0 ≡ drawn Space at (v .next .0) 1 0 ∷ []
+      waits-thin = only-space 0 (space-hidden r (w .empty) (w .pair) wide is f (over-full r v w wide is f))
 
-      waits-thin : (s .trailing ≡ 1 → ⊥) → drawnFrom s p t at 0 0 ≡ drawn Space at (v .next .0) 1 0 ∷ []
-      waits-thin h = only-space 0 (space-hidden r (w .empty) (w .pair) wide is f h (over-full r v w wide is f))
-
-    waits-cut : fitsIn (p .cursor) wide ≡ false → drawnFrom s p t at 0 0 ≡ []
+    pub waits-cut : fitsIn (p .cursor) wide ≡ false → drawnFrom s p t at 0 0 ≡ []
     waits-cut f = space-cuts r (w .empty) (w .pair) wide is f
-
--- What becomes of the space is what is drawn.
-abbrev pub drawnBy : Trail → (at next : ℕ) → List Drawn
-drawnBy Cut at next = []
-drawnBy (Shown wide) at next = drawn Space at next 1 wide ∷ []
-
-pub waits-drawn : {s : Settings} {p : Place} {t : List ℕ} {at : ℕ} {m : Measure} → PassReady s p t at nothingResumed m → (v : Waiting) → Waits s p t at v
-    → drawnFrom s p t at 0 0 ≡ drawnBy (trailOf s p) at (v .next .0)
-unfolding trailOf
-waits-drawn {s} {p} {t} {at} r v w =
-    let wide = spacesWidth (p .spaces) 1 in
-    pick-cases (λ (x : Trail). drawnFrom s p t at 0 0 ≡ drawnBy x at (v .next .0)) (fitsIn (p .cursor) wide)
-    (λ f.
-    pick-cases (λ (k : ℕ). drawnFrom s p t at 0 0 ≡ drawnBy (Shown k) at (v .next .0)) (eqb (s .trailing) 1)
-    (λ h. waits-wide r v w wide refl f (eqb-true (s .trailing) 1 h))
-    (λ h. waits-thin r v w wide refl f (eqb-false (s .trailing) 1 h)))
-    (λ f. waits-cut r v w wide refl f)

@@ -50,7 +50,7 @@ some-taken : (k : ℕ) (cs : List ℕ) → 1 ≤ k → 1 ≤ length cs → 1 ≤
 some-taken k cs f g = omega (arith, length-size (take k cs), length-take k cs)
 
 module _ (s : Settings) (p : Place) (at : ℕ) where
-  cut-few : (cs : List ℕ) (n width : ℕ) → 1 ≤ n → 1 ≤ length cs → Few cs (cutRun s p at cs n width)
+  cut-few : (cs : List ℕ) (n width : ℕ) → 1 ≤ n → 1 ≤ length cs → Few cs (cutRun p at cs n width)
   unfolding cutRun
   cut-few cs n width f g =
       let fitting = roomOf (p .cursor) / (width / n) in

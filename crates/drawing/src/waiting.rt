@@ -1,13 +1,12 @@
 // A line's end before a word that waits behind one space: what becomes of the space is decided for measuring too
-// (strides/src/waiting.rt), and what is drawn of it is what a pass draws from there (`StrideEvents.waits-drawn`).
+// (strides/src/waiting.rt), and what is drawn of it is what a pass draws from there (`StrideEvents.waits-thin`, `StrideEvents.waits-cut`).
 // Rule 8, rule 13.
 use crate::inked::Inked;
 use ink::pen::Pen;
 use ink::pen::put_one;
 use meaning::line::EventKind;
 use meaning::settings::Settings;
-use strides::waiting::Trail;
-use strides::waiting::trail_of;
+use strides::waiting::space_fits;
 ghost use mathlib.Core.Path.{_≡_};
 ghost use Rattle.steps.specs.Unrolled.{nothingResumed};
 ghost use Rattle.strides.specs.Strides.{Waits};
@@ -22,8 +21,8 @@ pub fn draw_waiting(text: &[u8], s: Settings, g: Inked, events: &mut [u32]) -> P
     let p = g.place;
     let pen = g.pen;
     let next = g.waits.next.0 as usize;
-    match trail_of(s, p) {
-        Trail::Cut => pen,
-        Trail::Shown(wide) => put_one(events, pen, EventKind::Space, g.at, next, 1, wide),
+    if !space_fits(p) {
+        return pen;
     }
+    put_one(events, pen, EventKind::Space, g.at, next, 1, 0)
 }

@@ -10,7 +10,7 @@ use lib.IntN.{ℤ, pos, negsuc}
 use lib.Signed.{mag}
 use Rattle.basis.specs.Choice.{pick, and-true}
 use Rattle.basis.specs.Order.{within, within-true}
-use Rattle.meaning.specs.Settings.{topInRange, sizesInRange, inRange, isSwitch, knownAlignment, knownVertical}
+use Rattle.meaning.specs.Settings.{topInRange, sizesInRange, inRange, isSwitch, isRetired, knownAlignment, knownVertical}
 use Rattle.meaning.specs.Checks.{checkSettings}
 use Rattle.meaning.specs.declared.settings.Settings.{Settings}
 use Rattle.meaning.specs.declared.refusals.Refusal.the-variants.{SettingOutOfRange, UnknownAlignment}
@@ -49,7 +49,7 @@ module _ (s : Settings) (h : checkSettings s ≡ Good) where
       let e = leb (s .height .0) 4096 in
       let t = topInRange (s .top) in
       let l = isSwitch (s .leading) in
-      let k = isSwitch (s .trailing) in
+      let k = isRetired (s .trailing) in
       let all = and-true (a && b && c && d && e && t && l && k) (isSwitch (s .wrap)) in-range in
       let leading = and-true (a && b && c && d && e && t && l) k (all .0) in
       let top = and-true (a && b && c && d && e) t (and-true (a && b && c && d && e && t) l (leading .0) .0) in

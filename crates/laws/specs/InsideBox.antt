@@ -15,7 +15,7 @@ use Rattle.unicode.specs.Encoding.{size}
 use Rattle.meaning.specs.Alignment.{plainSpaces, endsParagraph, place}
 use Rattle.meaning.specs.Words.{Drawn, glues}
 use Rattle.meaning.specs.LineIter.{Held, nothingHeld}
-use Rattle.meaning.specs.Line.{measured, measuredWidth, measuredCount, unmeasured, lineTokens, startPlace, measuring, placing, lineOf, layLine, eventsAt}
+use Rattle.meaning.specs.Line.{measured, unmeasured, lineTokens, startPlace, measuring, placing, lineOf, layLine, eventsAt}
 use Rattle.meaning.specs.Layout.{Row, rowAt, unlessEnded, rowsBy, rows, allEvents, layoutEvents}
 use Rattle.meaning.specs.declared.settings.Settings.{Settings}
 use Rattle.meaning.specs.declared.cursor.Spaces.{Spaces}
@@ -84,7 +84,7 @@ module _ (s : Settings) where
       let p = placing s (measuring s ts) in
       let ended = measuring s ts .ended in
       let m = measured unmeasured (measuring s ts .drawn) in
-      let left = left-inside s ended (measuredWidth s m) (measuredCount s m) in
+      let left = left-inside s ended (m .width .0) (m .count .0) in
       drawn-inside (s .width .0) start (p .left .0) _
       (pass-inside s ts (startPlace s (p .left .0) (p .spaces)) 0 (p .left .0) (starts-within s (p .left .0) (p .spaces) left)
       (rw (line-tokens-cover h cs) (even-by (p .spaces) _ e)))
@@ -95,7 +95,7 @@ module _ (s : Settings) where
   line-unjustified h cs a =
       let r = measuring s (lineTokens h cs) in
       let m = measured unmeasured (r .drawn) in
-      unjustified s (r .ended) (measuredWidth s m) (measuredCount s m) a
+      unjustified s (r .ended) (m .width .0) (m .count .0) a
 
   -- ---- a layout
 

@@ -9,8 +9,8 @@ use native.Mathlib.Omega.{arith}
 use Rattle.basis.specs.Choice.{pick-cases}
 use Rattle.meaning.specs.Tokens.{Tok}
 use Rattle.meaning.specs.Alignment.{plainSpaces}
-use Rattle.meaning.specs.LineIter.{Held, trailingOn, process}
-use Rattle.meaning.specs.Line.{unmeasured, measured, measuredWidth, lineTokens, startPlace, measuring, lineOf, layLine, entryAt}
+use Rattle.meaning.specs.LineIter.{Held, process}
+use Rattle.meaning.specs.Line.{unmeasured, measured, lineTokens, startPlace, measuring, lineOf, layLine, entryAt}
 use Rattle.meaning.specs.Layout.{layout}
 use Rattle.meaning.specs.declared.settings.Settings.{Settings}
 use Rattle.meaning.specs.declared.cursor.Spaces.{Spaces}
@@ -40,17 +40,12 @@ module _ (s : Settings) where
   measuring-inside ts =
       pass-inside s ts (startPlace s 0 (plainSpaces s)) 0 0 (starts-within 0 (plainSpaces s) (omega arith)) (inl plain-spaces)
 
-  -- The width is the pen at the line's end, or as it was before.
-  width-behind : (m : Measure) → m .width .0 ≤ m .pen .0 → measuredWidth s m ≤ m .pen .0
-  unfolding measuredWidth
-  width-behind m h = pick-cases (λ n. n ≤ m .pen .0) (trailingOn s) (λ _. omega arith) (λ _. h)
-
   pub line-width : (h : Held) (cs : List ℕ) → layLine s h cs .width ≤ s .width .0
   unfolding layLine lineOf
   line-width h cs =
       let ds = measuring s (lineTokens h cs) .drawn in
       let m = measured unmeasured ds in
-      omega (arith, width-behind m (measured-behind unmeasured ds (omega arith) .0), measured-pen unmeasured ds, measuring-inside (lineTokens h cs))
+      omega (arith, measured-behind unmeasured ds (omega arith) .0, measured-pen unmeasured ds, measuring-inside (lineTokens h cs))
 
   -- Room and width are the box.
   pub line-room : (h : Held) (cs : List ℕ) → layLine s h cs .width + (s .width .0 - layLine s h cs .width) ≡ s .width .0

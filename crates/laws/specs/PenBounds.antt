@@ -17,7 +17,7 @@ use Rattle.meaning.specs.Cursor.{roomOf, fitsIn, advance, hasMoved, tabWidth}
 use Rattle.meaning.specs.SpaceConfig.{spacesWidth}
 use Rattle.meaning.specs.Lookahead.{Looked}
 use Rattle.meaning.specs.Words.{Drawn, glues, drawnWord}
-use Rattle.meaning.specs.LineIter.{when, trailingOn, skips, Step, go, stop, cutRun, onSpace, onTab, hyphenated, onBreak, wrapOn, unfitWord, cutWord, onWord, step, Ran, passOn, process}
+use Rattle.meaning.specs.LineIter.{when, skips, Step, go, stop, cutRun, onSpace, onTab, hyphenated, onBreak, wrapOn, unfitWord, cutWord, onWord, step, Ran, passOn, process}
 use Rattle.meaning.specs.declared.settings.Settings.{Settings}
 use Rattle.meaning.specs.declared.cursor.LineCursor.{LineCursor}
 use Rattle.meaning.specs.declared.cursor.Spaces.{Spaces}
@@ -73,13 +73,12 @@ module _ (s : Settings) (p : Place) (at pen : ℕ) (w : Within s p pen) where
   abbrev P : Step → Type 0
   P = Inside s (p .spaces) pen
 
-  cut-run-inside : (cs : List ℕ) (n width : ℕ) → P (cutRun s p at cs n width)
+  cut-run-inside : (cs : List ℕ) (n width : ℕ) → P (cutRun p at cs n width)
   unfolding cutRun penAfter
   cut-run-inside cs n width =
-      let single = width / n in
-      let fitting = roomOf (p .cursor) / single in
+      let fitting = roomOf (p .cursor) / (width / n) in
       pick-cases (λ (ds : List Drawn). penAfter pen ds ≤ s .width .0) (eqb fitting 0) (λ _. omega (arith, ends 0 (omega arith)))
-      (λ _. ends _ (omega (arith, when-small (trailingOn s) (fitting * single), div-mul-le-self (roomOf (p .cursor)) single)))
+      (λ _. ends 0 (omega arith))
 
   space-inside : (cs : List ℕ) (n : ℕ) (look : Looked) → P (onSpace s p at cs n look)
   unfolding onSpace penAfter

@@ -11,7 +11,7 @@ use Rattle.meaning.specs.Tokens.{Tok, newLine, carriageReturn, tab, softHyphen,
 use Rattle.meaning.specs.Cursor.{fitsIn, advance, tabWidth}
 use Rattle.meaning.specs.SpaceConfig.{spacesWidth, spacesAfter}
 use Rattle.meaning.specs.Lookahead.{Looked, goesOn, nextFits, added, nextWidth}
-use Rattle.meaning.specs.LineIter.{drawsSpace, trailingOn}
+use Rattle.meaning.specs.LineIter.{drawsSpace}
 use Rattle.meaning.specs.declared.settings.Settings.{Settings}
 use Rattle.meaning.specs.declared.cursor.LineCursor.{LineCursor}
 use Rattle.meaning.specs.declared.cursor.Spaces.{Spaces}
@@ -78,5 +78,5 @@ pub draws-reach : (s : Settings) (p : Place) (at : ℕ) (ts : List Tok) → Soun
     → drawsSpace s p at ts .reach ≤ at + size (spell ts) + 1
 unfolding drawsSpace
 draws-reach s p at ts h =
-    pick-cases (λ (r : Looked). r .reach ≤ at + size (spell ts) + 1) (p .empty || trailingOn s) (λ _. omega arith)
+    pick-cases (λ (r : Looked). r .reach ≤ at + size (spell ts) + 1) (p .empty) (λ _. omega arith)
     (λ _. fits-reach (s .glyph .0) (p .cursor) (p .spaces) at ts h)

@@ -11,7 +11,7 @@ use Rattle.meaning.specs.Tokens.{Tok, newLine, carriageReturn, tab, softHyphen,
 use Rattle.meaning.specs.Alignment.{plainSpaces, justified, place}
 use Rattle.meaning.specs.Lookahead.{nextWidth}
 use Rattle.meaning.specs.LineIter.{Held, nothingHeld, skips, drawsSpace, cutRun, onSpace, onTab, hyphenated, onBreak, unfitWord, cutWord, onWord, Step, step, Ran, passOn, process}
-use Rattle.meaning.specs.Line.{unmeasured, measured, measuredWidth, measuredCount, lineTokens, startPlace, Line, drawnLine, measuring, placing, lineOf, layLine}
+use Rattle.meaning.specs.Line.{unmeasured, measured, lineTokens, startPlace, Line, drawnLine, measuring, placing, lineOf, layLine}
 use Rattle.meaning.specs.Layout.{Row, rowAt, unlessEnded, rowsBy, rows, entryOfRow, layout, allEvents, layoutEvents}
 use Rattle.meaning.specs.declared.settings.Settings.{Settings}
 use Rattle.meaning.specs.declared.cursor.Place.{Place}
@@ -27,10 +27,9 @@ pub record SameLines (s s′ : Settings) : Type 0 where
   pub tab : s .tab ≡ s′ .tab
   pub alignment : s .alignment ≡ s′ .alignment
   pub leading : s .leading ≡ s′ .leading
-  pub trailing : s .trailing ≡ s′ .trailing
   pub wrap : s .wrap ≡ s′ .wrap
 
--- ---- why: a line is the same with the other six at 0
+-- ---- why: a line is the same with the others at 0
 
 abbrev lineSettings : Settings → Settings
 lineSettings s =
@@ -46,7 +45,7 @@ lineSettings s =
       alignment = s .alignment;
       vertical = 0;
       leading = s .leading;
-      trailing = s .trailing;
+      trailing = 0;
       wrap = s .wrap;
     }
 
@@ -73,12 +72,12 @@ process-alone s (t ∷ ts) p at =
     λ i. passOn (at + needOf t) (charsOf t) (step-alone s p at t ts i) (λ q. process-alone s ts q (at + sizeOf t) i)
 
 line-alone : (s : Settings) (ts : List Tok) → lineOf s ts ≡ lineOf (lineSettings s) ts
-unfolding lineOf measuring placing place justified plainSpaces startPlace measuredWidth measuredCount
+unfolding lineOf measuring placing place justified plainSpaces startPlace
 line-alone s ts =
     λ i.
     let r = process-alone s ts (startPlace s 0 (plainSpaces s)) 0 i in
     let p = placing s r in
-    drawnLine p (measuredWidth s (measured unmeasured (r .drawn))) (r .reach)
+    drawnLine p (measured unmeasured (r .drawn) .width .0) (r .reach)
     (process-alone s ts (startPlace s (p .left .0) (p .spaces)) 0 i)
 
 module _ {s s′ : Settings} (e : SameLines s s′) where
@@ -97,7 +96,7 @@ module _ {s s′ : Settings} (e : SameLines s s′) where
         alignment = e .alignment i;
         vertical = 0;
         leading = e .leading i;
-        trailing = e .trailing i;
+        trailing = 0;
         wrap = e .wrap i;
       }
 

@@ -15,7 +15,7 @@ use Rattle.meaning.specs.Cursor.{roomOf, fitsIn, advance, hasMoved, tabWidth}
 use Rattle.meaning.specs.SpaceConfig.{spacesWidth, spacesAfter}
 use Rattle.meaning.specs.Lookahead.{Looked, goesOn, nextFits, Ahead, added, nextWidth}
 use Rattle.meaning.specs.Words.{Drawn, drawn, Stretches, last, glued, stretches, printedFirst, drawnStretches, drawnWord}
-use Rattle.meaning.specs.LineIter.{drawsSpace, trailingOn, skips, Step, go, stop, cutRun, onSpace, onTab, hyphenated, onBreak, wrapOn, unfitWord, cutWord, onWord, step, Ran, passOn, process}
+use Rattle.meaning.specs.LineIter.{drawsSpace, skips, Step, go, stop, cutRun, onSpace, onTab, hyphenated, onBreak, wrapOn, unfitWord, cutWord, onWord, step, Ran, passOn, process}
 use Rattle.meaning.specs.Line.{noted, measured, eventsAt}
 use Rattle.meaning.specs.declared.settings.Settings.{Settings}
 use Rattle.meaning.specs.declared.cursor.LineCursor.{LineCursor}
@@ -146,11 +146,11 @@ record Seen (d : ℕ) (l k : Looked) : Type 0 where
 draws-shift : (s : Settings) (p : Place) (d at : ℕ) (ts : List Tok) → Seen d (drawsSpace s p at ts) (drawsSpace s p (d + at) ts)
 unfolding drawsSpace
 draws-shift s p d at ts =
-    both (Seen d) (p .empty || trailingOn s) (record { fits = refl; reach = omega arith })
+    both (Seen d) (p .empty) (record { fits = refl; reach = omega arith })
     (rw (fits-shift (s .glyph .0) (p .cursor) (p .spaces) d at ts) (record { fits = refl; reach = omega arith }))
 
 module _ (s : Settings) (p : Place) (d at : ℕ) where
-  cut-run-shift : (cs : List ℕ) (n width : ℕ) → Shifted d (cutRun s p at cs n width) (cutRun s p (d + at) cs n width)
+  cut-run-shift : (cs : List ℕ) (n width : ℕ) → Shifted d (cutRun p at cs n width) (cutRun p (d + at) cs n width)
   unfolding cutRun shifted
   cut-run-shift cs n width =
       let fitting = roomOf (p .cursor) / (width / n) in

@@ -88,7 +88,7 @@ some-spaces sp zero m h = omega arith
 some-spaces sp (suc n) m h = omega arith
 
 module _ (s : Settings) (p : Place) (at : ℕ) where
-  cut-run : (cs : List ℕ) (n width : ℕ) → 1 ≤ n → n ≤ length cs → SoundStep (length cs) p (cutRun s p at cs n width)
+  cut-run : (cs : List ℕ) (n width : ℕ) → 1 ≤ n → n ≤ length cs → SoundStep (length cs) p (cutRun p at cs n width)
   unfolding cutRun
   cut-run cs n width f g =
       let taken = min (roomOf (p .cursor) / (width / n) + 1) n in

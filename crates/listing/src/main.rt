@@ -27,7 +27,7 @@ const LINES: usize = 1024;
 // The place of a line's last number.
 const LAST: usize = ENTRY_NUMBERS - 1;
 
-// Left aligned, leading spaces on, trailing spaces off. Nothing here asks for heights.
+// Left aligned, leading spaces on. Nothing here asks for heights.
 fn settings() -> Settings {
     Settings {
         glyph: Pixels(6),

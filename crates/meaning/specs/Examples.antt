@@ -19,7 +19,7 @@ use Rattle.meaning.specs.Alignment.{plainSpaces, justified, place}
 use Rattle.meaning.specs.Lookahead.{goesOn, nextFits, added, nextWidth}
 use Rattle.meaning.specs.Words.{grow, stretches, glues, printedFirst, drawnStretches, drawnWord}
 use Rattle.meaning.specs.LineIter.{skips, drawsSpace, when, cutRun, onSpace, onTab, hyphenated, onBreak, unfitWord, cutWord, onWord, step, process}
-use Rattle.meaning.specs.Line.{measured, measuredWidth, measuredCount, heldTokens, lineTokens, startPlace, measuring, placing, lineOf, layLine, restOf, entryAt, eventsAt}
+use Rattle.meaning.specs.Line.{measured, heldTokens, lineTokens, startPlace, measuring, placing, lineOf, layLine, restOf, entryAt, eventsAt}
 use Rattle.meaning.specs.Layout.{rowAt, unlessEnded, rowsBy, mostLines, rows, layout, allEvents, layoutEvents}
 use Rattle.meaning.specs.Table.{ofEntry, ofEvent}
 use Rattle.meaning.specs.declared.settings.Settings.{Settings}
@@ -30,8 +30,8 @@ codes string.[] = []
 codes (string._∷_ c s) = code c ∷ codes s
 
 -- The settings that a layout depends on, but for the tab, which is 24 wide. What height and y take plays no part.
-abbrev pub laidOut : (glyph width alignment leading trailing wrap : ℕ) → Settings
-laidOut glyph width alignment leading trailing wrap =
+abbrev pub laidOut : (glyph width alignment leading wrap : ℕ) → Settings
+laidOut glyph width alignment leading wrap =
     record {
       glyph = record { 0 = glyph };
       width = record { 0 = width };
@@ -44,20 +44,20 @@ laidOut glyph width alignment leading trailing wrap =
       alignment = alignment;
       vertical = 0;
       leading = leading;
-      trailing = trailing;
+      trailing = 0;
       wrap = wrap;
     }
 
--- The examples' settings: glyph 6, left, leading on, trailing off, wrap off; and with words that wait.
+-- The examples' settings: glyph 6, left, leading on, wrap off; and with words that wait.
 abbrev pub box : ℕ → Settings
-box w = laidOut 6 w 0 1 0 0
+box w = laidOut 6 w 0 1 0
 
 abbrev pub waitingBox : ℕ → Settings
-waitingBox w = laidOut 6 w 0 1 0 1
+waitingBox w = laidOut 6 w 0 1 1
 
 -- Justified, leading off.
 abbrev pub justifiedBox : ℕ → Settings
-justifiedBox w = laidOut 6 w 3 0 0 0
+justifiedBox w = laidOut 6 w 3 0 0
 
 -- A text in a box, the ten numbers of each of its lines, and the six of each of its events.
 pub record Example : Type 0 where
@@ -133,7 +133,7 @@ examples =
     ((0 ∷ 0 ∷ 0 ∷ 3 ∷ 0 ∷ 6 ∷ 0 ∷ 12 ∷ 0 ∷ 12 ∷ []) ∷ (3 ∷ 0 ∷ 0 ∷ 2 ∷ 0 ∷ 6 ∷ 0 ∷ 36 ∷ 0 ∷ 12 ∷ []) ∷ [])
     ((1 ∷ 0 ∷ 2 ∷ 0 ∷ 12 ∷ 0 ∷ []) ∷ (0 ∷ 2 ∷ 3 ∷ 1 ∷ 0 ∷ 12 ∷ []) ∷ (1 ∷ 3 ∷ 5 ∷ 0 ∷ 12 ∷ 0 ∷ []) ∷ (0 ∷ 5 ∷ 8 ∷ 1 ∷ 6 ∷ 12 ∷ []) ∷ (1 ∷ 8 ∷ 11 ∷ 0 ∷ 18 ∷ 18 ∷ []) ∷ [])
     -- lines that begin and end with each of the three that glue; leading spaces are off, and none is skipped
-    ∷ example (laidOut 6 30 0 0 0 0) "\u{a0}a\u{a0}\n\u{2007}b\u{2007}\n\u{202f}c\u{202f}"
+    ∷ example (laidOut 6 30 0 0 0) "\u{a0}a\u{a0}\n\u{2007}b\u{2007}\n\u{202f}c\u{202f}"
     ((0 ∷ 0 ∷ 0 ∷ 0 ∷ 0 ∷ 6 ∷ 0 ∷ 18 ∷ 0 ∷ 6 ∷ []) ∷ (6 ∷ 0 ∷ 0 ∷ 0 ∷ 0 ∷ 6 ∷ 0 ∷ 18 ∷ 0 ∷ 14 ∷ []) ∷ (14 ∷ 0 ∷ 0 ∷ 2 ∷ 0 ∷ 6 ∷ 0 ∷ 18 ∷ 0 ∷ 22 ∷ []) ∷ [])
     ((0 ∷ 0 ∷ 2 ∷ 1 ∷ 6 ∷ 0 ∷ []) ∷ (1 ∷ 2 ∷ 3 ∷ 0 ∷ 6 ∷ 6 ∷ []) ∷ (0 ∷ 3 ∷ 5 ∷ 1 ∷ 6 ∷ 12 ∷ []) ∷ (1 ∷ 5 ∷ 5 ∷ 0 ∷ 0 ∷ 18 ∷ []) ∷ (0 ∷ 5 ∷ 6 ∷ 0 ∷ 0 ∷ 18 ∷ []) ∷ (0 ∷ 6 ∷ 9 ∷ 1 ∷ 6 ∷ 0 ∷ []) ∷ (1 ∷ 9 ∷ 10 ∷ 0 ∷ 6 ∷ 6 ∷ []) ∷ (0 ∷ 10 ∷ 13 ∷ 1 ∷ 6 ∷ 12 ∷ []) ∷ (1 ∷ 13 ∷ 13 ∷ 0 ∷ 0 ∷ 18 ∷ []) ∷ (0 ∷ 13 ∷ 14 ∷ 0 ∷ 0 ∷ 18 ∷ []) ∷ (0 ∷ 14 ∷ 17 ∷ 1 ∷ 6 ∷ 0 ∷ []) ∷ (1 ∷ 17 ∷ 18 ∷ 0 ∷ 6 ∷ 6 ∷ []) ∷ (0 ∷ 18 ∷ 21 ∷ 1 ∷ 6 ∷ 12 ∷ []) ∷ (1 ∷ 21 ∷ 21 ∷ 0 ∷ 0 ∷ 18 ∷ []) ∷ [])
     -- a word of the three alone, whole and cut into lines of one
@@ -165,13 +165,13 @@ examples =
     ((0 ∷ 0 ∷ 1 ∷ 1 ∷ 0 ∷ 0 ∷ []) ∷ (1 ∷ 1 ∷ 3 ∷ 0 ∷ 12 ∷ 0 ∷ []) ∷ (0 ∷ 3 ∷ 4 ∷ 1 ∷ 7 ∷ 12 ∷ []) ∷ (1 ∷ 4 ∷ 6 ∷ 0 ∷ 12 ∷ 19 ∷ [])
     ∷ (0 ∷ 6 ∷ 7 ∷ 1 ∷ 7 ∷ 31 ∷ []) ∷ (1 ∷ 7 ∷ 9 ∷ 0 ∷ 12 ∷ 38 ∷ []) ∷ (1 ∷ 10 ∷ 12 ∷ 0 ∷ 12 ∷ 0 ∷ []) ∷ [])
     -- centred, and a line feed, which is drawn as a space of no width
-    ∷ example (laidOut 6 30 1 0 0 0) "ab\ncd"
+    ∷ example (laidOut 6 30 1 0 0) "ab\ncd"
     ((0 ∷ 0 ∷ 0 ∷ 0 ∷ 9 ∷ 6 ∷ 0 ∷ 12 ∷ 0 ∷ 3 ∷ []) ∷ (3 ∷ 0 ∷ 0 ∷ 2 ∷ 9 ∷ 6 ∷ 0 ∷ 12 ∷ 0 ∷ 6 ∷ []) ∷ [])
     ((1 ∷ 0 ∷ 2 ∷ 0 ∷ 12 ∷ 9 ∷ []) ∷ (0 ∷ 2 ∷ 3 ∷ 0 ∷ 0 ∷ 21 ∷ []) ∷ (1 ∷ 3 ∷ 5 ∷ 0 ∷ 12 ∷ 9 ∷ []) ∷ [])
-    -- to the right with trailing spaces on, which count in the width
-    ∷ example (laidOut 5 23 2 0 1 0) "ab  "
-    ((0 ∷ 0 ∷ 0 ∷ 2 ∷ 3 ∷ 5 ∷ 0 ∷ 20 ∷ 0 ∷ 5 ∷ []) ∷ [])
-    ((1 ∷ 0 ∷ 2 ∷ 0 ∷ 10 ∷ 3 ∷ []) ∷ (0 ∷ 2 ∷ 4 ∷ 2 ∷ 10 ∷ 13 ∷ []) ∷ [])
+    -- to the right: the spaces at the line's end do not count in its width, so they are cut where it is drawn
+    ∷ example (laidOut 5 23 2 0 0) "ab  "
+    ((0 ∷ 0 ∷ 0 ∷ 3 ∷ 13 ∷ 5 ∷ 0 ∷ 10 ∷ 0 ∷ 5 ∷ []) ∷ (3 ∷ 4 ∷ 1 ∷ 2 ∷ 23 ∷ 5 ∷ 0 ∷ 0 ∷ 0 ∷ 5 ∷ []) ∷ [])
+    ((1 ∷ 0 ∷ 2 ∷ 0 ∷ 10 ∷ 13 ∷ []) ∷ (0 ∷ 3 ∷ 4 ∷ 1 ∷ 0 ∷ 23 ∷ []) ∷ [])
     -- a carriage return
     ∷ example (box 30) "ab\rcd"
     ((0 ∷ 0 ∷ 0 ∷ 1 ∷ 0 ∷ 6 ∷ 0 ∷ 12 ∷ 0 ∷ 3 ∷ []) ∷ (3 ∷ 0 ∷ 0 ∷ 2 ∷ 0 ∷ 6 ∷ 0 ∷ 12 ∷ 0 ∷ 6 ∷ []) ∷ [])
@@ -205,22 +205,22 @@ examples =
     ((0 ∷ 0 ∷ 0 ∷ 3 ∷ 0 ∷ 6 ∷ 0 ∷ 0 ∷ 3 ∷ 4 ∷ []) ∷ (3 ∷ 0 ∷ 0 ∷ 2 ∷ 0 ∷ 6 ∷ 0 ∷ 0 ∷ 0 ∷ 4 ∷ []) ∷ [])
     []
     -- to the right: measured from 0 the tab moves the cursor and "a" waits; drawn from the edge nothing moves, and "a" is dropped
-    ∷ example (laidOut 24 47 2 1 0 1) "\ta"
+    ∷ example (laidOut 24 47 2 1 1) "\ta"
     ((0 ∷ 0 ∷ 0 ∷ 3 ∷ 47 ∷ 24 ∷ 0 ∷ 0 ∷ 1 ∷ 3 ∷ []) ∷ (2 ∷ 0 ∷ 0 ∷ 2 ∷ 47 ∷ 24 ∷ 0 ∷ 0 ∷ 0 ∷ 3 ∷ []) ∷ [])
     ((2 ∷ 0 ∷ 1 ∷ 0 ∷ 0 ∷ 47 ∷ []) ∷ [])
     -- centred: measured from 0 the tab goes to 24 and "a" fits; drawn from 12 it goes to 48, and "a" waits
-    ∷ example (laidOut 12 59 1 1 0 1) " \ta"
+    ∷ example (laidOut 12 59 1 1 1) " \ta"
     ((0 ∷ 0 ∷ 0 ∷ 3 ∷ 12 ∷ 12 ∷ 0 ∷ 36 ∷ 0 ∷ 4 ∷ []) ∷ (2 ∷ 0 ∷ 0 ∷ 2 ∷ 24 ∷ 12 ∷ 0 ∷ 12 ∷ 0 ∷ 4 ∷ []) ∷ [])
     ((0 ∷ 0 ∷ 1 ∷ 1 ∷ 12 ∷ 12 ∷ []) ∷ (0 ∷ 1 ∷ 2 ∷ 0 ∷ 24 ∷ 24 ∷ []) ∷ (1 ∷ 2 ∷ 3 ∷ 0 ∷ 12 ∷ 24 ∷ []) ∷ [])
     -- justified: measured "a" fits; drawn the wide space and the tab behind it carry the cursor too far, and "a" waits
-    ∷ example (laidOut 6 74 3 1 0 1) " \ta\r"
+    ∷ example (laidOut 6 74 3 1 1) " \ta\r"
     ((0 ∷ 0 ∷ 0 ∷ 3 ∷ 0 ∷ 50 ∷ 0 ∷ 30 ∷ 0 ∷ 4 ∷ []) ∷ (2 ∷ 0 ∷ 0 ∷ 1 ∷ 0 ∷ 6 ∷ 0 ∷ 6 ∷ 0 ∷ 4 ∷ []) ∷ (4 ∷ 0 ∷ 0 ∷ 2 ∷ 0 ∷ 6 ∷ 0 ∷ 0 ∷ 0 ∷ 5 ∷ []) ∷ [])
     ((0 ∷ 0 ∷ 1 ∷ 1 ∷ 50 ∷ 0 ∷ []) ∷ (0 ∷ 1 ∷ 2 ∷ 0 ∷ 22 ∷ 50 ∷ []) ∷ (1 ∷ 2 ∷ 3 ∷ 0 ∷ 6 ∷ 0 ∷ []) ∷ (0 ∷ 3 ∷ 4 ∷ 0 ∷ 0 ∷ 6 ∷ []) ∷ [])
     ∷ []
 
 -- The lines and the events of a text, with every definition that they take open to be computed.
 unfoldable pub linesOf : Settings → List ℕ → List (List ℕ)
-unfolding pick bytes size whiteSpaces member isWhite glue classOf inWord inRun run after ender counted first others tokensBy tokens charsOf sizeOf enderOf needOf roomOf fitsIn advance hasMoved tabWidth spacesWidth spacesAfter plainSpaces justified place goesOn nextFits added nextWidth grow stretches glues printedFirst drawnStretches drawnWord skips drawsSpace when cutRun onSpace onTab hyphenated onBreak unfitWord cutWord onWord step process measured measuredWidth measuredCount heldTokens lineTokens startPlace measuring placing lineOf layLine restOf entryAt eventsAt rowAt unlessEnded rowsBy rows layout ofEntry
+unfolding pick bytes size whiteSpaces member isWhite glue classOf inWord inRun run after ender counted first others tokensBy tokens charsOf sizeOf enderOf needOf roomOf fitsIn advance hasMoved tabWidth spacesWidth spacesAfter plainSpaces justified place goesOn nextFits added nextWidth grow stretches glues printedFirst drawnStretches drawnWord skips drawsSpace when cutRun onSpace onTab hyphenated onBreak unfitWord cutWord onWord step process measured heldTokens lineTokens startPlace measuring placing lineOf layLine restOf entryAt eventsAt rowAt unlessEnded rowsBy rows layout ofEntry
 linesOf s cs = map ofEntry (layout s cs)
 
 unfoldable pub eventsOf : Settings → List ℕ → List (List ℕ)

@@ -10,7 +10,7 @@ use Rattle.unicode.specs.Encoding.{size}
 use Rattle.meaning.specs.Tokens.{Tok, space, ender, tokens}
 use Rattle.meaning.specs.Alignment.{plainSpaces, place}
 use Rattle.meaning.specs.Words.{Drawn}
-use Rattle.meaning.specs.LineIter.{Held, trailingOn, Ran, process}
+use Rattle.meaning.specs.LineIter.{Held, Ran, process}
 use Rattle.meaning.specs.declared.settings.Settings.{Settings}
 use Rattle.meaning.specs.declared.cursor.Spaces.{Spaces}
 use Rattle.meaning.specs.declared.cursor.Place.{Place}
@@ -38,13 +38,6 @@ noted Move pen spaces m = record { pen = record { 0 = pen }; spaces = record { 0
 unfoldable pub measured : Measure → List Drawn → Measure
 measured m [] = m
 measured m (d ∷ ds) = measured (noted (d .kind) (m .pen .0 + d .width) (m .spaces .0 + d .count) m) ds
-
--- With trailing spaces on, the two at the line's end count.
-unfoldable pub measuredWidth : Settings → Measure → ℕ
-measuredWidth s m = pick (trailingOn s) (m .pen .0) (m .width .0)
-
-unfoldable pub measuredCount : Settings → Measure → ℕ
-measuredCount s m = pick (trailingOn s) (m .spaces .0) (m .count .0)
 
 -- Rule 9: the next line starts with what is held as one token.
 unfoldable pub heldTokens : (chars count : ℕ) → List ℕ → List Tok
@@ -96,13 +89,13 @@ measuring s ts = process s (startPlace s 0 (plainSpaces s)) 0 ts
 unfoldable pub placing : Settings → Ran → Placed
 placing s r =
     let m = measured unmeasured (r .drawn) in
-    place s (r .ended) (measuredWidth s m) (measuredCount s m)
+    place s (r .ended) (m .width .0) (m .count .0)
 
 unfoldable pub lineOf : Settings → List Tok → Line
 lineOf s ts =
     let r = measuring s ts in
     let p = placing s r in
-    drawnLine p (measuredWidth s (measured unmeasured (r .drawn))) (r .reach) (process s (startPlace s (p .left .0) (p .spaces)) 0 ts)
+    drawnLine p (measured unmeasured (r .drawn) .width .0) (r .reach) (process s (startPlace s (p .left .0) (p .spaces)) 0 ts)
 
 -- The line that a text begins with, after what was held before it.
 unfoldable pub layLine : Settings → Held → List ℕ → Line

@@ -38,9 +38,6 @@ pub data Step : Type 0 where
 abbrev pub leadingOn : Settings → Bool
 leadingOn s = eqb (s .leading) 1
 
-abbrev pub trailingOn : Settings → Bool
-trailingOn s = eqb (s .trailing) 1
-
 abbrev pub wrapOn : Settings → Bool
 wrapOn s = eqb (s .wrap) 1
 
@@ -48,10 +45,10 @@ wrapOn s = eqb (s .wrap) 1
 unfoldable pub skips : Settings → Place → Bool
 skips s p = p .empty && not (leadingOn s)
 
--- `should_draw_whitespace`: at the front of a line, with trailing spaces on, or if the next word fits, the only one that looks.
+-- `should_draw_whitespace`: at the front of a line, or if the next word fits, the only one that looks.
 unfoldable pub drawsSpace : Settings → Place → (at : ℕ) → List Tok → Looked
 drawsSpace s p at ts =
-    pick (p .empty || trailingOn s) (record { fits = true; reach = 0 }) (nextFits (s .glyph .0) (p .cursor) (p .spaces) at ts)
+    pick (p .empty) (record { fits = true; reach = 0 }) (nextFits (s .glyph .0) (p .cursor) (p .spaces) at ts)
 
 -- A width, or 0.
 unfoldable pub when : Bool → ℕ → ℕ
@@ -64,16 +61,16 @@ movedOn p w = record { cursor = advance (p .cursor) w; spaces = p .spaces; empty
 abbrev pub usedUp : Place → ℕ → Place
 usedUp p n = record { cursor = p .cursor; spaces = spacesAfter (p .spaces) n; empty = p .empty }
 
--- Rule 9: of a run of n spaces that is too wide the spaces that fit are drawn, and one more is taken. The rest is held.
+-- Rule 9: of a run of n spaces that is too wide the spaces that fit are counted, with no width, and one more is taken. The rest is held.
 abbrev pub heldAfter : (chars count k : ℕ) → Held
 heldAfter chars count k = pick (eqb (chars - k) 0) nothingHeld (record { chars = chars - k; count = count - k })
 
-unfoldable pub cutRun : Settings → Place → (at : ℕ) → List ℕ → (n width : ℕ) → Step
-cutRun s p at cs n width =
+unfoldable pub cutRun : Place → (at : ℕ) → List ℕ → (n width : ℕ) → Step
+cutRun p at cs n width =
     let single = width / n in
     let fitting = roomOf (p .cursor) / single in
     let taken = min (fitting + 1) n in
-    let shown = drawn Space at (at + size (take fitting cs)) fitting (when (trailingOn s) (fitting * single)) ∷ [] in
+    let shown = drawn Space at (at + size (take fitting cs)) fitting 0 ∷ [] in
     stop LineBreak (pick (eqb fitting 0) [] shown) taken (heldAfter (length cs) n taken) 0 0
 
 -- A space run, whose n spaces are used up whatever becomes of it.
@@ -84,7 +81,7 @@ onSpace s p at cs n look =
     pick (skips s p) (go (usedUp p n) (drawn Space at to n 0 ∷ []) 0)
     (pick (fitsIn (p .cursor) width)
     (go (movedOn (usedUp p n) width) (drawn Space at to n (when (look .fits) width) ∷ []) (look .reach))
-    (cutRun s p at cs n width))
+    (cutRun p at cs n width))
 
 -- A tab that does not fit carries pen and cursor to the edge: both by the room.
 abbrev pub beyondTab : Place → (at : ℕ) → Step

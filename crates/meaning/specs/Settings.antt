@@ -2,7 +2,7 @@
 -- Assumes nothing.
 use Prim.Native.Nat.{ℕ}
 use mathlib.Core.Bool.{Bool, _&&_}
-use lib.Dec.{leb}
+use lib.Dec.{leb, eqb}
 use lib.IntN.{ℤ, pos, negsuc}
 use lib.Signed.{leZ}
 use Rattle.basis.specs.Order.{within}
@@ -17,9 +17,13 @@ unfoldable pub sizesInRange : (glyph width tab spacing paragraph base height : �
 sizesInRange glyph width tab spacing paragraph base height =
     within 1 64 glyph && leb width 4096 && leb tab 4096 && leb spacing 4096 && leb paragraph 4096 && within 1 64 base && leb height 4096
 
--- Leading and trailing spaces are off or on; a word of which no character fits is dropped or waits.
+-- Leading spaces are off or on; a word of which no character fits is dropped or waits.
 abbrev pub isSwitch : ℕ → Bool
 isSwitch n = leb n 1
+
+-- The setting of trailing spaces is retired: only its 0 is left.
+abbrev pub isRetired : ℕ → Bool
+isRetired n = eqb n 0
 
 -- Every setting but the two alignments is in its range.
 unfoldable pub inRange : Settings → Bool
@@ -27,7 +31,7 @@ inRange s =
     sizesInRange (s .glyph .0) (s .width .0) (s .tab .0) (s .spacing .0) (s .paragraph .0) (s .base .0) (s .height .0)
     && topInRange (s .top)
     && isSwitch (s .leading)
-    && isSwitch (s .trailing)
+    && isRetired (s .trailing)
     && isSwitch (s .wrap)
 
 -- Alignment: 0 left, 1 centre, 2 right, 3 justified.

@@ -25,7 +25,7 @@ pub struct Settings {
     pub vertical: u32,
     // leading spaces: 0 off, 1 on
     pub leading: u32,
-    // trailing spaces: 0 off, 1 on
+    // trailing spaces, which are retired: 0
     pub trailing: u32,
     // a word of which no character fits: 0 it is dropped, 1 it waits for the next line if the cursor has left its starting place
     pub wrap: u32,

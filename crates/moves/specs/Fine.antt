@@ -10,7 +10,7 @@ use Rattle.meaning.specs.declared.cursor.Place.{Place}
 abbrev pub FineSettings : Settings → Type 0
 FineSettings s =
     (1 ≤ s .glyph .0) × (s .glyph .0 ≤ 64) × (s .width .0 ≤ 4096) × (s .tab .0 ≤ 4096) × (s .alignment ≤ 3)
-    × (s .leading ≤ 1) × (s .trailing ≤ 1)
+    × (s .leading ≤ 1)
 
 -- The cursor stands in 0..box width.
 abbrev pub FineCursor : LineCursor → Type 0

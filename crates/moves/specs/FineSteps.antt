@@ -18,7 +18,7 @@ use Rattle.meaning.specs.SpaceConfig.{spacesWidth, spacesAfter}
 use Rattle.meaning.specs.Lookahead.{Looked}
 use Rattle.meaning.specs.Alignment.{plainSpaces}
 use Rattle.meaning.specs.Words.{Drawn, drawn, glues, drawnWord}
-use Rattle.meaning.specs.LineIter.{when, skips, trailingOn, movedOn, Step, go, stop, cutRun, onSpace, onTab, hyphenated, onBreak, wrapOn, unfitWord, cutWord, onWord, step}
+use Rattle.meaning.specs.LineIter.{when, skips, movedOn, Step, go, stop, cutRun, onSpace, onTab, hyphenated, onBreak, wrapOn, unfitWord, cutWord, onWord, step}
 use Rattle.meaning.specs.Line.{noted, measured, startPlace}
 use Rattle.meaning.specs.declared.settings.Settings.{Settings}
 use Rattle.meaning.specs.declared.cursor.LineCursor.{LineCursor}
@@ -148,7 +148,7 @@ module _ (s : Settings) (p : Place) (at : ℕ) (m : Measure) (fs : FineSettings 
       record { place = (a .0, fp .1); width = refl; tab = refl; extra = omega arith; grows = g (a .1) }
 
   cut-run-fine : (cs : List ℕ) (n : ℕ) → 1 ≤ size cs → n ≤ length cs → fitsIn (p .cursor) (spacesWidth (p .spaces) n) ≡ false
-      → FineStep p m (size cs) (length cs) (cutRun s p at cs n (spacesWidth (p .spaces) n))
+      → FineStep p m (size cs) (length cs) (cutRun p at cs n (spacesWidth (p .spaces) n))
   unfolding cutRun
   cut-run-fine cs n h g wide =
       let width = spacesWidth (p .spaces) n in
@@ -159,7 +159,7 @@ module _ (s : Settings) (p : Place) (at : ℕ) (m : Measure) (fs : FineSettings 
       pick-cases (Grows m (8192 * size cs) (length cs + p .spaces .extra .0)) (eqb fitting 0) (λ _. grows-none m _ _)
       (λ _.
       grows-one m _ _ Space _ _ _ _
-      (omega (arith, when-small (trailingOn s) (fitting * (width / n)), div-mul-le-self room (width / n)))
+      (omega arith)
       (omega (arith, cut-count room (p .spaces) n (fp .1) (some-spaces (p .spaces) n room less) less)))
 
   on-space-fine : (cs : List ℕ) (n : ℕ) (look : Looked) → 1 ≤ size cs → n ≤ length cs → FineStep p m (size cs) (length cs) (onSpace s p at cs n look)

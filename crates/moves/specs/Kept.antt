@@ -46,7 +46,7 @@ module _ (s : Settings) (p : Place) (at : ℕ) where
   -- A space run is cut by the room of the cursor that it had.
   pub space-kept : (cs : List ℕ) (n : ℕ) (look : Looked) → skips s p ≡ false
       → went (moveBy (p .cursor) (pos (spacesWidth (p .spaces) n))) ≡ false
-      → onSpace s p at cs n look ≡ cutRun s p at cs n (spacesWidth (p .spaces) n)
+      → onSpace s p at cs n look ≡ cutRun p at cs n (spacesWidth (p .spaces) n)
   unfolding onSpace pick
   space-kept cs n look e f = rw (e, not-fits (spacesWidth (p .spaces) n) f)
 

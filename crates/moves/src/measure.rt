@@ -2,10 +2,9 @@
 use meaning::counts::Chars;
 use meaning::counts::Pixels;
 use meaning::line::Measure;
-use meaning::settings::Settings;
 ghost use Prim.Native.Nat.{_+_, _<_};
 ghost use mathlib.Core.Path.{_≡_};
-ghost use Rattle.meaning.specs.Line.{noted, unmeasured, measuredWidth, measuredCount};
+ghost use Rattle.meaning.specs.Line.{noted, unmeasured};
 ghost use Rattle.meaning.specs.declared.line.EventKind.the-variants.{Space, Printed};
 ghost use Rattle.laws.specs.Measuring.{printedAt};
 
@@ -61,24 +60,4 @@ pub fn noted_print(m: Measure, width: Pixels) -> Measure
         width: pen,
         count: spaces,
     }
-}
-
-// The measured width: with trailing spaces on, those at the line's end count.
-pub fn measured_width(s: Settings, m: Measure) -> Pixels
-    ensures { λ r. ⌜ r .0 ≡ measuredWidth s m ⌝ }
-{
-    if s.trailing == 1 {
-        return m.pen;
-    }
-    m.width
-}
-
-// The spaces counted up to there.
-pub fn measured_count(s: Settings, m: Measure) -> Chars
-    ensures { λ r. ⌜ r .0 ≡ measuredCount s m ⌝ }
-{
-    if s.trailing == 1 {
-        return m.spaces;
-    }
-    m.count
 }

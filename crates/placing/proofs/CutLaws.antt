@@ -11,7 +11,7 @@ use Rattle.meaning.specs.Tokens.{tokens}
 use Rattle.meaning.specs.Cursor.{roomOf, fitsIn}
 use Rattle.meaning.specs.SpaceConfig.{spacesWidth}
 use Rattle.meaning.specs.Alignment.{plainSpaces}
-use Rattle.meaning.specs.Line.{unmeasured, measuredWidth, measuredCount, startPlace}
+use Rattle.meaning.specs.Line.{unmeasured, startPlace}
 use Rattle.meaning.specs.declared.tokens.TokenKind.the-variants.{Word}
 use Rattle.meaning.specs.declared.settings.Settings.{Settings}
 use Rattle.meaning.specs.declared.cursor.Place.{Place}
@@ -36,7 +36,7 @@ use Rattle.placing.specs.LayLaws.{start-ready, plain-ready, few-spaces}
 use Rattle.placing.specs.FairLaws.{place-fair}
 use Rattle.placing.proofs.CountLaws.{plain-width}
 use Rattle.placing.proofs.CountingLaws.{most-within, most-over}
-use Rattle.placing.proofs.QuickLaws.{same-before, Measured, words-measured}
+use Rattle.placing.proofs.QuickLaws.{same-before}
 
 -- As many glyphs fit from the left of a line that has room for those that fit into the whole of it.
 room-same : (width glyph left most : ℕ) → 1 ≤ glyph → most ≡ width / glyph → left + most * glyph ≤ width → most ≡ (width - left) / glyph
@@ -96,10 +96,10 @@ module _ {s : Settings} {t : List ℕ} {at : ℕ} (h : LineReady s t at nothingR
         let plain : r ≡ endsBefore LineBreak (wordMeasure (s .glyph .0) (plainSpaces s) unmeasured most (part .glues .0)) (part .end .0) 0 (x .reach .0)
         = b ∙ ap (λ (n : Measure). endsBefore LineBreak n (part .end .0) 0 (x .reach .0)) (a ∙ sym plain-measured) in
         let measured : r ≡ passedFrom s t at nothingResumed (plainly s) = plain ∙ cut-passed (plainly s) (fine .0) (omega (arith, within)) in
-        let n = measuredWidth s (r .measure) in
-        let all : Measured s most (part .glues .0) (r .measure) = rw (b, a) (words-measured s most (part .glues .0) within) in
-        let fair = place-fair s most 0 (h .settings) (r .ended) n (measuredCount s (r .measure)) (few-spaces h (plainly s) r refl measured) (omega arith)
-        (omega (arith, all .low)) (all .high) in
+        let n = r .measure .width .0 in
+        let wide : n ≡ most * s .glyph .0 = ap (λ (q : Ended). q .measure .width .0) b ∙ ap (λ (k : Measure). k .width .0) a in
+        let fair = place-fair s most 0 (h .settings) (r .ended) n (r .measure .count .0) (few-spaces h (plainly s) r refl measured) (omega arith)
+        (omega (arith, wide)) (omega (arith, wide, within)) in
         let p = placedBy s r in
         let d = wordMeasure (s .glyph .0) (p .spaces) unmeasured most (part .glues .0) in
         let same : SameEnd r (endsBefore LineBreak d (part .end .0) 0 (x .reach .0))

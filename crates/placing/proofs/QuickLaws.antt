@@ -5,16 +5,15 @@ use mathlib.Core.Bool.{true, false}
 use mathlib.Core.List.{List, []}
 use Prim.Native.Nat.{ℕ, _+_, _-_, _*_, _≤_, _<_}
 use native.Mathlib.Omega.{arith}
-use borrow.Author.Tests.{leb-false, eq-eqb, ne-eqb}
-use lib.Dec.{eqb}
+use borrow.Author.Tests.{leb-false}
 use lib.ListN.{length}
-use Rattle.basis.specs.Choice.{pick, pick-same, by-test}
-use Rattle.basis.specs.Order.{by-eq, by-le}
+use Rattle.basis.specs.Choice.{by-test}
+use Rattle.basis.specs.Order.{by-le}
 use Rattle.meaning.specs.Tokens.{tokens}
 use Rattle.meaning.specs.Cursor.{roomOf, fitsIn}
 use Rattle.meaning.specs.SpaceConfig.{spacesWidth}
 use Rattle.meaning.specs.Alignment.{plainSpaces}
-use Rattle.meaning.specs.Line.{noted, measuredWidth, measuredCount, heldTokens, startPlace}
+use Rattle.meaning.specs.Line.{noted, heldTokens, startPlace}
 use Rattle.meaning.specs.declared.settings.Settings.{Settings}
 use Rattle.meaning.specs.declared.tokens.TokenKind.the-variants as kind
 use Rattle.meaning.specs.declared.cursor.LineCursor.{LineCursor}
@@ -48,7 +47,7 @@ use Rattle.placing.specs.declared.quick.Counted.{Counted}
 use Rattle.placing.specs.LayLaws.{few-spaces}
 use Rattle.steps.specs.PassLaws.{line-ends}
 use Rattle.strides.specs.OnwardLaws.{read-pending, stops-onward}
-use Rattle.strides.specs.WaitLaws.{far-ends, waits-wide, waits-thin, waits-cut}
+use Rattle.strides.specs.WaitLaws.{far-ends, waits-thin, waits-cut}
 use Rattle.placing.specs.FairLaws.{place-fair}
 
 -- ---- a line feed, and the text's end
@@ -87,28 +86,24 @@ module _ {s : Settings} {p : Place} {t : List ℕ} {at : ℕ} {m : Measure} (r :
   abbrev single : ℕ
   single = spacesWidth (p .spaces) 1
 
-  -- The three ends, whatever is to be shown of them.
+  -- The two ends, whatever is to be shown of them.
   waits-by : (P : Ended → Type 0)
-      → (p .cursor .position .0 + single ≤ p .cursor .width .0 → s .trailing ≡ 1 → P (endsBefore LineBreak (noted Space (m .pen .0 + single) (m .spaces .0 + 1) m) (v .next .0) 0 (v .reach .0)))
-      → (p .cursor .position .0 + single ≤ p .cursor .width .0 → (s .trailing ≡ 1 → ⊥) → P (endsBefore LineBreak (noted Space (m .pen .0 + 0) (m .spaces .0 + 1) m) (v .next .0) 0 (v .reach .0)))
+      → (p .cursor .position .0 + single ≤ p .cursor .width .0 → P (endsBefore LineBreak (noted Space (m .pen .0 + 0) (m .spaces .0 + 1) m) (v .next .0) 0 (v .reach .0)))
       → (p .cursor .width .0 < p .cursor .position .0 + single → P (endsBefore LineBreak m (v .next .0) 0 (v .looked .0)))
       → P (ranFrom s p t at 0 0 m)
-  waits-by P a b c =
+  waits-by P a b =
       let inside = r .place .0 .0 in
       by-test (fitsIn (p .cursor) single)
       (λ f.
       let room = fits-room (p .cursor) single f in
-      by-eq (s .trailing) 1
-      (λ h. subst P (waits-wide r v w single refl f h _ refl) (a (omega arith) h))
-      (λ h. subst P (waits-thin r v w single refl f h _ refl) (b (omega arith) h)))
-      (λ f. subst P (waits-cut r v w single refl f) (c (omega (arith, unfit (p .cursor) single f))))
+      subst P (waits-thin r v w single refl f _ refl) (a (omega arith)))
+      (λ f. subst P (waits-cut r v w single refl f) (b (omega (arith, unfit (p .cursor) single f))))
 
   wait-ends : WaitEnd s p v (ranFrom s p t at 0 0 m)
   unfolding endsBefore
   wait-ends =
       waits-by (WaitEnd s p v)
-      (λ f _. record { ended = refl; next = refl; rest = refl; dropped = refl; wide = λ _. refl; thin = λ g. absurd (omega arith) })
-      (λ f _. record { ended = refl; next = refl; rest = refl; dropped = refl; wide = λ _. refl; thin = λ g. absurd (omega arith) })
+      (λ f. record { ended = refl; next = refl; rest = refl; dropped = refl; wide = λ _. refl; thin = λ g. absurd (omega arith) })
       (λ f. record { ended = refl; next = refl; rest = refl; dropped = refl; wide = λ g. absurd (omega arith); thin = λ _. refl })
 
 -- ---- drawn alike
@@ -117,21 +112,13 @@ pub same-before : (e : LineEnd) (m n : Measure) (next reach : ℕ) → SameEnd (
 unfolding endsBefore
 same-before e m n next reach = record { ended = refl; next = refl; rest = refl; dropped = refl; reach = omega arith }
 
--- What is measured in all: the words, and a space behind them at most.
-pub record Measured (s : Settings) (columns spaces : ℕ) (m : Measure) : Type 0 where
-  pub low : columns * s .glyph .0 ≤ measuredWidth s m
-  pub high : measuredWidth s m ≤ s .width .0
-  pub few : spaces ≤ measuredCount s m
+-- What is measured in all: the words, whatever stands behind them.
+record Measured (s : Settings) (columns spaces : ℕ) (m : Measure) : Type 0 where
+  width : m .width .0 ≡ columns * s .glyph .0
+  count : m .count .0 ≡ spaces
 
-pub words-measured : (s : Settings) (columns spaces : ℕ) → columns * s .glyph .0 ≤ s .width .0 → Measured s columns spaces (printedAt (columns * s .glyph .0) spaces)
-unfolding measuredWidth measuredCount
-words-measured s columns spaces h =
-    let wide = columns * s .glyph .0 in
-    record {
-      low = rw (pick-same (eqb (s .trailing) 1) wide) (omega arith);
-      high = rw (pick-same (eqb (s .trailing) 1) wide) h;
-      few = rw (pick-same (eqb (s .trailing) 1) spaces) (omega arith);
-    }
+words-measured : (s : Settings) (columns spaces : ℕ) → Measured s columns spaces (printedAt (columns * s .glyph .0) spaces)
+words-measured s columns spaces = record { width = refl; count = refl }
 
 module _ {s : Settings} {t : List ℕ} {at : ℕ} (h : LineReady s t at nothingResumed) {to columns spaces : ℕ} (c : Counts s t at to columns spaces)
     (within : columns * s .glyph .0 ≤ s .width .0)
@@ -148,10 +135,10 @@ module _ {s : Settings} {t : List ℕ} {at : ℕ} (h : LineReady s t at nothingR
     unfolding passedFrom placedBy
     alike e is m same =
         let measured : e ≡ passedFrom s t at nothingResumed (plainly s) = is ∙ c .plain .same in
-        let width = measuredWidth s (e .measure) in
+        let width = e .measure .width .0 in
         let few = few-spaces h (plainly s) e refl measured in
-        let low = subst (λ (k : ℕ). k * s .glyph .0 ≤ width) (c .all) (m .low) in
-        let fair = place-fair s (c .letters) (c .gaps) (h .settings) (e .ended) width (measuredCount s (e .measure)) few (omega (arith, c .few, m .few)) low (m .high) in
+        let low = subst (λ (k : ℕ). k * s .glyph .0 ≤ width) (c .all) (omega (arith, m .width)) in
+        let fair = place-fair s (c .letters) (c .gaps) (h .settings) (e .ended) width (e .measure .count .0) few (omega (arith, c .few, m .count)) low (omega (arith, m .width, within)) in
         let p = placedBy s e in
         let v = c .placed p fair in
         record { measured = measured; drawn = subst (SameEnd e) (v .onward .same) (same p fair v) }
@@ -161,25 +148,23 @@ module _ {s : Settings} {t : List ℕ} {at : ℕ} (h : LineReady s t at nothingR
     feeds-alike : feedAt t to ≡ true → DrawnAlike s t at (endsBefore NewLine printed (to + 1) 0 (to + 1))
     unfolding endsBefore
     feeds-alike b =
-        alike (endsBefore NewLine printed (to + 1) 0 (to + 1)) (feed-ends (c .plain .ready) b) (words-measured s columns spaces within) λ p f v.
+        alike (endsBefore NewLine printed (to + 1) 0 (to + 1)) (feed-ends (c .plain .ready) b) (words-measured s columns spaces) λ p f v.
         subst (SameEnd _) (feed-ends (v .onward .ready) b) (same-before NewLine printed (v .measure) (to + 1) (to + 1))
 
     ends-alike : length t ≤ to → DrawnAlike s t at (endsBefore EndOfText printed to 0 (to + 1))
     unfolding endsBefore
     ends-alike l =
-        alike (endsBefore EndOfText printed to 0 (to + 1)) (text-ends s here t to printed l) (words-measured s columns spaces within) λ p f v.
+        alike (endsBefore EndOfText printed to 0 (to + 1)) (text-ends s here t to printed l) (words-measured s columns spaces) λ p f v.
         subst (SameEnd _) (text-ends s (v .place) t to (v .measure) l) (same-before EndOfText printed (v .measure) to (to + 1))
 
     -- ---- before a word that waits
 
     module _ (v : Waiting) (w : Waits s here t to v) where
       space-measured : Measured s columns spaces (ranFrom s here t to 0 0 printed .measure)
-      unfolding endsBefore measuredWidth measuredCount pick
+      unfolding endsBefore
       space-measured =
           waits-by (c .plain .ready) w (λ (e : Ended). Measured s columns spaces (e .measure))
-          (λ f l. let e = eq-eqb (s .trailing) 1 l in record { low = rw e (omega arith); high = rw e f; few = rw e (omega arith) })
-          (λ f l. let e = ne-eqb (s .trailing) 1 l in record { low = rw e (omega arith); high = rw e within; few = rw e (omega arith) })
-          (λ f. words-measured s columns spaces within)
+          (λ _. record { width = refl; count = refl }) (λ _. words-measured s columns spaces)
 
       module _ (p : Placed) (f : Fair s p (c .letters) (c .gaps)) (d : Stood s p t at (c .letters) (c .gaps) to) where
         low-place : columns * s .glyph .0 ≤ d .place .cursor .position .0

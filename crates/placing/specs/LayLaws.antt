@@ -5,7 +5,7 @@ use native.Mathlib.Omega.{arith}
 use mathlib.Core.Path.{_≡_, refl, sym, ap, _∙_}
 use mathlib.Core.Bool.{true}
 use mathlib.Core.List.{List}
-use Rattle.meaning.specs.Line.{unmeasured, measuredWidth, measuredCount, startPlace}
+use Rattle.meaning.specs.Line.{unmeasured, startPlace}
 use Rattle.meaning.specs.declared.settings.Settings.{Settings}
 use Rattle.meaning.specs.declared.cursor.Place.{Place}
 use Rattle.meaning.specs.declared.line.Measure.{Measure}
@@ -50,16 +50,16 @@ module _ {s : Settings} {t : List ℕ} {at : ℕ} {r : Resumed} (h : LineReady s
     pub plain-ready : FineSpaces (plain .spaces) × (plain .left .0 ≤ s .width .0)
     plain-ready = rw is (plain-fine s (h .settings), omega arith)
 
-    pub few-spaces : measuredCount s (first .measure) ≤ 65535
+    pub few-spaces : first .measure .count .0 ≤ 65535
     few-spaces = rw (measured, is) (placed-count s t at r (h .rest) (h .settings) (h .short))
 
     pub placed-ready : (p : Placed) → p ≡ placedBy s first → FineSpaces (p .spaces) × (p .left .0 ≤ s .width .0)
     unfolding placedBy
-    placed-ready p e = rw e (place-fine s (first .ended) (measuredWidth s (first .measure)) (measuredCount s (first .measure)) (h .settings) few-spaces)
+    placed-ready p e = rw e (place-fine s (first .ended) (first .measure .width .0) (first .measure .count .0) (h .settings) few-spaces)
 
     -- ---- and drawn
 
-    module _ (width : ℕ) (p : Placed) (l : LineAt) (wide : width ≡ measuredWidth s (first .measure)) (placed : p ≡ placedBy s first) where
+    module _ (width : ℕ) (p : Placed) (l : LineAt) (wide : width ≡ first .measure .width .0) (placed : p ≡ placedBy s first) where
       pub laid-twice : (drawn : Ended) → drawn ≡ passedFrom s t at r p → l ≡ laidAt at r p width (first .reach .0) drawn → l ≡ lineFrom s t at r
       laid-twice drawn e f = rw (f, e, placed, wide, measured, is) (sym (line-passes s t at r (h .rest)))
 
@@ -80,13 +80,13 @@ module _ {s : Settings} {t : List ℕ} {at : ℕ} {r : Resumed} (h : LineReady s
       λ i. ranFrom s (startPlace s (p .left .0) (p .spaces)) t at (sym none i) (sym count i) unmeasured
 
   module _ (e : Ended) (d : DrawnAlike s t at e) where
-    pub alike-few : measuredCount s (e .measure) ≤ 65535
+    pub alike-few : e .measure .count .0 ≤ 65535
     alike-few = few-spaces h (plainly s) e refl (d .measured ∙ passed-rested (plainly s))
 
-    pub laid-alike : (l : LineAt) → l ≡ laidAt at r (placedBy s e) (measuredWidth s (e .measure)) (e .reach .0) e → l ≡ lineFrom s t at r
+    pub laid-alike : (l : LineAt) → l ≡ laidAt at r (placedBy s e) (e .measure .width .0) (e .reach .0) e → l ≡ lineFrom s t at r
     laid-alike l f =
         let p = placedBy s e in
-        let width = measuredWidth s (e .measure) in
+        let width = e .measure .width .0 in
         laid-twice h (plainly s) e refl (d .measured ∙ passed-rested (plainly s)) width p l refl refl
         (passedFrom s t at nothingResumed p) (passed-rested p)
         (f ∙ laid-same at r p width e (passedFrom s t at nothingResumed p) (d .drawn))

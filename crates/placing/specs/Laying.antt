@@ -13,7 +13,7 @@ use Rattle.basis.specs.Order.{by-eq}
 use Rattle.unicode.specs.Encoding.{size}
 use Rattle.meaning.specs.Alignment.{spacesOf, plainSpaces, placedLeft, place}
 use Rattle.meaning.specs.LineIter.{Ran, process}
-use Rattle.meaning.specs.Line.{unmeasured, measured, measuredWidth, measuredCount, heldTokens, lineTokens, startPlace, measuring, placing, lineOf, layLine, endNumber, restOf, entryAt}
+use Rattle.meaning.specs.Line.{unmeasured, measured, heldTokens, lineTokens, startPlace, measuring, placing, lineOf, layLine, endNumber, restOf, entryAt}
 use Rattle.meaning.specs.declared.settings.Settings.{Settings}
 use Rattle.meaning.specs.declared.cursor.Place.{Place}
 use Rattle.meaning.specs.declared.line.Placed.{Placed}
@@ -53,7 +53,7 @@ asMeasured s p = eqb (p .left .0) 0 && eqb (p .spaces .extra .0) 0 && eqb (p .sp
 
 -- Where the measuring pass places it.
 unfoldable pub placedBy : Settings → Ended → Placed
-placedBy s e = place s (e .ended) (measuredWidth s (e .measure)) (measuredCount s (e .measure))
+placedBy s e = place s (e .ended) (e .measure .width .0) (e .measure .count .0)
 
 -- The line that is so placed and so wide, where the measuring pass looked up to an offset and the drawing pass ended so.
 unfoldable pub laidAt : (at : ℕ) → Resumed → Placed → (width looked : ℕ) → Ended → LineAt
@@ -111,7 +111,7 @@ rest-in t at r f =
 pub line-passes : (s : Settings) (t : List ℕ) (at : ℕ) (r : Resumed) → RestFits t at r →
     let e = passedFrom s t at r (plainly s) in
     let p = placedBy s e in
-    lineFrom s t at r ≡ laidAt at r p (measuredWidth s (e .measure)) (e .reach .0) (passedFrom s t at r p)
+    lineFrom s t at r ≡ laidAt at r p (e .measure .width .0) (e .reach .0) (passedFrom s t at r p)
 unfolding lineFrom lineAtOf layLine lineTokens lineOf measuring placing entryAt passedFrom placedBy laidAt
 line-passes s t at r f =
     let cs = charsFrom t at in

@@ -13,8 +13,8 @@ use Rattle.unicode.specs.Encoding.{size}
 use Rattle.unicode.specs.Sizes.{size-append}
 use Rattle.meaning.specs.Tokens.{Tok}
 use Rattle.meaning.specs.Alignment.{plainSpaces}
-use Rattle.meaning.specs.LineIter.{Held, trailingOn, process}
-use Rattle.meaning.specs.Line.{unmeasured, measured, measuredWidth, measuredCount, lineTokens, startPlace, measuring, placing, lineOf, layLine, endNumber, restOf, entryAt}
+use Rattle.meaning.specs.LineIter.{Held, process}
+use Rattle.meaning.specs.Line.{unmeasured, measured, lineTokens, startPlace, measuring, placing, lineOf, layLine, endNumber, restOf, entryAt}
 use Rattle.meaning.specs.Layout.{rowAt, unlessEnded, rowsBy, entryOfRow}
 use Rattle.meaning.specs.declared.settings.Settings.{Settings}
 use Rattle.meaning.specs.declared.line.LineEnd.{LineEnd}
@@ -115,12 +115,8 @@ measuring-small s ts fs h =
     (omega (arith, g .spaces), omega (arith, g .pen), b .0, b .1)
 
 -- What counts of it at the line's end.
-counts-small : (s : Settings) (cs : List ℕ) (m : Measure) → Bounded cs m → (measuredWidth s m ≤ 8192 * size cs) × (measuredCount s m ≤ length cs)
-unfolding measuredWidth measuredCount
-counts-small s cs m b = (
-  pick-cases (λ n. n ≤ 8192 * size cs) (trailingOn s) (λ _. omega arith) (λ _. omega arith),
-  pick-cases (λ n. n ≤ length cs) (trailingOn s) (λ _. omega arith) (λ _. omega arith),
-)
+counts-small : (s : Settings) (cs : List ℕ) (m : Measure) → Bounded cs m → (m .width .0 ≤ 8192 * size cs) × (m .count .0 ≤ length cs)
+counts-small s cs m b = (omega arith, omega arith)
 
 module _ (s : Settings) (t : List ℕ) (at : ℕ) (r : Resumed) (f : RestFits t at r) (fs : FineSettings s) where
   line-small : Bounded (charsFrom t at) (measured unmeasured (measuring s (lineTokens (heldIn r) (charsFrom t at)) .drawn))
@@ -138,7 +134,7 @@ module _ (s : Settings) (t : List ℕ) (at : ℕ) (r : Resumed) (f : RestFits t 
   pub few-chars : length t ≤ 65535 → length (charsFrom t at) ≤ 65535
   few-chars h = omega (arith, length-size (charsFrom t at), chars-within t at)
 
-  pub placed-count : length t ≤ 65535 → measuredCount s (passedFrom s t at r (plainly s) .measure) ≤ 65535
+  pub placed-count : length t ≤ 65535 → passedFrom s t at r (plainly s) .measure .count .0 ≤ 65535
   placed-count h = omega (arith, counts-small s (charsFrom t at) (passedFrom s t at r (plainly s) .measure) measured-small, few-chars h)
 
 -- ---- the entry
@@ -181,7 +177,7 @@ module _ (s : Settings) (t : List ℕ) (at : ℕ) (r : Resumed) (f : RestFits t 
       let cs = charsFrom t at in
       let ran = measuring s (lineTokens (heldIn r) cs) in
       let m = measured unmeasured (ran .drawn) in
-      place-fine s (ran .ended) (measuredWidth s m) (measuredCount s m) fs
+      place-fine s (ran .ended) (m .width .0) (m .count .0) fs
       (omega (arith, counts-small s cs m (line-small s t at r f fs), few-chars s t at r f fs short))
 
   line-width : layLine s (heldIn r) (charsFrom t at) .width ≤ 8192 * size (charsFrom t at)

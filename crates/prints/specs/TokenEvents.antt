@@ -15,7 +15,7 @@ use Rattle.meaning.specs.Cursor.{roomOf, fitsIn}
 use Rattle.meaning.specs.SpaceConfig.{spacesWidth}
 use Rattle.meaning.specs.Lookahead.{Looked}
 use Rattle.meaning.specs.Words.{drawn}
-use Rattle.meaning.specs.LineIter.{Held, Step, go, stop, skips, when, trailingOn, cutRun, onSpace, hyphenated, onBreak, step}
+use Rattle.meaning.specs.LineIter.{Held, Step, go, stop, skips, when, cutRun, onSpace, hyphenated, onBreak, step}
 use Rattle.meaning.specs.Line.{measured}
 use Rattle.meaning.specs.declared.tokens.TokenKind.the-variants.{Whitespace, Break, NewLine, CarriageReturn}
 use Rattle.meaning.specs.declared.settings.Settings.{Settings}
@@ -70,7 +70,7 @@ module _ (t : List ℕ) (at : ℕ) (x : Lexeme) (m : Measure) (u : Tok) where
       let k = roomOf (p .cursor) / (w / n) in
       pick-cases RunOf (skips s p) (λ _. run-goes _ _ n 0 0 (sym e))
       (λ _. pick-cases RunOf (fitsIn (p .cursor) w) (λ _. run-goes _ _ n (when (l .fits) w) (l .reach) (sym e))
-      (λ _. run-stops (eqb k 0) _ k (when (trailingOn s) (k * (w / n))) _ _ 0 0 refl))
+      (λ _. run-stops (eqb k 0) _ k 0 _ _ 0 0 refl))
 
 module _ (s : Settings) (p : Place) (t : List ℕ) (at : ℕ) (x : Lexeme) (m : Measure) (h : Standing t at x) where
   pub run-drawn : x .kind ≡ Whitespace → tokDrawn s p t at x ≡ runDrawn t at x (grownBy m (stepFrom s p t at x m))

@@ -21,7 +21,7 @@ ghost use Rattle.meaning.specs.Table.{ofToken, ofAll};
 ghost use Rattle.meaning.specs.Calls.{textTokens};
 ghost use Rattle.replay.specs.Record.{settingsIn, Laid};
 
-// Six of the settings that a layout depends on come first. The seventh, wrap, is 0: the crate knows no other way.
+// The settings that a layout depends on come first, and the retired one. Wrap is 0: the crate knows no other way.
 pub fn settings(numbers: &[u32]) -> Settings
     requires { ⌜ 6 ≤ length (now numbers) ⌝ }
     ensures { λ r. ⌜ r ≡ settingsIn (now (numbers .entry)) ⌝ }

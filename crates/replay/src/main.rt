@@ -2,7 +2,7 @@
 // prints one line: how many cases there are and how many differ.
 //
 // A recording is text. A line that begins with '#' is a comment; every other line is a case, decimals with a space between any
-// two: glyph, width, tab, alignment, leading, trailing; and four counts, each followed by what it counts: the text's bytes, its
+// two: glyph, width, tab, alignment, leading, a 0 for the retired setting; and four counts, each followed by what it counts: the text's bytes, its
 // tokens (kind, start, end, count), its lines (an entry's first eight numbers) and its events (six numbers).
 mod case;
 mod input;

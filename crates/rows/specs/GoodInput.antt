@@ -8,7 +8,7 @@ use borrow.Author.Tests.{leb-true}
 use lib.Dec.{leb}
 use Rattle.basis.specs.Choice.{pick, and-true}
 use Rattle.basis.specs.Order.{within, within-true}
-use Rattle.meaning.specs.Settings.{topInRange, sizesInRange, inRange, isSwitch, knownAlignment, knownVertical}
+use Rattle.meaning.specs.Settings.{topInRange, sizesInRange, inRange, isSwitch, isRetired, knownAlignment, knownVertical}
 use Rattle.meaning.specs.Checks.{checkSettings, checkText}
 use Rattle.meaning.specs.declared.settings.Settings.{Settings}
 use Rattle.meaning.specs.declared.refusals.Refusal.the-variants.{SettingOutOfRange, UnknownAlignment}
@@ -38,7 +38,7 @@ module _ (s : Settings) (h : checkSettings s ≡ Good) where
       let e = leb (s .height .0) 4096 in
       let t = topInRange (s .top) in
       let l = isSwitch (s .leading) in
-      let k = isSwitch (s .trailing) in
+      let k = isRetired (s .trailing) in
       let all = and-true (g && w && a && b && c && d && e && t && l && k) (isSwitch (s .wrap)) (judged .0) in
       let trailing = and-true (g && w && a && b && c && d && e && t && l) k (all .0) in
       let leading = and-true (g && w && a && b && c && d && e && t) l (trailing .0) in
@@ -56,7 +56,6 @@ module _ (s : Settings) (h : checkSettings s ≡ Good) where
         leb-true (s .tab .0) 4096 (tab .1),
         leb-true (s .alignment) 3 (judged .1),
         leb-true (s .leading) 1 (leading .1),
-        leb-true (s .trailing) 1 (trailing .1),
       )
 
   pub text-ready : (t : List ℕ) → checkText t ≡ Good → TextReady s t

@@ -4,8 +4,6 @@ use meaning::counts::Offset;
 use meaning::counts::Pixels;
 use meaning::line::Placed;
 use meaning::settings::Settings;
-use moves::measure::measured_count;
-use moves::measure::measured_width;
 use moves::measure::nothing_measured;
 use moves::place::start_place;
 use placing::alignment::place_line;
@@ -21,7 +19,6 @@ use steps::step::Ended;
 use steps::step::Resumed;
 ghost use Prim.Native.Nat.{_≤_};
 ghost use mathlib.Core.Path.{_≡_};
-ghost use Rattle.meaning.specs.Line.{measuredWidth, measuredCount};
 ghost use Rattle.moves.specs.Fine.{FineSettings, FineSpaces};
 ghost use Rattle.steps.specs.Knowing.{KnownFits};
 ghost use Rattle.placing.specs.LineFrom.{lineFrom};
@@ -53,13 +50,13 @@ fn as_measured(s: Settings, p: Placed) -> bool
 
 // Where a line is placed whose measuring pass ended so.
 fn placed_by(s: Settings, e: Ended) -> Placed
-    requires { ⌜ FineSettings s × (measuredCount s (e .measure) ≤ 65535) ⌝ }
+    requires { ⌜ FineSettings s × (e .measure .count .0 ≤ 65535) ⌝ }
     ensures { λ r. ⌜ r ≡ placedBy s e ⌝ }
 {
     let ended = e.ended;
     let m = e.measure;
-    let width = measured_width(s, m);
-    let count = measured_count(s, m);
+    let width = m.width;
+    let count = m.count;
     place_line(s, ended, width, count)
 }
 
@@ -92,11 +89,11 @@ fn laid_at(at: Offset, rest: Resumed, p: Placed, width: Pixels, looked: Offset, 
 
 // The line whose drawing pass ends as its measuring pass did.
 fn laid_alike(s: Settings, at: Offset, rest: Resumed, e: Ended) -> LineAt
-    requires { ⌜ FineSettings s × (measuredCount s (e .measure) ≤ 65535) ⌝ }
-    ensures { λ r. ⌜ r ≡ laidAt (at .0) rest (placedBy s e) (measuredWidth s (e .measure)) (e .reach .0) e ⌝ }
+    requires { ⌜ FineSettings s × (e .measure .count .0 ≤ 65535) ⌝ }
+    ensures { λ r. ⌜ r ≡ laidAt (at .0) rest (placedBy s e) (e .measure .width .0) (e .reach .0) e ⌝ }
 {
     let m = e.measure;
-    let width = measured_width(s, m);
+    let width = m.width;
     let p = placed_by(s, e);
     let looked = e.reach;
     laid_at(at, rest, p, width, looked, e)
@@ -109,7 +106,7 @@ fn lay_twice(text: &[u8], s: Settings, at: usize, rest: Resumed, known: Known) -
 {
     let first = pass_over(text, s, at, rest, placed_plainly(s), known);
     let m = first.measure;
-    let width = measured_width(s, m);
+    let width = m.width;
     let p = placed_by(s, first);
     let looked = first.reach;
     let start = at as u32;

@@ -30,19 +30,15 @@ module _ (s : Settings) (q : Place) (at : ℕ) (ts : List Tok) where
   unfolding drawsSpace pick
   draws-front e = rw e
 
-  pub draws-all : q .empty ≡ false → s .trailing ≡ 1 → lookAt true 0 ≡ lookOf (drawsSpace s q at ts)
-  unfolding drawsSpace pick
-  draws-all e f = rw (e, eq-eqb _ _ f)
-
-  pub draws-some : (l : Look) → q .empty ≡ false → (s .trailing ≡ 1 → ⊥) → l ≡ lookOf (nextFits (s .glyph .0) (q .cursor) (q .spaces) at ts)
+  pub draws-some : (l : Look) → q .empty ≡ false → l ≡ lookOf (nextFits (s .glyph .0) (q .cursor) (q .spaces) at ts)
       → l ≡ lookOf (drawsSpace s q at ts)
   unfolding drawsSpace pick
-  draws-some l e f g = rw (e, ne-eqb _ _ f) g
+  draws-some l e g = rw e g
 
   -- The look is known.
-  pub draws-known : (f : Foreseen) (l : Look) → q .empty ≡ false → (s .trailing ≡ 1 → ⊥) → Foresees (s .glyph .0) (q .cursor) (q .spaces) at ts f
+  pub draws-known : (f : Foreseen) (l : Look) → q .empty ≡ false → Foresees (s .glyph .0) (q .cursor) (q .spaces) at ts f
       → f ≡ Known l → l ≡ lookOf (drawsSpace s q at ts)
-  draws-known f l e d h k = draws-some l e d (rw k at h)
+  draws-known f l e h k = draws-some l e (rw k at h)
 
 module _ (s : Settings) (q : Place) (t : List ℕ) (x : Lexeme) (width : ℕ) (m : Measure) (l : Look)
     (is : l ≡ lookOf (drawsSpace s q (x .end .0) (tokens (charsFrom t (x .end .0)))))

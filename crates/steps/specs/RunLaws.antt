@@ -1,22 +1,22 @@
 -- A space run: one that is too wide for its line, its numbers and the answer that they make; and what becomes of any run.
 -- Assumes nothing.
 use Prim.Native.Nat.{ℕ, _+_, _-_, _*_, _/_, _≤_, _<_, min}
-use mathlib.Core.Path.{_≡_, ap}
+use mathlib.Core.Path.{_≡_, refl, ap}
 use mathlib.Core.Bool.{true, false}
 use mathlib.Core.List.{List, [], _∷_}
 use native.Mathlib.Nat.{mul-le-mul-left, div-mul-le-self, div-le-self, le-div-iff-mul-le}
 use native.Mathlib.Omega.{arith}
-use borrow.Author.Tests.{eq-eqb, ne-eqb}
+use borrow.Author.Tests.{eqb-true, eq-eqb, ne-eqb}
 use lib.Dec.{eqb}
 use lib.ListN.{length, take}
 use lib.Seq.{take-take}
-use Rattle.basis.specs.Choice.{pick, pick-under}
+use Rattle.basis.specs.Choice.{pick, pick-cases}
 use Rattle.unicode.specs.Encoding.{size}
 use Rattle.meaning.specs.Tokens.{space, charsOf, sizeOf, tokens}
 use Rattle.meaning.specs.Cursor.{roomOf, fitsIn, advance}
 use Rattle.meaning.specs.SpaceConfig.{spacesWidth, spacesAfter}
-use Rattle.meaning.specs.Words.{drawn}
-use Rattle.meaning.specs.LineIter.{heldAfter, skips, drawsSpace, movedOn, usedUp, trailingOn, when, cutRun, onSpace, step}
+use Rattle.meaning.specs.Words.{Drawn, drawn}
+use Rattle.meaning.specs.LineIter.{heldAfter, skips, drawsSpace, movedOn, usedUp, when, cutRun, onSpace, step}
 use Rattle.meaning.specs.Line.{noted, measured}
 use Rattle.meaning.specs.declared.tokens.TokenKind.the-variants.{Whitespace}
 use Rattle.meaning.specs.declared.settings.Settings.{Settings}
@@ -78,19 +78,19 @@ module _ (t : List ℕ) (at : ℕ) (x : Lexeme) (k : x .kind ≡ Whitespace) (st
 
 -- ---- what is measured
 
-module _ (s : Settings) (m : Measure) (fitting width : ℕ) where
-  pub shown-wide : (fitting ≡ 0 → ⊥) → s .trailing ≡ 1 → noted Space (m .pen .0 + width) (m .spaces .0 + fitting) m ≡ cutShown s m fitting width
-  unfolding cutShown when pick
-  shown-wide d e = simp (ne-eqb _ _ d, eq-eqb _ _ e)
-
-  pub shown-thin : (fitting ≡ 0 → ⊥) → (s .trailing ≡ 1 → ⊥) → noted Space (m .pen .0 + 0) (m .spaces .0 + fitting) m ≡ cutShown s m fitting width
-  unfolding cutShown when pick
-  shown-thin d e = simp (ne-eqb _ _ d, ne-eqb _ _ e)
+module _ (m : Measure) (fitting : ℕ) where
+  -- No space measures nothing.
+  pub shown-none : fitting ≡ 0 → cutShown m fitting ≡ m
+  shown-none e =
+      let pen : m .pen .0 + 0 ≡ m .pen .0 = omega arith in
+      let spaces : m .spaces .0 + fitting ≡ m .spaces .0 = omega arith in
+      λ i. record { pen = record { 0 = pen i }; spaces = record { 0 = spaces i }; width = m .width; count = m .count }
 
   -- It is what is drawn, wherever that stands.
-  shown-is : (from to : ℕ) → cutShown s m fitting width ≡ measured m (pick (eqb fitting 0) [] (drawn Space from to fitting (when (trailingOn s) width) ∷ []))
-  unfolding cutShown measured
-  shown-is from to = rw (pick-under (measured m))
+  shown-is : (from to : ℕ) → cutShown m fitting ≡ measured m (pick (eqb fitting 0) [] (drawn Space from to fitting 0 ∷ []))
+  unfolding measured
+  shown-is from to =
+      pick-cases (λ (ds : List Drawn). cutShown m fitting ≡ measured m ds) (eqb fitting 0) (λ e. shown-none (eqb-true fitting 0 e)) (λ _. refl)
 
 -- ---- the numbers of the cut
 
@@ -119,7 +119,7 @@ module _ {s : Settings} {p : Place} {t : List ℕ} {at : ℕ} {x : Lexeme} {widt
 
   module _ (room taken : ℕ) (shown : Measure) (part : Part) (rest : Resumed) where
     pub cut-answer : room ≡ roomOf (p .cursor) → taken ≡ min (room / (width / x .count .0) + 1) (x .count .0)
-        → shown ≡ cutShown s m (room / (width / x .count .0)) (room / (width / x .count .0) * (width / x .count .0))
+        → shown ≡ cutShown m (room / (width / x .count .0))
         → part ≡ partOf at taken (charsFrom t at) → rest ≡ resumedAt (x .end .0) (heldAfter (x .chars .0) (x .count .0) taken)
         → Stop (record { ended = LineBreak; measure = shown; next = part .end; rest = rest; dropped = record { 0 = 0 }; reach = record { 0 = 0 } })
         ≡ cutAnswer s p t at x width m
@@ -130,7 +130,7 @@ module _ {s : Settings} {p : Place} {t : List ℕ} {at : ℕ} {x : Lexeme} {widt
         let fitting = roomOf (p .cursor) / single in
         let few : min (fitting + 1) (x .count .0) ≤ x .chars .0 = omega (arith, cut-fewer) in
         let st = h .ready .stands in
-        rw (e, f, g, b, a, shown-is s m fitting (fitting * single) at (at + size (take fitting cs)), run-tok t at x (h .kind) st)
+        rw (e, f, g, b, a, shown-is m fitting at (at + size (take fitting cs)), run-tok t at x (h .kind) st)
         (rw (take-take (min (fitting + 1) (x .count .0)) (x .chars .0) (charsFrom t at) few, ← (run-chars t at x (h .kind) st), ← (run-end t at x (h .kind) st)))
 
 -- ---- any run

@@ -10,7 +10,7 @@ use Rattle.basis.specs.Choice.{pick}
 use Rattle.meaning.specs.Tokens.{tokens}
 use Rattle.meaning.specs.Cursor.{fitsIn}
 use Rattle.meaning.specs.SpaceConfig.{spacesWidth}
-use Rattle.meaning.specs.LineIter.{drawsSpace, trailingOn, when, cutRun}
+use Rattle.meaning.specs.LineIter.{drawsSpace, when, cutRun}
 use Rattle.meaning.specs.Line.{noted}
 use Rattle.meaning.specs.declared.tokens.TokenKind.the-variants.{Whitespace}
 use Rattle.meaning.specs.declared.settings.Settings.{Settings}
@@ -50,10 +50,9 @@ wholeAnswer s q t x width m =
 
 -- ---- a run that is cut
 
--- What the spaces that fit measure, of which there may be none.
-unfoldable pub cutShown : Settings → Measure → (fitting width : ℕ) → Measure
-cutShown s m fitting width =
-    pick (eqb fitting 0) m (noted Space (m .pen .0 + when (trailingOn s) width) (m .spaces .0 + fitting) m)
+-- What the spaces that fit measure, of which there may be none: they count, and have no width.
+abbrev pub cutShown : Measure → (fitting : ℕ) → Measure
+cutShown m fitting = noted Space (m .pen .0 + 0) (m .spaces .0 + fitting) m
 
 -- It stands in the text, and its width does not fit.
 pub record CutRun (s : Settings) (p : Place) (t : List ℕ) (at : ℕ) (x : Lexeme) (width : ℕ) (m : Measure) : Type 0 where
@@ -63,4 +62,4 @@ pub record CutRun (s : Settings) (p : Place) (t : List ℕ) (at : ℕ) (x : Lexe
   pub over : fitsIn (p .cursor) width ≡ false
 
 unfoldable pub cutAnswer : Settings → Place → List ℕ → (at : ℕ) → Lexeme → (width : ℕ) → Measure → Stepped
-cutAnswer s p t at x width m = steppedAt m at (tokOf t at x) (cutRun s p at (charsIn t at x) (x .count .0) width)
+cutAnswer s p t at x width m = steppedAt m at (tokOf t at x) (cutRun p at (charsIn t at x) (x .count .0) width)

@@ -1,7 +1,6 @@
 pub mod Strides
 pub mod First
 pub mod Next
-pub mod Trail
 pub mod OnwardLaws
 pub mod StrideLaws
 pub mod FirstLaws

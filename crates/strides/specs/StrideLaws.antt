@@ -35,7 +35,7 @@ use Rattle.pairs.specs.PlainWords.{PlainWord}
 use Rattle.strides.specs.Strides.{Onward}
 use Rattle.steps.specs.declared.look.Look.{Look}
 use Rattle.steps.specs.declared.step.Stepped.the-variants.{Go}
-use Rattle.steps.specs.DrawLaws.{draws-all, draws-some, whole-drawn}
+use Rattle.steps.specs.DrawLaws.{draws-some, whole-drawn}
 use Rattle.steps.specs.FitsLaws.{look-zero, look-word}
 use Rattle.steps.specs.RunLaws.{space-whole}
 use Rattle.steps.specs.WordLaws.{word-at, word-goes}
@@ -80,16 +80,13 @@ module _ {s : Settings} {p : Place} {t : List ℕ} {at : ℕ} {m : Measure} (r :
       abbrev pub behind : Place
       behind = movedOn (usedUp p 1) wide
 
-      -- What the space learns of the word behind it, if it looks.
-      pub looks-all : s .trailing ≡ 1 → lookAt true 0 ≡ lookOf (drawsSpace s behind next (tokens (charsFrom t next)))
-      looks-all h = draws-all s behind next _ e h
-
-      pub looks-word : (s .trailing ≡ 1 → ⊥) → (b : Bool) → b ≡ fitsIn (behind .cursor) (x .chars .0 * s .glyph .0)
+      -- What the space learns of the word behind it.
+      pub looks-word : (b : Bool) → b ≡ fitsIn (behind .cursor) (x .chars .0 * s .glyph .0)
           → lookAt b (x .reach .0) ≡ lookOf (drawsSpace s behind next (tokens (charsFrom t next)))
-      looks-word h b g =
+      looks-word b g =
           let l = lexes t next x (w .word) in
           let k : x .reach .0 ≡ max 0 (x .reach .0) = omega arith in
-          draws-some s behind next _ (lookAt b (x .reach .0)) e h
+          draws-some s behind next _ (lookAt b (x .reach .0)) e
           (look-word t next x l (s .glyph .0) (behind .cursor) (behind .spaces) 0 (x .reach .0) k (w .kind) b g ∙ look-zero _)
 
       -- It is taken whatever it learns.
@@ -107,9 +104,7 @@ module _ {s : Settings} {p : Place} {t : List ℕ} {at : ℕ} {m : Measure} (r :
           let n = noted Space (m .pen .0 + wide) (m .spaces .0 + 1) m in
           let y = oneSpace next looked in
           let far = lookAt true (x .reach .0) in
-          by-eq (s .trailing) 1
-          (λ h. space-goes (lookAt true 0) n (omega arith) (whole-drawn s behind t y wide m (lookAt true 0) (looks-all h) n refl refl))
-          (λ h. space-goes far n (omega arith) (whole-drawn s behind t y wide m far (looks-word h true (sym g)) n refl refl))
+          space-goes far n (omega arith) (whole-drawn s behind t y wide m far (looks-word true (sym g)) n refl refl)
 
 -- ---- both
 

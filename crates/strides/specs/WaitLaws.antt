@@ -1,15 +1,13 @@
 -- A line that ends where a space and a word do not both fit.
 -- Assumes nothing.
-use mathlib.Core.Path.{_≡_, refl, sym, ap, subst, _∙_}
+use mathlib.Core.Path.{_≡_, refl, sym, ap, _∙_}
 use mathlib.Core.Bool.{true, false}
 use mathlib.Core.List.{List}
 use Prim.Native.Nat.{ℕ, _+_, _-_, _*_, _/_, _≤_, _<_, max}
 use native.Mathlib.Nat.{div-one, div-lt-iff-lt-mul}
 use native.Mathlib.Omega.{arith}
-use borrow.Author.Tests.{lt-leb, leb-false, eqb-true, eqb-false, eq-eqb, ne-eqb}
-use lib.Dec.{eqb}
+use borrow.Author.Tests.{lt-leb, leb-false}
 use lib.ListN.{take}
-use Rattle.basis.specs.Choice.{pick, pick-cases}
 use Rattle.unicode.specs.Encoding.{size}
 use Rattle.meaning.specs.Cursor.{roomOf, fitsIn, advance}
 use Rattle.meaning.specs.SpaceConfig.{spacesWidth}
@@ -23,24 +21,20 @@ use Rattle.meaning.specs.declared.line.Measure.{Measure}
 use Rattle.parser.specs.Lexing.{charsFrom, partOf}
 use Rattle.pairs.specs.Pairs.{oneSpace}
 use Rattle.steps.specs.Ahead.{lookAt}
-use Rattle.moves.specs.Fine.{FinePlace}
 use Rattle.moves.specs.FineLaws.{fits-room}
 use Rattle.steps.specs.Stepping.{ranFrom}
 use Rattle.steps.specs.Unrolled.{farther, nothingResumed}
-use Rattle.steps.specs.Runs.{cutShown, CutRun, cutAnswer}
+use Rattle.steps.specs.Runs.{CutRun, cutAnswer}
 use Rattle.steps.specs.Running.{PassReady}
 use Rattle.steps.specs.Stopping.{endsBefore}
 use Rattle.strides.specs.Strides.{Onward, Waits}
-use Rattle.strides.specs.Trail.{trailOf, trailWide, endsBy}
 use Rattle.strides.specs.declared.going.Waiting.{Waiting}
-use Rattle.strides.specs.declared.waiting.Trail.{Trail}
-use Rattle.strides.specs.declared.waiting.Trail.the-variants.{Cut, Shown}
 use Rattle.steps.specs.declared.step.Stepped.the-variants.{Stop}
-use Rattle.steps.specs.DrawLaws.{whole-drawn, whole-hidden}
-use Rattle.steps.specs.RunLaws.{none-left, run-end, cut-answer, space-cut}
+use Rattle.steps.specs.DrawLaws.{whole-hidden}
+use Rattle.steps.specs.RunLaws.{none-left, shown-none, run-end, cut-answer, space-cut}
 use Rattle.steps.specs.WordLaws.{word-at, word-waits}
 use Rattle.strides.specs.OnwardLaws.{read-pending, read-ready, stops-onward}
-use Rattle.strides.specs.StrideLaws.{stays, behind, looks-all, looks-word, space-goes}
+use Rattle.strides.specs.StrideLaws.{stays, behind, looks-word, space-goes}
 
 -- It has looked as far as that and no farther.
 pub far-ends : (e : LineEnd) (m : Measure) (next dropped reach : ℕ) → farther reach (endsBefore e m next dropped 0) ≡ endsBefore e m next dropped reach
@@ -69,28 +63,19 @@ module _ {s : Settings} {p : Place} {t : List ℕ} {at : ℕ} {m : Measure} (r :
         ∙ stops-onward (there .ready) x (w .pair .word) _ (word-waits s after t next x n y over-full (w .empty))
         ∙ there .same
 
-    pub waits-wide : s .trailing ≡ 1 → (n : Measure) → n ≡ noted Space (m .pen .0 + wide) (m .spaces .0 + 1) m
+    pub waits-thin : (n : Measure) → n ≡ noted Space (m .pen .0 + 0) (m .spaces .0 + 1) m
         → endsBefore LineBreak n (v .next .0) 0 (v .reach .0) ≡ ranFrom s p t at 0 0 m
-    waits-wide h n g =
-        let l = lookAt true 0 in
-        let y = oneSpace (v .next .0) (v .looked .0) in
-        word-left n
-        (space-goes r (w .empty) (w .pair) wide is f l n (omega arith)
-        (whole-drawn s after t y wide m l (looks-all r (w .empty) (w .pair) wide is f h) n g refl))
-
-    pub waits-thin : (s .trailing ≡ 1 → ⊥) → (n : Measure) → n ≡ noted Space (m .pen .0 + 0) (m .spaces .0 + 1) m
-        → endsBefore LineBreak n (v .next .0) 0 (v .reach .0) ≡ ranFrom s p t at 0 0 m
-    waits-thin h n g =
+    waits-thin n g =
         let l = lookAt false (w .word .reach .0) in
         let y = oneSpace (v .next .0) (v .looked .0) in
         word-left n
         (space-goes r (w .empty) (w .pair) wide is f l n (omega arith)
-        (whole-hidden s after t y wide m l (looks-word r (w .empty) (w .pair) wide is f h false (sym over-full)) n g refl))
+        (whole-hidden s after t y wide m l (looks-word r (w .empty) (w .pair) wide is f false (sym over-full)) n g refl))
 
   -- ---- the space does not
 
   pub waits-cut : fitsIn (p .cursor) wide ≡ false → endsBefore LineBreak m (v .next .0) 0 (v .looked .0) ≡ ranFrom s p t at 0 0 m
-  unfolding fitsIn roomOf endsBefore cutShown partOf pick
+  unfolding fitsIn roomOf endsBefore partOf
   waits-cut f =
       let next = v .next .0 in
       let looked = v .looked .0 in
@@ -103,43 +88,7 @@ module _ {s : Settings} {p : Place} {t : List ℕ} {at : ℕ} {m : Measure} (r :
       let none : room / (wide / 1) ≡ 0 = omega (arith, div-lt-iff-lt-mul some .1 less) in
       let from : next ≡ at + size (take 1 (charsFrom t at)) = run-end t at x refl (y .stands) in
       let ends : Stop (endsBefore LineBreak m (at + size (take 1 (charsFrom t at))) 0 0) ≡ cutAnswer s p t at x wide m
-      = cut-answer cut room 1 m (partOf at 1 (charsFrom t at)) nothingResumed refl (omega arith) (rw none) refl (none-left next 1 1 1 (omega arith)) in
+      = cut-answer cut room 1 m (partOf at 1 (charsFrom t at)) nothingResumed refl (omega arith) (sym (shown-none m _ none)) refl (none-left next 1 1 1 (omega arith)) in
       sym (far-ends LineBreak m next 0 looked)
       ∙ ap (λ (k : ℕ). farther looked (endsBefore LineBreak m k 0 0)) from
       ∙ stops-onward r x (w .pair .space) _ (ends ∙ space-cut y refl wide is (stays r (w .empty) (w .pair)) f)
-
--- ---- either way
-
-module _ (s : Settings) (p : Place) (wide : ℕ) (is : wide ≡ spacesWidth (p .spaces) 1) where
-  pub trail-cut : fitsIn (p .cursor) wide ≡ false → Cut ≡ trailOf s p
-  unfolding trailOf pick
-  trail-cut f = rw (← is, f)
-
-  pub trail-wide : fitsIn (p .cursor) wide ≡ true → s .trailing ≡ 1 → Shown wide ≡ trailOf s p
-  unfolding trailOf pick
-  trail-wide f h = rw (← is, f, eq-eqb (s .trailing) 1 h)
-
-  pub trail-thin : fitsIn (p .cursor) wide ≡ true → (s .trailing ≡ 1 → ⊥) → Shown 0 ≡ trailOf s p
-  unfolding trailOf pick
-  trail-thin f h = rw (← is, f, ne-eqb (s .trailing) 1 h)
-
-module _ {s : Settings} {p : Place} {t : List ℕ} {at : ℕ} {m : Measure} (r : PassReady s p t at nothingResumed m) (v : Waiting) (w : Waits s p t at v) where
-  pub waits-ends : endsBy (trailOf s p) m v ≡ ranFrom s p t at 0 0 m
-  unfolding trailOf
-  waits-ends =
-      let wide = spacesWidth (p .spaces) 1 in
-      pick-cases (λ (x : Trail). endsBy x m v ≡ ranFrom s p t at 0 0 m) (fitsIn (p .cursor) wide)
-      (λ f.
-      pick-cases (λ (k : ℕ). endsBy (Shown k) m v ≡ ranFrom s p t at 0 0 m) (eqb (s .trailing) 1)
-      (λ h. waits-wide r v w wide refl f (eqb-true (s .trailing) 1 h) _ refl)
-      (λ h. waits-thin r v w wide refl f (eqb-false (s .trailing) 1 h) _ refl))
-      (λ f. waits-cut r v w wide refl f)
-
--- The space is no wider than a space can be.
-pub trail-narrow : (s : Settings) (p : Place) → FinePlace p → (wide : ℕ) (x : Trail) → x ≡ trailOf s p → x ≡ Shown wide → wide ≤ 4161
-unfolding trailOf spacesWidth
-trail-narrow s p h wide x e f =
-    subst (λ (z : Trail). trailWide z ≤ 4161) (sym e ∙ f)
-    (pick-cases (λ (z : Trail). trailWide z ≤ 4161) (fitsIn (p .cursor) (spacesWidth (p .spaces) 1))
-    (λ _. pick-cases (λ (k : ℕ). k ≤ 4161) (eqb (s .trailing) 1) (λ _. omega (arith, h)) (λ _. omega arith))
-    (λ _. omega arith))

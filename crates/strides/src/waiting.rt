@@ -12,32 +12,20 @@ use moves::space_config::spaces_width;
 use steps::ending::ends_before;
 use steps::step::Ended;
 ghost use mathlib.Core.Path.{_≡_};
+ghost use Rattle.meaning.specs.Cursor.{fitsIn};
+ghost use Rattle.meaning.specs.SpaceConfig.{spacesWidth};
 ghost use Rattle.moves.specs.Fine.{FinePlace};
 ghost use Rattle.steps.specs.Stepping.{ranFrom};
 ghost use Rattle.strides.specs.Strides.{WaitReady};
-ghost use Rattle.strides.specs.Trail.{trailOf};
 
-// What becomes of the space: it is left out, or drawn with a width.
-pub enum Trail {
-    Cut,
-    Shown(u32),
-}
-
-// It is left out if it does not fit, and has a width only with trailing spaces on.
-pub fn trail_of(s: Settings, p: Place) -> Trail
+// Whether one more space fits. The space before a word that waits is left out if not, and else counted, with no width.
+pub fn space_fits(p: Place) -> bool
     requires { ⌜ FinePlace p ⌝ }
-    ensures { λ r. ⌜ r ≡ trailOf s p ⌝ }
+    ensures { λ r. ⌜ r ≡ fitsIn (p .cursor) (spacesWidth (p .spaces) 1) ⌝ }
 {
     let cursor = p.cursor;
     let spaces = p.spaces;
-    let wide = spaces_width(spaces, 1);
-    if !fits(cursor, wide) {
-        return Trail::Cut;
-    }
-    if s.trailing == 1 {
-        return Trail::Shown(wide);
-    }
-    Trail::Shown(0)
+    fits(cursor, spaces_width(spaces, 1))
 }
 
 pub fn ends_waiting(text: &[u8], s: Settings, g: Going) -> Ended
@@ -47,15 +35,11 @@ pub fn ends_waiting(text: &[u8], s: Settings, g: Going) -> Ended
     let p = g.place;
     let m = g.measure;
     let next = g.waits.next;
-    match trail_of(s, p) {
-        Trail::Cut => {
-            let looked = g.waits.looked;
-            ends_before(LineEnd::LineBreak, m, next, Chars(0), looked)
-        }
-        Trail::Shown(wide) => {
-            let reach = g.waits.reach;
-            let spaced = noted_space(m, Chars(1), Pixels(wide));
-            ends_before(LineEnd::LineBreak, spaced, next, Chars(0), reach)
-        }
+    if !space_fits(p) {
+        let looked = g.waits.looked;
+        return ends_before(LineEnd::LineBreak, m, next, Chars(0), looked);
     }
+    let reach = g.waits.reach;
+    let spaced = noted_space(m, Chars(1), Pixels(0));
+    ends_before(LineEnd::LineBreak, spaced, next, Chars(0), reach)
 }

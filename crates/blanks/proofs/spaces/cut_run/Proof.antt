@@ -38,11 +38,8 @@ part-of-requires c κs = search needs
 abbrev roomed : tie.After-count → tie.After-room
 roomed c = c .before .before .before .before .before .before
 
-mul-t19 : tie.Need-mul-t19
-mul-t19 c = record { fits = omega (arith, numbers (roomed c)) }
-
-cut-measure-requires : tie.Need-cut-measure-requires
-cut-measure-requires c κs =
+noted-space-requires : tie.Need-noted-space-requires
+noted-space-requires c κs =
     omega (arith, numbers (roomed c), begin (roomed c) .pre .ready)
 
 held-rest-requires : tie.Need-held-rest-requires
@@ -54,7 +51,7 @@ returns : tie.Need-returns
 returns c =
     let p = c .before .before .before .before .before .before in
     let l = p .before in
-    cut-answer (begin (l .before) .pre) _ _ _ _ _ (l .before .room .ensures) (l .lesser .ensures) (c .before .cut-measure .ensures) (p .part-of .ensures)
+    cut-answer (begin (l .before) .pre) _ _ _ _ _ (l .before .room .ensures) (l .lesser .ensures) (c .before .noted-space .ensures) (p .part-of .ensures)
     (c .held-rest .ensures)
 
 pub cut-run-spec : {M : Type 1} → statement M
@@ -67,7 +64,6 @@ cut-run-spec =
     add-lesser
     lesser-requires
     part-of-requires
-    mul-t19
-    cut-measure-requires
+    noted-space-requires
     held-rest-requires
     returns)

@@ -4,9 +4,6 @@ use borrow.Author.Needs.{needs}
 use Rattle.rows.proofs.line.laid_alike.Statement.{statement}
 use Rattle.rows.proofs.line.laid_alike.Tie as tie
 
-measured-width-requires : tie.Need-measured-width-requires
-measured-width-requires c κs = search needs
-
 placed-by-requires : tie.Need-placed-by-requires
 placed-by-requires c κs = search needs
 
@@ -16,8 +13,8 @@ laid-at-requires c κs = search needs
 returns : tie.Need-returns
 returns c =
     let p = c .before .before in
-    rw (p .placed-by .ensures, p .before .measured-width .ensures) at (c .laid-at .ensures)
+    rw (p .placed-by .ensures) at (c .laid-at .ensures)
 
 pub laid-alike-spec : {M : Type 1} → statement M
 laid-alike-spec =
-    tie.close (tie.spec measured-width-requires placed-by-requires laid-at-requires returns)
+    tie.close (tie.spec placed-by-requires laid-at-requires returns)

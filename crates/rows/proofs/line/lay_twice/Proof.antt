@@ -25,9 +25,6 @@ pass-over-requires c κs =
     let f = plain-ready (ready c) _ _ (c .placed-plainly .ensures) refl in
     (ready c, f .0, f .1, known c)
 
-measured-width-requires : tie.Need-measured-width-requires
-measured-width-requires c κs = search needs
-
 placed-by-requires : tie.Need-placed-by-requires
 placed-by-requires c κs =
     let f = c .before .before in
@@ -47,7 +44,7 @@ returns c =
     let i = c .before .before in
     let p = i .before .before in
     let f = p .before .before .before in
-    laid-once (ready (f .before)) _ _ (f .before .placed-plainly .ensures) (f .pass-over .ensures) _ _ _ (p .before .measured-width .ensures) (p .placed-by .ensures)
+    laid-once (ready (f .before)) _ _ (f .before .placed-plainly .ensures) (f .pass-over .ensures) _ _ _ refl (p .placed-by .ensures)
     (sym (i .as-measured .ensures) ∙ c .before .if1 .taken) (c .laid-at .ensures)
 
 pass-over-requires-2 : tie.Need-pass-over-requires-2
@@ -65,7 +62,7 @@ returns-2 c =
     let d = c .before in
     let p = d .before .before .before .before in
     let f = p .before .before .before in
-    laid-twice (ready (f .before)) _ _ (f .before .placed-plainly .ensures) (f .pass-over .ensures) _ _ _ (p .before .measured-width .ensures) (p .placed-by .ensures) _
+    laid-twice (ready (f .before)) _ _ (f .before .placed-plainly .ensures) (f .pass-over .ensures) _ _ _ refl (p .placed-by .ensures) _
     (d .pass-over2 .ensures) (c .laid-at2 .ensures)
 
 pub lay-twice-spec : {M : Type 1} → statement M
@@ -74,7 +71,6 @@ lay-twice-spec =
     (tie.spec
     placed-plainly-requires
     pass-over-requires
-    measured-width-requires
     placed-by-requires
     cast-start
     as-measured-requires
