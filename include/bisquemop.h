@@ -170,17 +170,17 @@ enum bisquemop_event_column {
 /* What an event is. Only printed ones show, but others move the pen too. */
 enum bisquemop_drawn {
     BISQUEMOP_DRAWN_SPACE = 0,   /* spaces, one gluing character of a word, a tab, or the U+000A or U+000D that ends the
-                                    line, which is 0 wide, as spaces at a line's start or end are where the setting is
-                                    off */
+                                    line, which is 0 wide, as spaces at a line's end are, and those at its start where
+                                    `leading` is off */
     BISQUEMOP_DRAWN_PRINTED = 1, /* the characters of its bytes, which are of a word; "-" if its bytes are U+00AD's;
                                     nothing if it has no bytes, as at the end of a word that ends in a gluing
                                     character */
     BISQUEMOP_DRAWN_MOVE = 2     /* a tab that does not fit, as wide as the room up to the box's right side, or one at a
-                                    line's end where `trailing` is off */
+                                    line's end */
 };
 
-/* How a text is laid: eight numbers of pixels, two alignments, two switches, and what becomes of a word that has no
-   room. */
+/* How a text is laid: eight numbers of pixels, two alignments, a switch, a number that must be 0, and what becomes of a
+   word that has no room. */
 struct bisquemop_settings {
     uint32_t glyph;     /* the width of every character: 1 to 64 */
     uint32_t width;     /* the width of the box: 0 to 4,096 */
@@ -193,14 +193,15 @@ struct bisquemop_settings {
     uint32_t alignment; /* one of enum bisquemop_alignment */
     uint32_t vertical;  /* one of enum bisquemop_vertical */
     uint32_t leading;   /* spaces at the start of a line: 0 off, 1 on */
-    uint32_t trailing;  /* spaces at the end of a line: 0 off, 1 on */
+    uint32_t trailing;  /* must be 0. It was for spaces at the end of a line, and keeps its place */
     uint32_t wrap;      /* one of enum bisquemop_wrap: 0 or 1 */
 };
 
 /*
  * Checks the thirteen settings, given one after the other in the order of struct bisquemop_settings. Returns
  *   BISQUEMOP_OK                    all are good; *value is 0
- *   BISQUEMOP_SETTING_OUT_OF_RANGE  one of the eleven that are no alignment is out of its range; *value is 0
+ *   BISQUEMOP_SETTING_OUT_OF_RANGE  one of the eleven that are no alignment is out of its range, as `trailing` is if it
+ *                                   is not 0; *value is 0
  *   BISQUEMOP_UNKNOWN_ALIGNMENT     an alignment is none of its enum; *value is the number that was given,
  *                                   and where both are unknown, that of `alignment`
  */

@@ -8,10 +8,10 @@
 #define NUMBERS BISQUEMOP_LINE_NUMBERS
 #define MOST 4 /* lines of an example */
 
-/* Glyph 6, tab 24, left, leading on, trailing off. */
+/* Glyph 6, tab 24, left, leading on. */
 static struct bisquemop_settings boxed(uint32_t width, uint32_t wrap)
 {
-    return laid(6, width, LEFT, 1, 0, wrap);
+    return laid(6, width, LEFT, 1, wrap);
 }
 
 static uint8_t text[BISQUEMOP_TEXT_MAX];

@@ -82,7 +82,7 @@ struct bisquemop_settings random_settings(void)
     }
     s.alignment = below(4);
     s.leading = below(2);
-    s.trailing = below(2);
+    s.trailing = 0;
     s.wrap = below(2);
     redraw_heights(&s);
     return s;

@@ -42,7 +42,7 @@ static void test_examples(void)
 {
     static const uint32_t line[LINE] = {0, 0, 0, 2, 0, 6, 0, 0, 0, 1};
     each_example(test_example);
-    drawing_is("no bytes at NULL", laid(6, 30, LEFT, 1, 0, DROP), NULL, 0, line, 1, NULL, 0);
+    drawing_is("no bytes at NULL", laid(6, 30, LEFT, 1, DROP), NULL, 0, line, 1, NULL, 0);
 }
 
 static size_t most_events;
@@ -77,7 +77,7 @@ static void test_refusals(void)
     static const uint8_t feeds[] = "\n\n\n\n\n\n\n\n\n\n";
     for (size_t i = 0; i < 16; i++) {
         size_t table = rooms[i / 4], room = rooms[i % 4];
-        struct bisquemop_settings good = laid(6, 30, JUSTIFIED, 1, 0, DROP);
+        struct bisquemop_settings good = laid(6, 30, JUSTIFIED, 1, DROP);
         each_unlaid(test_refusal, table, room);
         if (table < 11 * LINE) {
             expect_drawing("eleven lines", good, feeds, 10, table, room, BISQUEMOP_TOO_SMALL, 11, NULL, 0, NULL);

@@ -11,15 +11,14 @@ enum { DROP = BISQUEMOP_WRAP_DROP, WAIT };
 enum { SPACE = BISQUEMOP_DRAWN_SPACE, PRINTED, MOVE };
 
 /* Tabs are 24 wide. Spacings, heights and the top, which play no part in a layout, are good. */
-struct bisquemop_settings laid(uint32_t glyph, uint32_t width, uint32_t alignment, uint32_t leading, uint32_t trailing,
-                               uint32_t wrap);
+struct bisquemop_settings laid(uint32_t glyph, uint32_t width, uint32_t alignment, uint32_t leading, uint32_t wrap);
 
 /*
  * A line: start, rest end, rest count, end type, left, space width, extra, width, dropped, reach.
  * An event: kind, start, end, count, width, x.
  */
 struct example {
-    uint32_t glyph, width, alignment, leading, trailing, wrap;
+    uint32_t glyph, width, alignment, leading, wrap;
     const char *text;
     size_t count;
     uint32_t lines[4 * BISQUEMOP_LINE_NUMBERS];

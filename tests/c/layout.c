@@ -62,7 +62,7 @@ static void test_refusals(void)
     static const uint8_t feeds[] = "\n\n\n\n\n\n\n\n\n\n";
     for (size_t i = 0; i < sizeof rooms / sizeof rooms[0]; i++) {
         each_unlaid(test_refusal, rooms[i], 0);
-        expect_layout("eleven lines", laid(6, 30, JUSTIFIED, 1, 0, DROP), feeds, 10, rooms[i], BISQUEMOP_TOO_SMALL, 11,
+        expect_layout("eleven lines", laid(6, 30, JUSTIFIED, 1, DROP), feeds, 10, rooms[i], BISQUEMOP_TOO_SMALL, 11,
                       NULL);
     }
 }

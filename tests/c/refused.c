@@ -29,6 +29,9 @@ static void expect_after_settings(const char *what, struct relay given, uint32_t
         expect_refused(what, s, &given, BISQUEMOP_UNKNOWN_ALIGNMENT, 3);
         s.alignment = UINT32_MAX;
         expect_refused(what, s, &given, BISQUEMOP_UNKNOWN_ALIGNMENT, UINT32_MAX);
+        s.trailing = 1;
+        expect_refused(what, s, &given, BISQUEMOP_SETTING_OUT_OF_RANGE, 0);
+        s.trailing = 0;
         s.glyph = 65;
         expect_refused(what, s, &given, BISQUEMOP_SETTING_OUT_OF_RANGE, 0);
     }
@@ -157,7 +160,7 @@ static void test_settings_first(void)
     list[6].height = 4097;
     list[7].top = -4097;
     list[8].leading = 2;
-    list[9].trailing = 2;
+    list[9].trailing = 1;
     list[10].wrap = 2;
     list[11].alignment = 4;
     list[12].vertical = 3;

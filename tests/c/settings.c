@@ -27,7 +27,7 @@ static const struct range ranges[RANGES] = {
     {"base", 1, 64},
     {"height", 0, 4096},
     {"leading", 0, 1},
-    {"trailing", 0, 1},
+    {"trailing", 0, 0}, /* retired */
     {"wrap", 0, 1},
 };
 
@@ -133,8 +133,10 @@ static void test_all_at_once(void)
 {
     struct bisquemop_settings s = {1, 0, 0, 0, 0, 1, 0, -4096, 0, 0, 0, 0, 0};
     expect_settings("all at their least", s, BISQUEMOP_OK, 0);
-    struct bisquemop_settings t = {64, 4096, 4096, 4096, 4096, 64, 4096, 4096, 3, 2, 1, 1, 1};
+    struct bisquemop_settings t = {64, 4096, 4096, 4096, 4096, 64, 4096, 4096, 3, 2, 1, 0, 1};
     expect_settings("all at their most", t, BISQUEMOP_OK, 0);
+    t.trailing = 1;
+    expect_settings("all at their most, and trailing spaces on", t, BISQUEMOP_SETTING_OUT_OF_RANGE, 0);
     struct bisquemop_settings none = {0, 0, 0, 0, 0, 0, 0, 0, 0, 0, 0, 0, 0};
     expect_settings("all 0", none, BISQUEMOP_SETTING_OUT_OF_RANGE, 0);
 }
@@ -154,7 +156,7 @@ static void test_names(void)
         BISQUEMOP_ALIGN_JUSTIFIED,
         BISQUEMOP_VERTICAL_BOTTOM,
         1,
-        1,
+        0,
         BISQUEMOP_WRAP_WAIT,
     };
     expect_settings("the named upper limits", s, BISQUEMOP_OK, 0);

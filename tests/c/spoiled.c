@@ -263,7 +263,7 @@ static void one_table(const char *what)
     }
     struct refused r = refused_before(&given);
     if (below(32) == 0) {
-        s.trailing = 2;
+        s.trailing = 1;
         r.number = BISQUEMOP_SETTING_OUT_OF_RANGE;
         r.value = 0;
     } else if (below(32) == 0) {

@@ -115,6 +115,10 @@ static void bad_table(const char *what, const uint32_t *numbers, size_t len, uin
     s.alignment = 4;
     no_height(what, s, numbers, len, lines, BISQUEMOP_UNKNOWN_ALIGNMENT, 4);
     not_again(what, s, too_long, sizeof too_long, numbers, len, lines, BISQUEMOP_UNKNOWN_ALIGNMENT, 4);
+    s.trailing = 1;
+    no_height(what, s, numbers, len, lines, BISQUEMOP_SETTING_OUT_OF_RANGE, 0);
+    not_again(what, s, too_long, sizeof too_long, numbers, len, lines, BISQUEMOP_SETTING_OUT_OF_RANGE, 0);
+    s.trailing = 0;
     s.wrap = 2;
     no_height(what, s, numbers, len, lines, BISQUEMOP_SETTING_OUT_OF_RANGE, 0);
     not_again(what, s, too_long, sizeof too_long, numbers, len, lines, BISQUEMOP_SETTING_OUT_OF_RANGE, 0);
@@ -251,7 +255,7 @@ static void test_long(void)
     expect_affected("past the text", one, NUMBERS, 1, 65536, 65536, 1, BISQUEMOP_BAD_EDIT, 0);
 
     const size_t len = sizeof table / sizeof table[0];
-    struct bisquemop_settings most = {64, 4096, 4096, 4096, 4096, 64, 4096, 4096, 3, 2, 1, 1, 1};
+    struct bisquemop_settings most = {64, 4096, 4096, 4096, 4096, 64, 4096, 4096, 3, 2, 1, 0, 1};
     memset(text, '\n', sizeof text);
     uint64_t lines = lay(most, text, sizeof text);
     expect("65,536 lines", lines == 65536);

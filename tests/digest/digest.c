@@ -154,13 +154,14 @@ static void ask_again(void)
 
 /* ---- the cases */
 
+/* Of the setting that is retired, its old other value is tried. */
 static void spoil_settings(void)
 {
     uint32_t *numbers[] = {&settings.glyph,     &settings.width,   &settings.tab,      &settings.spacing,
                            &settings.paragraph, &settings.base,    &settings.height,   &settings.alignment,
                            &settings.vertical,  &settings.leading, &settings.trailing, &settings.wrap};
     uint32_t which = below(sizeof numbers / sizeof numbers[0]);
-    *numbers[which] = random_number();
+    *numbers[which] = numbers[which] == &settings.trailing ? 1 : random_number();
 }
 
 static void spoil_table(void)
