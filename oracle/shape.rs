@@ -27,7 +27,7 @@ pub struct Settings {
     pub vertical: u32,
     /// Leading spaces: 0 off, 1 on.
     pub leading: u32,
-    /// Trailing spaces: 0 off, 1 on.
+    /// Trailing spaces, which are retired: 0 alone is good.
     pub trailing: u32,
     /// A word of which no character fits: 0 it is dropped, 1 it waits for the next line if the cursor has left its starting place.
     /// The crate has 0 alone.

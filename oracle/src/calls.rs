@@ -24,6 +24,7 @@ fn refused() -> Vec<(Settings, Vec<u8>, Refusal)> {
         (Settings { glyph: 0, ..EXAMPLE }, good.clone(), Refusal::SettingOutOfRange),
         (Settings { glyph: 65, alignment: 9, ..EXAMPLE }, long.clone(), Refusal::SettingOutOfRange),
         (Settings { top: -4097, ..EXAMPLE }, good.clone(), Refusal::SettingOutOfRange),
+        (Settings { trailing: 1, alignment: 9, ..EXAMPLE }, bad.clone(), Refusal::SettingOutOfRange),
         (Settings { wrap: 2, alignment: 9, ..EXAMPLE }, bad.clone(), Refusal::SettingOutOfRange),
         (Settings { alignment: 4, vertical: 3, ..EXAMPLE }, bad.clone(), Refusal::UnknownAlignment(4)),
         (Settings { vertical: 3, ..EXAMPLE }, good, Refusal::UnknownAlignment(3)),
@@ -101,6 +102,8 @@ fn tables(claims: &mut Claims) {
     claims.equal("height of no line", bisquemop::height(&EXAMPLE, &table, 0), Err(Refusal::BadLine(0)));
     let bad = Settings { base: 0, ..EXAMPLE };
     claims.equal("height at a bad setting", bisquemop::height(&bad, &table, lines), Err(Refusal::SettingOutOfRange));
+    let bad = Settings { trailing: 1, alignment: 9, ..EXAMPLE };
+    claims.equal("height at a retired setting", bisquemop::height(&bad, &table, 0), Err(Refusal::SettingOutOfRange));
     let bad = Settings { wrap: 2, vertical: 3, ..EXAMPLE };
     claims.equal("height at an unknown wrap", bisquemop::height(&bad, &table, 0), Err(Refusal::SettingOutOfRange));
     let bad = Settings { vertical: 3, ..EXAMPLE };
@@ -124,6 +127,8 @@ fn again(claims: &mut Claims) {
     };
     let bad = Settings { tab: 4097, ..EXAMPLE };
     refuse("lay_again at a bad setting", &bad, b"xbb\ncc", 9, lines, edit, Refusal::SettingOutOfRange);
+    let bad = Settings { trailing: 1, alignment: 4, ..EXAMPLE };
+    refuse("lay_again at a retired setting", &bad, b"xbb\ncc", 9, lines, edit, Refusal::SettingOutOfRange);
     let bad = Settings { wrap: 2, alignment: 4, ..EXAMPLE };
     refuse("lay_again at an unknown wrap", &bad, b"xbb\ncc", 9, lines, edit, Refusal::SettingOutOfRange);
     let bad = Settings { alignment: 4, ..EXAMPLE };
@@ -152,6 +157,8 @@ fn places(claims: &mut Claims) {
     claims.equal("line_y in no table", bisquemop::line_y(&EXAMPLE, &[], 0, 0), Err(Refusal::BadLine(0)));
     let bad = Settings { base: 0, ..EXAMPLE };
     claims.equal("line_y at a bad setting", bisquemop::line_y(&bad, &table, lines, 0), Err(Refusal::SettingOutOfRange));
+    let bad = Settings { trailing: 1, alignment: 4, ..EXAMPLE };
+    claims.equal("line_y at a retired setting", bisquemop::line_y(&bad, &table, lines, 0), Err(Refusal::SettingOutOfRange));
     let bad = Settings { wrap: 2, vertical: 3, ..EXAMPLE };
     claims.equal("line_y at an unknown wrap", bisquemop::line_y(&bad, &table, lines, 0), Err(Refusal::SettingOutOfRange));
 }

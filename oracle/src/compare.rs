@@ -63,20 +63,13 @@ pub struct Sides {
     pub library: library::Library,
 }
 
-const RULES: model::Ways = model::Ways { last_move_unmeasured: false, room_below_zero: false, tab_stays: false };
+const RULES: model::Ways = model::Ways { room_below_zero: false, tab_stays: false };
 
 /// The old rule of a tab that does not fit, which is the crate's (#102).
 const OLD_TAB: model::Ways = model::Ways { tab_stays: true, ..RULES };
 
-/// The crate's ways with such a tab that the rules did away with before, each with what it is called here.
-const WAYS: [(model::Ways, &str); 3] = [
-    (model::Ways { last_move_unmeasured: true, ..OLD_TAB }, "a move at the line's end is not measured (rule 10)"),
-    (model::Ways { room_below_zero: true, ..OLD_TAB }, "the remaining room is below 0 (rule 6)"),
-    (
-        model::Ways { last_move_unmeasured: true, room_below_zero: true, ..OLD_TAB },
-        "both a move that is not measured and room below 0",
-    ),
-];
+/// The crate's way with such a tab that the rules did away with before: the remaining room is below 0 (rule 6).
+const BELOW_ZERO: model::Ways = model::Ways { room_below_zero: true, ..OLD_TAB };
 
 impl Sides {
     /// Takes a text apart, and compares its tokens.
@@ -161,7 +154,7 @@ impl Sides {
         }
         if let Some(field) = differs {
             let besides = if outside.cut_zero_width { ", U+200B in a cut" } else { "" };
-            self.explain(settings, text, &[], field, besides, tally);
+            self.unexplained(settings, text, field, besides, tally);
         }
         if deep {
             self.whole(settings, text, tally);
@@ -181,7 +174,7 @@ impl Sides {
         } else {
             if let Some(field) = difference(&self.krate, &self.model) {
                 let cut = if outside.cut_zero_width { " and U+200B in a cut" } else { "" };
-                self.explain(settings, text, &WAYS[..1], field, &format!(", by the old rule of such a tab{cut}"), tally);
+                self.unexplained(settings, text, field, &format!(", by the old rule of such a tab{cut}"), tally);
             }
             if deep {
                 self.whole(settings, text, tally);
@@ -203,35 +196,25 @@ impl Sides {
         tally.dropped += self.model.extents.iter().filter(|extent| extent.dropped > 0).count() as u64;
     }
 
-    /// Finds the crate's way that makes the rules' layout the crate's.
-    fn explain(
-        &mut self,
-        settings: &Settings,
-        text: &str,
-        ways: &[(model::Ways, &str)],
-        field: &str,
-        besides: &str,
-        tally: &mut Tally,
-    ) {
-        let alignment = ALIGNMENTS[settings.alignment as usize];
-        let mut senseless = false;
-        for (way, reason) in ways {
-            let laid = catch_unwind(AssertUnwindSafe(|| {
-                model::lay(settings, *way, &self.text, &mut self.measure, &mut self.other);
-            }));
-            senseless |= laid.is_err();
-            if laid.is_ok() && difference(&self.krate, &self.other).is_none() {
-                let key = format!("{reason}{besides}: first in {field}, {alignment}");
-                Tally::note(&mut tally.explained, key, settings, text, || self.both());
-                return;
-            }
-        }
-        if senseless {
-            let key = format!("justified spaces of less than a pixel, which wrap around{besides}");
-            Tally::note(&mut tally.explained, key, settings, text, || self.both());
+    /// A line is measured wider than the box, and the crate goes on: the rules' layout with room below 0 is the crate's.
+    fn explain(&mut self, settings: &Settings, text: &str, field: &str, besides: &str, tally: &mut Tally) {
+        let laid = catch_unwind(AssertUnwindSafe(|| {
+            model::lay(settings, BELOW_ZERO, &self.text, &mut self.measure, &mut self.other);
+        }));
+        let key = if laid.is_err() {
+            format!("justified spaces of less than a pixel, which wrap around{besides}")
+        } else if difference(&self.krate, &self.other).is_none() {
+            let alignment = ALIGNMENTS[settings.alignment as usize];
+            format!("the remaining room is below 0 (rule 6){besides}: first in {field}, {alignment}")
+        } else {
+            self.unexplained(settings, text, field, besides, tally);
             return;
-        }
-        let key = format!("first in {field}, {alignment}{besides}");
+        };
+        Tally::note(&mut tally.explained, key, settings, text, || self.both());
+    }
+
+    fn unexplained(&self, settings: &Settings, text: &str, field: &str, besides: &str, tally: &mut Tally) {
+        let key = format!("first in {field}, {}{besides}", ALIGNMENTS[settings.alignment as usize]);
         Tally::note(&mut tally.unexplained, key, settings, text, || self.both());
     }
 
@@ -251,7 +234,7 @@ impl Sides {
             None => tally.overflow_same += 1,
             Some(field) => {
                 let cut = if outside.cut_zero_width { " and U+200B in a cut" } else { "" };
-                self.explain(settings, text, &WAYS, field, &format!(", by the old rule of such a tab, overflow{cut}"), tally);
+                self.explain(settings, text, field, &format!(", by the old rule of such a tab, overflow{cut}"), tally);
             }
         }
     }

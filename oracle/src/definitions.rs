@@ -18,8 +18,8 @@ use lib.IntN.{pos}
 use Rattle.meaning.specs.Examples.{Example, computed}
 use Rattle.meaning.specs.declared.settings.Settings.{Settings}
 
-abbrev sets : (glyph width tab alignment leading trailing wrap : ℕ) → Settings
-sets glyph width tab alignment leading trailing wrap =
+abbrev sets : (glyph width tab alignment leading wrap : ℕ) → Settings
+sets glyph width tab alignment leading wrap =
     record {
       glyph = record { 0 = glyph };
       width = record { 0 = width };
@@ -32,7 +32,7 @@ sets glyph width tab alignment leading trailing wrap =
       alignment = alignment;
       vertical = 0;
       leading = leading;
-      trailing = trailing;
+      trailing = 0;
       wrap = wrap;
     }
 
@@ -74,7 +74,6 @@ fn settings(chance: &mut random::Chance) -> Settings {
         tab: [0, 4, 9, 24][chance.below(4) as usize],
         alignment: [0, 1, 2, 3, 3][chance.below(5) as usize],
         leading: chance.below(2),
-        trailing: chance.below(2),
         wrap: chance.below(2),
         ..EXAMPLE
     }
@@ -107,13 +106,13 @@ pub fn write(count: u64, seed: u64) -> bool {
         } else {
             other += 1;
         }
-        let Settings { glyph, width, tab, alignment, leading, trailing, wrap, .. } = settings;
+        let Settings { glyph, width, tab, alignment, leading, wrap, .. } = settings;
         let lines = list(rules.lines.iter().zip(&rules.extents).map(|(l, e)| {
             row([l.start, l.rest_end, l.rest_count, l.end, l.left as u32, l.space, l.extra, l.width, e.dropped, e.reach])
         }));
         let events = list(rules.events.iter().map(|e| row([e.kind, e.start, e.end, e.count, e.width, e.x as u32])));
         let between = if number == 0 { "" } else { "∷ " };
-        let sets = format!("sets {glyph} {width} {tab} {alignment} {leading} {trailing} {wrap}");
+        let sets = format!("sets {glyph} {width} {tab} {alignment} {leading} {wrap}");
         writeln!(
             out,
             "    {between}example ({sets}) {}\n    {lines}\n    {events}",

@@ -146,7 +146,7 @@ fn hold(claims: &mut Claims, settings: &Settings, text: &str, lines: &[Vec<u32>]
 }
 
 /// Settings as the tables name them: `box 30`, `waitingBox 30`, `justifiedBox 51`, or `laidOut` by glyph, width, alignment, leading,
-/// trailing and wrap.
+/// 0 for what is retired, and wrap.
 fn settings_of(value: &antt::Value) -> Settings {
     let (name, values) = value.applied();
     let numbers: Vec<u32> = values.iter().map(antt::Value::number).collect();
@@ -154,8 +154,8 @@ fn settings_of(value: &antt::Value) -> Settings {
         ("box", &[width]) => Settings { width, ..EXAMPLE },
         ("justifiedBox", &[width]) => Settings { width, alignment: 3, leading: 0, ..EXAMPLE },
         ("waitingBox", &[width]) => Settings { width, wrap: 1, ..EXAMPLE },
-        ("laidOut", &[glyph, width, alignment, leading, trailing, wrap]) => {
-            Settings { glyph, width, alignment, leading, trailing, wrap, ..EXAMPLE }
+        ("laidOut", &[glyph, width, alignment, leading, 0, wrap]) => {
+            Settings { glyph, width, alignment, leading, wrap, ..EXAMPLE }
         }
         (other, _) => panic!("settings {other} are not known"),
     }

@@ -141,7 +141,6 @@ fn settings_of(changes: &[&str]) -> Option<Settings> {
             "alignment" => &mut settings.alignment,
             "vertical" => &mut settings.vertical,
             "leading" => &mut settings.leading,
-            "trailing" => &mut settings.trailing,
             _ => return None,
         } = u32::try_from(number).ok()?;
     }

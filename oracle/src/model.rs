@@ -11,9 +11,6 @@ use shape::*;
 /// Where the model can be asked to do as the crate does instead of what the scope says.
 #[derive(Clone, Copy, Default, PartialEq, Eq)]
 pub struct Ways {
-    /// Rule 10, trailing spaces on: the width is not the pen at the line's end but the pen after the last event that is no
-    /// move.
-    pub last_move_unmeasured: bool,
     /// Rule 6: the remaining room may fall below 0. Then no line is moved to the right, and justified spaces are narrower.
     pub room_below_zero: bool,
     /// Rule 8: a tab that does not fit moves the pen alone, and the cursor stays where it was.
@@ -243,10 +240,10 @@ impl<'t> Pass<'t> {
         self.pen += width as i32;
     }
 
-    /// By the crate: whether the width of spaces, or of a tab, before token `number` is drawn. It is in an empty line; with
-    /// trailing spaces on; and where the next word or "-" fits after all spaces and tabs that come before it.
+    /// By the crate: whether the width of spaces, or of a tab, before token `number` is drawn. It is in an empty line, and where the
+    /// next word or "-" fits after all spaces and tabs that come before it.
     fn draws_before(&mut self, mut number: usize) -> bool {
-        if self.empty || self.settings.trailing == 1 {
+        if self.empty {
             return true;
         }
         let (mut position, mut spaces) = (self.position, self.spaces);
@@ -409,15 +406,14 @@ impl<'t> Pass<'t> {
         Start { token: number, left: Some(stretch) }
     }
 
-    /// A run of spaces that does not fit. By the crate: as many spaces as fit are drawn, all of one width, which shows with
-    /// trailing spaces on; one space more is taken, where there is one. Rule 9: the others are the next line's rest.
+    /// A run of spaces that does not fit. By the crate: as many spaces as fit, all of one width, are drawn 0 wide; one space more is
+    /// taken, where there is one. Rule 9: the others are the next line's rest.
     fn cut(&mut self, events: &mut Vec<Event>, number: usize, run: Stretch, width: u32) -> Ended {
         let single = width / run.count;
         let fitting = self.room() / single;
         if fitting > 0 {
             let to = (run.from + fitting as usize).min(run.to);
-            let drawn = if self.settings.trailing == 1 { fitting * single } else { 0 };
-            self.event(events, SPACE, run.from, to, fitting, drawn);
+            self.event(events, SPACE, run.from, to, fitting, 0);
         }
         let taken = (fitting + 1).min(run.count);
         let from = run.from + taken as usize;
@@ -431,15 +427,8 @@ impl<'t> Pass<'t> {
 }
 
 /// Rule 10: the width and the number of spaces that a pass's events measure.
-fn measured(settings: &Settings, ways: Ways, events: &[Event]) -> (u32, u32) {
-    let upto = if settings.trailing == 0 {
-        events.iter().rposition(|e| e.kind == PRINTED)
-    } else if ways.last_move_unmeasured {
-        events.iter().rposition(|e| e.kind != MOVE)
-    } else {
-        events.len().checked_sub(1)
-    };
-    match upto {
+fn measured(events: &[Event]) -> (u32, u32) {
+    match events.iter().rposition(|e| e.kind == PRINTED) {
         None => (0, 0),
         Some(last) => {
             let pen = events[last].x + events[last].width as i32;
@@ -479,7 +468,7 @@ pub fn lay(settings: &Settings, ways: Ways, text: &Text, measure: &mut Vec<Event
         measure.clear();
         let mut measuring = pass(Spaces { width: settings.glyph, extra: 0 }, 0);
         let by = measuring.run(measure).by;
-        let (width, n) = measured(settings, ways, measure);
+        let (width, n) = measured(measure);
         let (left, spaces) = placed(settings, ways, width, n, by);
 
         let mut drawing = pass(spaces, left.max(0) as u32);
@@ -563,7 +552,7 @@ pub fn height_by_widths(settings: &Settings, lines: &[Line]) -> u32 {
 
 /// The height as the crate has it, by both ways: the lines are the measure's, too, each from where the last one's measure ended.
 pub fn height_by_measures(settings: &Settings, text: &Text, measure: &mut Vec<Event>) -> u32 {
-    let ways = Ways { last_move_unmeasured: true, tab_stays: true, ..Ways::default() };
+    let ways = Ways { tab_stays: true, ..Ways::default() };
     let mut start = Start { token: 0, left: None };
     let mut height = settings.base;
     let mut before = BY_END_OF_TEXT;
@@ -572,7 +561,7 @@ pub fn height_by_measures(settings: &Settings, text: &Text, measure: &mut Vec<Ev
         let spaces = Spaces { width: settings.glyph, extra: 0 };
         let mut pass = Pass::new(settings, ways, text, start, spaces, 0);
         let ended = pass.run(measure);
-        if before == BY_LINE_BREAK && measured(settings, ways, measure).0 > 0 {
+        if before == BY_LINE_BREAK && measured(measure).0 > 0 {
             height += settings.spacing;
         }
         match ended.by {

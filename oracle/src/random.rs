@@ -57,7 +57,7 @@ pub fn settings(chance: &mut Chance) -> Settings {
         alignment: chance.pick(&[0, 1, 2, 3, 3, 3]),
         vertical: chance.below(3),
         leading: chance.below(2),
-        trailing: chance.below(2),
+        trailing: 0,
         wrap: 0,
     }
 }

@@ -68,9 +68,9 @@ fn class_of(c: char) -> usize {
 struct Coverage {
     /// Cases with a character of each class.
     classes: [u64; 12],
-    /// Cases by alignment, and by leading and trailing spaces.
+    /// Cases by alignment, and by leading spaces.
     alignments: [u64; 4],
-    switches: [[u64; 2]; 2],
+    leading: [u64; 2],
     tokens: [u64; 6],
     /// Lines by alignment and end type.
     ends: [[u64; 4]; 4],
@@ -89,7 +89,7 @@ impl Coverage {
         text.chars().for_each(|c| found[class_of(c)] = true);
         self.classes.iter_mut().zip(found).for_each(|(cases, found)| *cases += u64::from(found));
         self.alignments[settings.alignment as usize] += 1;
-        self.switches[settings.leading as usize][settings.trailing as usize] += 1;
+        self.leading[settings.leading as usize] += 1;
         tokens.iter().for_each(|token| self.tokens[token.kind as usize] += 1);
         for line in &krate.lines {
             self.ends[settings.alignment as usize][line.end as usize] += 1;
@@ -111,8 +111,8 @@ impl Coverage {
         }
         let [left, centre, right, justified] = self.alignments;
         say(format!("cases aligned left {left}, centre {centre}, right {right}, justified {justified}"));
-        let [[neither, trailing], [leading, both]] = self.switches;
-        say(format!("cases with spaces neither {neither}, leading {leading}, trailing {trailing}, both {both}"));
+        let [off, on] = self.leading;
+        say(format!("cases with leading spaces off {off}, on {on}"));
         let [new_line, carriage_return, tab, white, word, soft] = self.tokens;
         say(format!(
             "tokens: NewLine {new_line}, CarriageReturn {carriage_return}, Tab {tab}, Whitespace {white}, Word {word}, Break {soft}"
@@ -148,9 +148,9 @@ struct Sample {
     measure: Vec<Event>,
 }
 
-/// The settings that a layout depends on.
+/// The settings that a layout of the crate depends on, and 0 for the one that is retired and keeps its place.
 fn six(s: &Settings) -> [u32; 6] {
-    [s.glyph, s.width, s.tab, s.alignment, s.leading, s.trailing]
+    [s.glyph, s.width, s.tab, s.alignment, s.leading, 0]
 }
 
 impl Sample {
@@ -283,7 +283,8 @@ pub fn write(cases: usize, seed: u64) -> bool {
     say("Answers of the crate embedded-text 0.7.3, recorded, to be replayed against this library.".into());
     say(format!("Made by: scripts/oracle --record FILE --seed {seed} --cases {cases}"));
     say("The crate's own files were compiled unchanged, with the stand-ins that oracle/README.md lists.".into());
-    say("A case a line: glyph width tab alignment leading trailing, L and L bytes of text, T and T tokens (kind start end count),".into());
+    say("A case a line: glyph width tab alignment leading 0, L and L bytes of text, T and T tokens (kind start end count),"
+        .into());
     say("N and N lines (start, rest end, rest count, end type, left, space width, extra, width), E and E events (kind start end"
         .into());
     say("count width x). The numbers of kinds and end types are those of include/bisquemop.h; events: 0 space, 1 printed, 2 move.".into());

@@ -6,14 +6,12 @@ use std::fmt::Write;
 /// The settings that a layout depends on; with `all`, also those of height and y.
 pub fn settings(s: &Settings, all: bool) -> String {
     let alignment = ["left", "centre", "right", "justified"][s.alignment as usize];
-    let on = |switch| if switch == 1 { "on" } else { "off" };
     let mut out = format!(
-        "glyph {} box {} tab {} {alignment} leading {} trailing {}{}",
+        "glyph {} box {} tab {} {alignment} leading {}{}",
         s.glyph,
         s.width,
         s.tab,
-        on(s.leading),
-        on(s.trailing),
+        if s.leading == 1 { "on" } else { "off" },
         if s.wrap == 1 { ", words wait" } else { "" }
     );
     if all {

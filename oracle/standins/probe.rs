@@ -124,7 +124,7 @@ fn style_of(settings: &Settings) -> TextBoxStyle {
     style.paragraph_spacing = settings.paragraph;
     style.tab_size = TabSize::Pixels(settings.tab as u16);
     style.leading_spaces = settings.leading == 1;
-    style.trailing_spaces = settings.trailing == 1;
+    style.trailing_spaces = false;
     style
 }
 
