@@ -145,8 +145,8 @@ fn hold(claims: &mut Claims, settings: &Settings, text: &str, lines: &[Vec<u32>]
     hold_library(claims, settings, text, lines, events);
 }
 
-/// Settings as the tables name them: `box 30`, `waitingBox 30`, `justifiedBox 51`, or `laidOut` by glyph, width, alignment, leading,
-/// 0 for what is retired, and wrap.
+/// Settings as the tables name them: `box 30`, `waitingBox 30`, `justifiedBox 51`, or `laidOut` by glyph, width, alignment, leading
+/// and wrap.
 fn settings_of(value: &antt::Value) -> Settings {
     let (name, values) = value.applied();
     let numbers: Vec<u32> = values.iter().map(antt::Value::number).collect();
@@ -154,7 +154,7 @@ fn settings_of(value: &antt::Value) -> Settings {
         ("box", &[width]) => Settings { width, ..EXAMPLE },
         ("justifiedBox", &[width]) => Settings { width, alignment: 3, leading: 0, ..EXAMPLE },
         ("waitingBox", &[width]) => Settings { width, wrap: 1, ..EXAMPLE },
-        ("laidOut", &[glyph, width, alignment, leading, 0, wrap]) => {
+        ("laidOut", &[glyph, width, alignment, leading, wrap]) => {
             Settings { glyph, width, alignment, leading, wrap, ..EXAMPLE }
         }
         (other, _) => panic!("settings {other} are not known"),
