@@ -87,12 +87,13 @@ checkEdit es ed (e ∷ more) n cs = refuseIf (not (partFits es ed e n cs)) BadEd
 unfoldable pub moved : Edit → ℕ → ℕ
 moved ed x = x + ed .inserted .0 - (ed .to .0 - ed .from .0)
 
--- The old lines that follow have start, non-zero rest end and reach moved.
+-- The old lines that follow have start, non-zero rest end and reach moved. Where there were `from` characters before the first
+-- of them there are now `to`.
 unfoldable pub movedRest : Edit → Rest → Rest
 movedRest ed r = record { end = record { 0 = pick (eqb (r .end .0) 0) 0 (moved ed (r .end .0)) }; count = r .count }
 
-unfoldable pub movedEntry : Edit → Entry → Entry
-movedEntry ed e =
+unfoldable pub movedEntry : Edit → (from to : ℕ) → Entry → Entry
+movedEntry ed from to e =
     record {
       start = record { 0 = moved ed (e .start .0) };
       rest = movedRest ed (e .rest);
@@ -103,6 +104,7 @@ movedEntry ed e =
       width = e .width;
       dropped = e .dropped;
       reach = record { 0 = moved ed (e .reach .0) };
+      before = record { 0 = to + (e .before .0 - from) };
     }
 
 -- Does a new line, by its start and rest, stand where an old line with start >= b has come to stand.
@@ -134,19 +136,19 @@ againUnlessEnded LineBreak more = more
 abbrev pub oneMore : Row → Again → Again
 oneMore r more = record { laid = r ∷ more .laid; kept = more .kept }
 
--- Where old lines follow, laying stops.
-unfoldable pub unlessKept : Edit → List Entry → Again → Again
-unlessKept ed [] more = more
-unlessKept ed (e ∷ es) more = record { laid = []; kept = map (movedEntry ed) (e ∷ es) }
+-- Where old lines follow, laying stops, with so many characters before it.
+unfoldable pub unlessKept : Edit → (before : ℕ) → List Entry → Again → Again
+unlessKept ed before [] more = more
+unlessKept ed before (e ∷ es) more = record { laid = []; kept = map (movedEntry ed (e .before .0) before) (e ∷ es) }
 
 -- Laying again from an offset on: before each line, and at most n times, the old lines are looked at.
-unfoldable pub againBy : ℕ → Settings → Edit → (old : List Entry) → (start : ℕ) → Held → List ℕ → Again
-againBy zero s ed old start h cs = record { laid = []; kept = [] }
-againBy (suc n) s ed old start h cs =
+unfoldable pub againBy : ℕ → Settings → Edit → (old : List Entry) → (start before : ℕ) → Held → List ℕ → Again
+againBy zero s ed old start before h cs = record { laid = []; kept = [] }
+againBy (suc n) s ed old start before h cs =
     let l = layLine s h cs in
-    let rest = againBy n s ed old (start + size (take (l .chars) cs)) (l .held) (drop (l .chars) cs) in
-    let more = oneMore (rowAt start h cs l) (againUnlessEnded (l .ended) rest) in
-    unlessKept ed (keptFrom ed start (restOf start h cs) old) more
+    let rest = againBy n s ed old (start + size (take (l .chars) cs)) (before + l .chars) (l .held) (drop (l .chars) cs) in
+    let more = oneMore (rowAt start before h cs l) (againUnlessEnded (l .ended) rest) in
+    unlessKept ed before (keptFrom ed start (restOf start h cs) old) more
 
 -- What an old line's entry says is held before it, in the characters from its start on.
 unfoldable pub heldOf : Entry → List ℕ → Held
@@ -156,7 +158,7 @@ heldOf e cs =
 -- From the first affected line on, with the characters of the lent part.
 unfoldable pub again : Settings → Edit → (old : List Entry) → List Entry → List ℕ → Again
 again s ed old [] cs = record { laid = []; kept = [] }
-again s ed old (e ∷ es) cs = againBy (suc (length cs)) s ed old (e .start .0) (heldOf e cs) cs
+again s ed old (e ∷ es) cs = againBy (suc (length cs)) s ed old (e .start .0) (e .before .0) (heldOf e cs) cs
 
 -- All lines afterwards.
 unfoldable pub linesAgain : Settings → Edit → (old : List Entry) → List ℕ → List Entry

@@ -18,9 +18,9 @@ pub record Row : Type 0 where
   pub events : List Event
   pub chars : ℕ
 
-unfoldable pub rowAt : (start : ℕ) → Held → List ℕ → Line → Row
-rowAt start h cs l =
-    record { entry = entryAt start h cs l; events = eventsAt start (l .placed .left .0) (l .drawn); chars = l .chars }
+unfoldable pub rowAt : (start before : ℕ) → Held → List ℕ → Line → Row
+rowAt start before h cs l =
+    record { entry = entryAt start before h cs l; events = eventsAt start (l .placed .left .0) (l .drawn); chars = l .chars }
 
 -- Nothing follows a line that ends the text.
 unfoldable pub unlessEnded : LineEnd → List Row → List Row
@@ -29,20 +29,20 @@ unlessEnded NewLine rows = rows
 unlessEnded CarriageReturn rows = rows
 unlessEnded LineBreak rows = rows
 
--- At most n lines of what a text has from an offset on.
-unfoldable pub rowsBy : ℕ → Settings → (start : ℕ) → Held → List ℕ → List Row
-rowsBy zero s start h cs = []
-rowsBy (suc n) s start h cs =
+-- At most n lines of what a text has from an offset on, so many characters of it being before that.
+unfoldable pub rowsBy : ℕ → Settings → (start before : ℕ) → Held → List ℕ → List Row
+rowsBy zero s start before h cs = []
+rowsBy (suc n) s start before h cs =
     let l = layLine s h cs in
-    let more = rowsBy n s (start + size (take (l .chars) cs)) (l .held) (drop (l .chars) cs) in
-    rowAt start h cs l ∷ unlessEnded (l .ended) more
+    let more = rowsBy n s (start + size (take (l .chars) cs)) (before + l .chars) (l .held) (drop (l .chars) cs) in
+    rowAt start before h cs l ∷ unlessEnded (l .ended) more
 
 -- Each line but the last takes a character (laws: `lines-take`), so there is at most one more than there are characters.
 abbrev pub mostLines : List ℕ → ℕ
 mostLines cs = suc (length cs)
 
 unfoldable pub rows : Settings → List ℕ → List Row
-rows s cs = rowsBy (mostLines cs) s 0 nothingHeld cs
+rows s cs = rowsBy (mostLines cs) s 0 0 nothingHeld cs
 
 abbrev pub entryOfRow : Row → Entry
 entryOfRow r = r .entry

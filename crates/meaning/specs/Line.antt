@@ -114,9 +114,9 @@ restOf start h cs =
     pick (eqb (h .chars) 0) (record { end = record { 0 = 0 }; count = record { 0 = 0 } })
     (record { end = record { 0 = start + size (take (h .chars) cs) }; count = record { 0 = h .count } })
 
--- Rule 12: the ten numbers of a line that starts at an offset.
-unfoldable pub entryAt : (start : ℕ) → Held → List ℕ → Line → Entry
-entryAt start h cs l =
+-- Rule 12: the eleven numbers of a line that starts at an offset, with so many characters before it.
+unfoldable pub entryAt : (start before : ℕ) → Held → List ℕ → Line → Entry
+entryAt start before h cs l =
     record {
       start = record { 0 = start };
       rest = restOf start h cs;
@@ -127,6 +127,7 @@ entryAt start h cs l =
       width = record { 0 = l .width };
       dropped = record { 0 = l .dropped };
       reach = record { 0 = start + l .reach };
+      before = record { 0 = before };
     }
 
 -- Rule 13: events with their byte ranges in the text, and the pen before each.

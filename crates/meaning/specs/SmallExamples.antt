@@ -15,7 +15,7 @@ use Rattle.meaning.specs.Tokens.{tokens, ranged}
 use Rattle.meaning.specs.Cursor.{moveBy, tabWidth}
 use Rattle.meaning.specs.Layout.{layout}
 use Rattle.meaning.specs.Table.{ofToken, capacityOf, entryIn, entriesIn}
-use Rattle.meaning.specs.WellFormed.{lastReach, textLength, startGood, noRest, restGood, endingGood, entryGood, checkLines, checkEntries, checkTable}
+use Rattle.meaning.specs.WellFormed.{lastReach, textLength, startGood, noRest, restGood, endingGood, countGood, entryGood, checkLines, checkEntries, checkTable}
 use Rattle.meaning.specs.Height.{endAdds, heightAdds, heightFrom, heightOf, offsetOf, addedBefore, yOf}
 use Rattle.meaning.specs.Calls.{textRows, textEntries, checkLayout, layoutAnswer}
 use Rattle.meaning.specs.Examples.{codes, linesOf}
@@ -85,9 +85,12 @@ pub record TableExample : Type 0 where
 abbrev tableIs : ℕ → List ℕ → Checked → TableExample
 tableIs n t v = record { lines = n; table = t; verdict = v }
 
--- A line by its start, rest end, rest count, end type and reach.
+-- A line by its start, rest end, rest count, end type, reach and the characters before it; and one with a character to a byte.
+abbrev counted : (start end count ending reach before : ℕ) → List ℕ → List ℕ
+counted start end count ending reach before more = start ∷ end ∷ count ∷ ending ∷ 0 ∷ 6 ∷ 0 ∷ 0 ∷ 0 ∷ reach ∷ before ∷ more
+
 abbrev entry : (start end count ending reach : ℕ) → List ℕ → List ℕ
-entry start end count ending reach more = start ∷ end ∷ count ∷ ending ∷ 0 ∷ 6 ∷ 0 ∷ 0 ∷ 0 ∷ reach ∷ more
+entry start end count ending reach = counted start end count ending reach start
 
 abbrev pub tableExamples : List TableExample
 tableExamples =
@@ -116,10 +119,16 @@ tableExamples =
     ∷ tableIs 2 (entry 0 0 0 3 8 (entry 4 8 2 2 8 [])) (Refused (BadLine 1))
     ∷ tableIs 2 (entry 0 0 0 3 7 (entry 4 6 3 2 8 [])) (Refused (BadLine 1))
     ∷ tableIs 2 (entry 0 0 0 3 7 (entry 4 0 1 2 8 [])) (Refused (BadLine 1))
+    -- characters before a line: from one up to its bytes; not 0 before line 0; not risen; above the bytes before the line
+    ∷ tableIs 2 (entry 0 0 0 3 7 (counted 4 0 0 2 8 1 [])) Good
+    ∷ tableIs 2 (counted 0 0 0 3 7 1 (entry 4 0 0 2 8 [])) (Refused (BadLine 0))
+    ∷ tableIs 2 (entry 0 0 0 3 7 (counted 4 0 0 2 8 0 [])) (Refused (BadLine 1))
+    ∷ tableIs 3 (entry 0 0 0 3 7 (counted 4 0 0 3 7 2 (counted 5 0 0 2 8 2 []))) (Refused (BadLine 2))
+    ∷ tableIs 2 (entry 0 0 0 3 7 (counted 4 0 0 2 8 5 [])) (Refused (BadLine 1))
     ∷ []
 
 unfoldable pub tableFound : TableExample → TableExample
-unfolding pick capacityOf entryIn entriesIn lastReach textLength startGood noRest restGood endingGood entryGood checkLines checkEntries checkTable
+unfolding pick capacityOf entryIn entriesIn lastReach textLength startGood noRest restGood endingGood countGood entryGood checkLines checkEntries checkTable
 tableFound x = tableIs (x .lines) (x .table) (checkTable (x .lines) (x .table))
 
 pub tables-hold : map tableFound tableExamples ≡ tableExamples
@@ -209,8 +218,8 @@ pub record CallExample : Type 0 where
 abbrev answers : Settings → List ℕ → List ℕ → Laid → CallExample
 answers s t table a = record { settings = s; text = t; table = table; answer = a }
 
-abbrev ten : List ℕ
-ten = 1 ∷ 2 ∷ 3 ∷ 4 ∷ 5 ∷ 6 ∷ 7 ∷ 8 ∷ 9 ∷ 10 ∷ []
+abbrev eleven : List ℕ
+eleven = 1 ∷ 2 ∷ 3 ∷ 4 ∷ 5 ∷ 6 ∷ 7 ∷ 8 ∷ 9 ∷ 10 ∷ 11 ∷ []
 
 abbrev pub callExamples : List CallExample
 callExamples =
@@ -222,8 +231,8 @@ callExamples =
     -- text before room: "a", the first byte of a character, and nothing after it
     ∷ answers (set 6 3 2) (0x61 ∷ 0xC3 ∷ []) [] (laid.Refused (NotUtf8 (record { 0 = 1 })))
     ∷ answers (set 6 3 2) (0x61 ∷ []) [] (laid.Refused (TooSmall 1))
-    ∷ answers (set 6 3 2) (0x61 ∷ 0x0A ∷ []) ten (laid.Refused (TooSmall 2))
-    ∷ answers (set 6 3 2) (0x61 ∷ []) ten (laid.Lines 1)
+    ∷ answers (set 6 3 2) (0x61 ∷ 0x0A ∷ []) eleven (laid.Refused (TooSmall 2))
+    ∷ answers (set 6 3 2) (0x61 ∷ []) eleven (laid.Lines 1)
     ∷ []
 
 unfoldable pub callFound : CallExample → CallExample

@@ -1,4 +1,4 @@
--- Rule 12 and rule 13: a table is ten numbers a line, one line after the other; what a lent table, event buffer or token buffer holds.
+-- Rule 12 and rule 13: a table is eleven numbers a line, one line after the other; what a lent table, event buffer or token buffer holds.
 -- Rule 3, rule 12, rule 13.
 -- Assumes nothing.
 use Prim.Native.Nat.{ℕ, zero, suc, _+_, _/_}
@@ -14,7 +14,7 @@ use Rattle.meaning.specs.declared.line.Event.{Event}
 
 -- How many numbers a line entry, an event and a token have.
 abbrev pub entryNumbers : ℕ
-entryNumbers = 10
+entryNumbers = 11
 
 abbrev pub eventNumbers : ℕ
 eventNumbers = 6
@@ -25,7 +25,7 @@ tokenNumbers = 4
 unfoldable pub ofEntry : Entry → List ℕ
 ofEntry e =
     e .start .0 ∷ e .rest .end .0 ∷ e .rest .count .0 ∷ e .ending ∷ e .left .0 ∷ e .space .0 ∷ e .extra .0 ∷ e .width .0
-    ∷ e .dropped .0 ∷ e .reach .0 ∷ []
+    ∷ e .dropped .0 ∷ e .reach .0 ∷ e .before .0 ∷ []
 
 -- Events: 0 space, 1 printed, 2 move.
 abbrev pub eventNumber : EventKind → ℕ
@@ -61,7 +61,7 @@ capacityOf n t = length t / n
 unfoldable pub written : List ℕ → List ℕ → List ℕ
 written t xs = xs ++ drop (length xs) t
 
--- The entry that the ten numbers at the front are, and the first n entries.
+-- The entry that the eleven numbers at the front are, and the first n entries.
 unfoldable pub entryIn : List ℕ → Entry
 entryIn t =
     record {
@@ -74,6 +74,7 @@ entryIn t =
       width = record { 0 = getD t 7 0 };
       dropped = record { 0 = getD t 8 0 };
       reach = record { 0 = getD t 9 0 };
+      before = record { 0 = getD t 10 0 };
     }
 
 unfoldable pub entriesIn : (lines : ℕ) → List ℕ → List Entry

@@ -32,7 +32,8 @@ pub struct Rest {
     pub count: Chars,
 }
 
-// Rule 12: the ten numbers of a line. The ending is a number, since a lent table may hold any.
+// Rule 12: the eleven numbers of a line. The ending is a number, since a lent table may hold any; `before` counts the
+// characters before the line's start.
 pub struct Entry {
     pub start: Offset,
     pub rest: Rest,
@@ -43,6 +44,7 @@ pub struct Entry {
     pub width: Pixels,
     pub dropped: Chars,
     pub reach: Offset,
+    pub before: Chars,
 }
 
 pub enum EventKind {

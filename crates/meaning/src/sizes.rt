@@ -3,7 +3,7 @@
 // Rule 3, rule 12, rule 13, refusal 3.
 
 // The numbers of a line entry, of an event and of a token.
-pub const ENTRY_NUMBERS: usize = 10;
+pub const ENTRY_NUMBERS: usize = 11;
 
 pub const EVENT_NUMBERS: usize = 6;
 
@@ -32,3 +32,5 @@ pub const WIDTH: usize = 7;
 pub const DROPPED: usize = 8;
 
 pub const REACH: usize = 9;
+
+pub const BEFORE: usize = 10;
