@@ -53,7 +53,7 @@ module _ (s : Settings) (pre x y : List ℕ) where
     pub stands : Stand (pre ++ y) (entry .start .0) (heldOf entry part) part
     pub fits : restFits entry part ≡ true
     pub enough : length part < fuel
-    pub new-is : new ≡ unaffected (size pre) old ++ map entryOfRow (rowsBy fuel s (entry .start .0) (heldOf entry part) part)
+    pub new-is : new ≡ unaffected (size pre) old ++ map entryOfRow (rowsBy fuel s (entry .start .0) (entry .before .0) (heldOf entry part) part)
 
   -- A line that is not affected, before both.
   skip : (e : Entry) (old new : List Entry) → e .reach .0 ≤ size pre → First old new → First (e ∷ old) (e ∷ new)
@@ -73,30 +73,30 @@ module _ (s : Settings) (pre x y : List ℕ) where
       }
 
   -- The rows after the first line of p ++ x, where the text behind p is z.
-  abbrev following : ℕ → (start : ℕ) → Held → (p z : List ℕ) → List Row
-  following n start h p z =
+  abbrev following : ℕ → (start before : ℕ) → Held → (p z : List ℕ) → List Row
+  following n start before h p z =
       let l = layLine s h (p ++ x) in
-      rowsBy n s (start + size (take (l .chars) (p ++ x))) (l .held) (drop (l .chars) p ++ z)
+      rowsBy n s (start + size (take (l .chars) (p ++ x))) (before + l .chars) (l .held) (drop (l .chars) p ++ z)
 
-  module _ (start : ℕ) (h : Held) (p : List ℕ) (at : Stand pre start h p) where
+  module _ (start before : ℕ) (h : Held) (p : List ℕ) (at : Stand pre start h p) where
     -- An affected line: the first one is here.
     here : size pre < start + layLine s h (p ++ x) .reach → (n m : ℕ) → length (p ++ y) < m
-        → First (map entryOfRow (rowsBy (suc n) s start h (p ++ x))) (map entryOfRow (rowsBy m s start h (p ++ y)))
+        → First (map entryOfRow (rowsBy (suc n) s start before h (p ++ x))) (map entryOfRow (rowsBy m s start before h (p ++ y)))
     unfolding affected unaffected pick rowsBy rowAt entryAt
     here b n m c =
         let l = layLine s h (p ++ x) in
-        let e = held-of start h p x y l (at .chars) (at .count) in
+        let e = held-of start before h p x y l (at .chars) (at .count) in
         record {
-          entry = entryAt start h (p ++ x) l;
+          entry = entryAt start before h (p ++ x) l;
           more =
               map entryOfRow
-              (unlessEnded (l .ended) (rowsBy n s (start + size (take (l .chars) (p ++ x))) (l .held) (drop (l .chars) (p ++ x))));
+              (unlessEnded (l .ended) (rowsBy n s (start + size (take (l .chars) (p ++ x))) (before + l .chars) (l .held) (drop (l .chars) (p ++ x))));
           part = p ++ y;
           fuel = m;
           found = rw (lt-leb _ _ b);
           before = omega (arith, ap size (at .is), size-append (at .front) p);
           stands = rw e (stand-on pre start h p y at);
-          fits = rest-fits start h p x y l (at .chars) (at .count);
+          fits = rest-fits start before h p x y l (at .chars) (at .count);
           enough = c;
           new-is = rw (lt-leb _ _ b, e);
         }
@@ -130,51 +130,51 @@ module _ (s : Settings) (pre x y : List ℕ) where
             count = line-held s h (p ++ x) (stand-on pre start h p x at .chars) (at .count);
           }
 
-      old-more : (n : ℕ) → rowsBy (suc n) s start h (p ++ x) ≡ rowAt start h (p ++ x) (layLine s h (p ++ x))
-          ∷ unlessEnded (layLine s h (p ++ x) .ended) (following n start h p x)
+      old-more : (n : ℕ) → rowsBy (suc n) s start before h (p ++ x) ≡ rowAt start before h (p ++ x) (layLine s h (p ++ x))
+          ∷ unlessEnded (layLine s h (p ++ x) .ended) (following n start before h p x)
       unfolding rowsBy
       old-more n = rw (drop-append-le (layLine s h (p ++ x) .chars) p x (omega (arith, inside)))
 
-      new-more : (n : ℕ) → rowsBy (suc n) s start h (p ++ y) ≡ rowAt start h (p ++ x) (layLine s h (p ++ x))
-          ∷ unlessEnded (layLine s h (p ++ x) .ended) (following n start h p y)
+      new-more : (n : ℕ) → rowsBy (suc n) s start before h (p ++ y) ≡ rowAt start before h (p ++ x) (layLine s h (p ++ x))
+          ∷ unlessEnded (layLine s h (p ++ x) .ended) (following n start before h p y)
       unfolding rowsBy
       new-more n =
           let k = layLine s h (p ++ x) .chars in
           let b : k ≤ length p = omega (arith, inside) in
           rw
-          (row-local s h p x y within start (at .chars), lay-local s h p x y within, take-local k p x y b, drop-append-le k p y b)
+          (row-local s h p x y within start before (at .chars), lay-local s h p x y within, take-local k p x y b, drop-append-le k p y b)
 
       later : (n m : ℕ)
-          → First (map entryOfRow (following n start h p x)) (map entryOfRow (following m start h p y))
-          → First (map entryOfRow (rowsBy (suc n) s start h (p ++ x))) (map entryOfRow (rowsBy (suc m) s start h (p ++ y)))
+          → First (map entryOfRow (following n start before h p x)) (map entryOfRow (following m start before h p y))
+          → First (map entryOfRow (rowsBy (suc n) s start before h (p ++ x))) (map entryOfRow (rowsBy (suc m) s start before h (p ++ y)))
       unfolding rowAt entryAt
       later n m f =
           let l = layLine s h (p ++ x) in
-          let r = rowAt start h (p ++ x) l in
+          let r = rowAt start before h (p ++ x) l in
           rw (old-more n, new-more m)
-          (unless-both (λ xs ys. First (map entryOfRow (r ∷ xs)) (map entryOfRow (r ∷ ys))) (l .ended) (following n start h p x)
-          (following m start h p y) (λ e. absurd (goes-on e))
-          (λ d. skip (r .entry) (map entryOfRow (following n start h p x)) (map entryOfRow (following m start h p y)) near f))
+          (unless-both (λ xs ys. First (map entryOfRow (r ∷ xs)) (map entryOfRow (r ∷ ys))) (l .ended) (following n start before h p x)
+          (following m start before h p y) (λ e. absurd (goes-on e))
+          (λ d. skip (r .entry) (map entryOfRow (following n start before h p x)) (map entryOfRow (following m start before h p y)) near f))
 
       fewer : (z : List ℕ) (n : ℕ) → length (p ++ z) < suc n → length (drop (layLine s h (p ++ x) .chars) p ++ z) < n
       fewer z n b =
           let t = line-takes s h (p ++ x) (stand-on pre start h p x at .chars) (at .count) goes-on in
           rw (length-append, length-drop) (omega (arith, length-append p z, inside))
 
-  pub first-by : (n m start : ℕ) (h : Held) (p : List ℕ) → Stand pre start h p → length (p ++ x) < n → length (p ++ y) < m
-      → First (map entryOfRow (rowsBy n s start h (p ++ x))) (map entryOfRow (rowsBy m s start h (p ++ y)))
-  first-by zero m start h p at b c = absurd (not-suc-le-zero b)
-  first-by (suc n) zero start h p at b c = absurd (not-suc-le-zero c)
-  first-by (suc n) (suc m) start h p at b c =
+  pub first-by : (n m start before : ℕ) (h : Held) (p : List ℕ) → Stand pre start h p → length (p ++ x) < n → length (p ++ y) < m
+      → First (map entryOfRow (rowsBy n s start before h (p ++ x))) (map entryOfRow (rowsBy m s start before h (p ++ y)))
+  first-by zero m start before h p at b c = absurd (not-suc-le-zero b)
+  first-by (suc n) zero start before h p at b c = absurd (not-suc-le-zero c)
+  first-by (suc n) (suc m) start before h p at b c =
       let l = layLine s h (p ++ x) in
       by-le (start + l .reach) (size pre)
       (λ near.
-      later start h p at near n m
-      (first-by n m (start + size (take (l .chars) (p ++ x))) (l .held) (drop (l .chars) p) (next start h p at near)
-      (fewer start h p at near x n b) (fewer start h p at near y m c)))
-      (λ far. here start h p at far n (suc m) c)
+      later start before h p at near n m
+      (first-by n m (start + size (take (l .chars) (p ++ x))) (before + l .chars) (l .held) (drop (l .chars) p) (next start before h p at near)
+      (fewer start before h p at near x n b) (fewer start before h p at near y m c)))
+      (λ far. here start before h p at far n (suc m) c)
 
   pub layout-first : First (layout s (pre ++ x)) (layout s (pre ++ y))
   unfolding layout rows
   layout-first =
-      first-by (suc (length (pre ++ x))) (suc (length (pre ++ y))) 0 nothingHeld pre (first-stand pre) (omega arith) (omega arith)
+      first-by (suc (length (pre ++ x))) (suc (length (pre ++ y))) 0 0 nothingHeld pre (first-stand pre) (omega arith) (omega arith)

@@ -4,7 +4,7 @@ use Prim.Native.Nat.{ℕ, suc, _+_, _≤_}
 use native.Mathlib.Omega.{arith}
 use mathlib.Core.Path.{_≡_, sym, ap, _∙_}
 use mathlib.Core.List.{List, [], _∷_, _++_, map}
-use lib.ListN.{length, take, drop, length-append, take-append-drop}
+use lib.ListN.{length, take, drop, take-append-drop}
 use lib.Seq.{take-append-seam}
 use Rattle.unicode.specs.Encoding.{size, encodeAll}
 use Rattle.unicode.specs.Sizes.{size-append, drop-encoded}
@@ -13,7 +13,7 @@ use Rattle.meaning.specs.Edit.{unaffected, affected, charsIn, heldOf, again, li
 use Rattle.meaning.specs.declared.settings.Settings.{Settings}
 use Rattle.meaning.specs.declared.edit.Edit.{Edit}
 use Rattle.meaning.specs.declared.line.Entry.{Entry}
-use Rattle.laws.specs.Suffixes.{same-suffix, chars-in-take}
+use Rattle.laws.specs.Suffixes.{same-suffix, chars-in-front}
 use Rattle.laws.specs.Stands.{stand-size}
 use Rattle.laws.specs.Meeting.{Replaces}
 use Rattle.laws.specs.Relaid.{linesOf, again-lines}
@@ -41,9 +41,7 @@ partFrom start cs = drop (charsIn cs start) cs
 
 size-front : (start : ℕ) (text x y : List ℕ) → start ≡ size x → text ≡ x ++ y
     → size (take (charsIn text start) text) ≡ start
-size-front start text x y e q =
-    let n = chars-in-take (length x) (x ++ y) (rw length-append (omega arith)) in
-    rw (q, e, rw take-append-seam at n, take-append-seam)
+size-front start text x y e q = rw (q, e, chars-in-front x y, take-append-seam)
 
 lines-again : (s : Settings) (ed : Edit) (old : List Entry) (part : List ℕ) (a : ℕ) → ed .from .0 ≡ a
     → linesAgain s ed old part ≡ unaffected a old ++ linesOf (again s ed old (affected a old) part)
@@ -69,7 +67,7 @@ module _ (s : Settings) (ed : Edit) (pre mid ins post : List ℕ) (r : Replaces 
       let f = layout-first s pre (mid ++ post) (ins ++ post) in
       rw (r .from)
       (begins (unaffected (size pre) (layout s (pre ++ (mid ++ post))))
-      (map entryOfRow (rowsBy (f .fuel) s (f .entry .start .0) (heldOf (f .entry) (f .part)) (f .part)))
+      (map entryOfRow (rowsBy (f .fuel) s (f .entry .start .0) (f .entry .before .0) (heldOf (f .entry) (f .part)) (f .part)))
       (layout s (pre ++ (ins ++ post))) (f .new-is))
 
   -- Such a part can be lent.
@@ -104,6 +102,6 @@ module _ (s : Settings) (ed : Edit) (pre mid ins post : List ℕ) (r : Replaces 
       let f = layout-first s pre (mid ++ post) (ins ++ post) in
       let old = layout s (pre ++ (mid ++ post)) in
       let lines =
-      again-lines s ed pre mid ins post r (suc (length (f .part))) (f .entry .start .0) (heldOf (f .entry) (f .part)) (f .part)
-      (f .stands) (omega arith) (f .fuel) (f .enough) in
+      again-lines s ed pre mid ins post r (suc (length (f .part))) (f .entry .start .0) (f .entry .before .0)
+      (heldOf (f .entry) (f .part)) (f .part) (f .stands) (omega arith) (f .fuel) (f .enough) in
       lines-again s ed old part (size pre) (r .from) ∙ rw (f .found, part-is part k, lines) (sym (f .new-is))

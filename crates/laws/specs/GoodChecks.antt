@@ -46,7 +46,7 @@ unfolding checkUtf8
 utf8-good cs al =
     refuse-unless _ _ (eq-eqb _ _ (prefix-whole (encodeAll cs) .1 (record { scalars = cs; all = al; is = refl })))
 
--- A table has room for as many lines as it has ten numbers each.
+-- A table has room for as many lines as it has eleven numbers each.
 pub room-good : (n : ℕ) (table : List ℕ) → entryNumbers * n ≤ length table → checkRoom (capacityOf entryNumbers table) n ≡ Good
 unfolding checkRoom
 room-good n table h = refuse-not _ _ (le-ltb _ _ (capacity-is entryNumbers n table (omega arith) .1 h))

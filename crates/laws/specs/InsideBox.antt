@@ -117,19 +117,20 @@ module _ (s : Settings) where
   calm-rest k cs (inl a) = inl a
   calm-rest k cs (inr e) = inr (rest-glues k cs e)
 
-  rows-inside : (n start : ℕ) (h : Held) (cs : List ℕ) → Calm cs → EndBy (s .width .0) (allEvents (rowsBy n s start h cs))
+  rows-inside : (n start before : ℕ) (h : Held) (cs : List ℕ) → Calm cs
+      → EndBy (s .width .0) (allEvents (rowsBy n s start before h cs))
   unfolding rowsBy rowAt allEvents
-  rows-inside zero start h cs f = tt
-  rows-inside (suc n) start h cs f =
+  rows-inside zero start before h cs f = tt
+  rows-inside (suc n) start before h cs f =
       let l = layLine s h cs in
       let next = start + size (take (l .chars) cs) in
-      let more = rowsBy n s next (l .held) (drop (l .chars) cs) in
+      let more = rowsBy n s next (before + l .chars) (l .held) (drop (l .chars) cs) in
       let events = eventsAt start (l .placed .left .0) (l .drawn) in
       end-append (s .width .0) events (allEvents (unlessEnded (l .ended) more)) (line-inside start h cs (calm-line h cs f))
       (unless-cases (λ (rs : List Row). EndBy (s .width .0) (allEvents rs)) (l .ended) more (λ _. tt)
-      (λ _. rows-inside n next (l .held) (drop (l .chars) cs) (calm-rest (l .chars) cs f)))
+      (λ _. rows-inside n next (before + l .chars) (l .held) (drop (l .chars) cs) (calm-rest (l .chars) cs f)))
 
   -- Every event of a text that is not justified, or in which nothing glues.
   pub layout-inside : (cs : List ℕ) → (s .alignment ≤ 2) ⊎ (glues cs ≡ 0) → EndBy (s .width .0) (layoutEvents s cs)
   unfolding layoutEvents rows
-  layout-inside cs f = rows-inside (suc (length cs)) 0 nothingHeld cs f
+  layout-inside cs f = rows-inside (suc (length cs)) 0 0 nothingHeld cs f

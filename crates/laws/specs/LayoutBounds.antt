@@ -23,19 +23,20 @@ unless-length NewLine rs = omega arith
 unless-length CarriageReturn rs = omega arith
 unless-length LineBreak rs = omega arith
 
-pub rows-length : (n : ℕ) (s : Settings) (start : ℕ) (h : Held) (cs : List ℕ) → length (rowsBy n s start h cs) ≤ n
+pub rows-length : (n : ℕ) (s : Settings) (start before : ℕ) (h : Held) (cs : List ℕ) → length (rowsBy n s start before h cs) ≤ n
 unfolding rowsBy
-rows-length zero s start h cs = omega arith
-rows-length (suc n) s start h cs =
+rows-length zero s start before h cs = omega arith
+rows-length (suc n) s start before h cs =
     let l = layLine s h cs in
-    let more = rowsBy n s (start + size (take (l .chars) cs)) (l .held) (drop (l .chars) cs) in
+    let next = start + size (take (l .chars) cs) in
+    let more = rowsBy n s next (before + l .chars) (l .held) (drop (l .chars) cs) in
     omega
-    (arith, unless-length (l .ended) more, rows-length n s (start + size (take (l .chars) cs)) (l .held) (drop (l .chars) cs))
+    (arith, unless-length (l .ended) more, rows-length n s next (before + l .chars) (l .held) (drop (l .chars) cs))
 
 -- At most one line more than there are characters.
 pub few-lines : (s : Settings) (cs : List ℕ) → length (rows s cs) ≤ mostLines cs
 unfolding rows
-few-lines s cs = rows-length (mostLines cs) s 0 nothingHeld cs
+few-lines s cs = rows-length (mostLines cs) s 0 0 nothingHeld cs
 
 pub few-entries : (s : Settings) (cs : List ℕ) → length (layout s cs) ≤ mostLines cs
 unfolding layout
@@ -72,19 +73,19 @@ ends-take (r ∷ []) h = (λ e. omega arith, tt)
 ends-take (r ∷ q ∷ rs) h = (λ e. h .1, ends-take (q ∷ rs) (h .2))
 
 -- As many lines as there may be are enough, from anywhere in a text.
-pub rows-end : (n : ℕ) (s : Settings) (start : ℕ) (h : Held) (cs : List ℕ) → length cs < n → h .chars ≤ length cs
-    → h .count ≤ h .chars → Ends (rowsBy n s start h cs)
+pub rows-end : (n : ℕ) (s : Settings) (start before : ℕ) (h : Held) (cs : List ℕ) → length cs < n → h .chars ≤ length cs
+    → h .count ≤ h .chars → Ends (rowsBy n s start before h cs)
 unfolding rowsBy rowAt entryAt
-rows-end zero s start h cs b f g = absurd (omega arith)
-rows-end (suc n) s start h cs b f g =
+rows-end zero s start before h cs b f g = absurd (omega arith)
+rows-end (suc n) s start before h cs b f g =
     let l = layLine s h cs in
     let next = start + size (take (l .chars) cs) in
     let rest = drop (l .chars) cs in
-    ends-by (l .ended) (rowAt start h cs l) (rowsBy n s next (l .held) rest) refl λ d.
+    ends-by (l .ended) (rowAt start before h cs l) (rowsBy n s next (before + l .chars) (l .held) rest) refl λ d.
     let t = line-takes s h cs f g d in
     let k : length rest < n = rw length-drop (omega (arith, line-chars s h cs f g)) in
-    (t, rows-end n s next (l .held) rest k (line-rest s h cs f g) (line-held s h cs f g))
+    (t, rows-end n s next (before + l .chars) (l .held) rest k (line-rest s h cs f g) (line-held s h cs f g))
 
 pub layout-ends : (s : Settings) (cs : List ℕ) → Ends (rows s cs)
 unfolding rows
-layout-ends s cs = rows-end (suc (length cs)) s 0 nothingHeld cs (omega arith) (omega arith) (omega arith)
+layout-ends s cs = rows-end (suc (length cs)) s 0 0 nothingHeld cs (omega arith) (omega arith) (omega arith)

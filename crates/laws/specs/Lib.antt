@@ -1,5 +1,6 @@
 pub mod Affected
 pub mod Agree
+pub mod CharsBefore
 pub mod Classes
 pub mod Cuts
 pub mod Demand3

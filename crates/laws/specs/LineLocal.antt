@@ -33,7 +33,7 @@ module _ (s : Settings) (h : Held) (p x y : List ℕ) (far : layLine s h (p ++ x
   lay-local = line-local s (lineTokens h (p ++ x)) (lineTokens h (p ++ y)) (size p) (line-tokens-agree h p x y) far
 
   -- The line with its entry and events, if what is held lies within these bytes.
-  pub row-local : (start : ℕ) → h .chars ≤ length p
-      → rowAt start h (p ++ y) (layLine s h (p ++ y)) ≡ rowAt start h (p ++ x) (layLine s h (p ++ x))
+  pub row-local : (start before : ℕ) → h .chars ≤ length p
+      → rowAt start before h (p ++ y) (layLine s h (p ++ y)) ≡ rowAt start before h (p ++ x) (layLine s h (p ++ x))
   unfolding rowAt entryAt restOf
-  row-local start k = rw (lay-local, take-local (h .chars) p x y k)
+  row-local start before k = rw (lay-local, take-local (h .chars) p x y k)

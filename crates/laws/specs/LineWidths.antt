@@ -54,4 +54,4 @@ module _ (s : Settings) where
   -- So of every line of a layout.
   pub layout-width : (cs : List ℕ) → NoneWider (s .width .0) (layout s cs)
   unfolding entryAt
-  layout-width = each-line s (λ (e : Entry). e .width .0 ≤ s .width .0) (λ start h cs. line-width h cs)
+  layout-width = each-line s (λ (e : Entry). e .width .0 ≤ s .width .0) (λ start before h cs. line-width h cs)

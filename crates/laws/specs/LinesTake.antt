@@ -53,10 +53,10 @@ held-fits e cs h =
       leb-true (e .rest .count .0) (charsIn cs n) (and-true (boundary cs n) (leb (e .rest .count .0) (charsIn cs n)) (rw q at h) .1),
     ))
 
-kept-takes : (ed : Edit) (es : List Entry) (a : Again) → Takes (a .laid) → Takes (unlessKept ed es a .laid)
+kept-takes : (ed : Edit) (before : ℕ) (es : List Entry) (a : Again) → Takes (a .laid) → Takes (unlessKept ed before es a .laid)
 unfolding unlessKept
-kept-takes ed [] a h = h
-kept-takes ed (e ∷ es) a h = tt
+kept-takes ed before [] a h = h
+kept-takes ed before (e ∷ es) a h = tt
 
 ended-takes : (e : LineEnd) (a : Again) → Takes (a .laid) → Takes (againUnlessEnded e a .laid)
 unfolding againUnlessEnded
@@ -69,18 +69,18 @@ break-goes-on : (e : LineEnd) → endNumber e ≡ 3 → e ≡ EndOfText → ⊥
 break-goes-on e h p = let z : _≡_ {A = ℕ} 2 3 = rw p at h in omega arith
 
 module _ (s : Settings) (ed : Edit) (old : List Entry) where
-  laid-take : (n start : ℕ) (h : Held) (cs : List ℕ) → FitsIn cs h → Takes (againBy n s ed old start h cs .laid)
+  laid-take : (n start before : ℕ) (h : Held) (cs : List ℕ) → FitsIn cs h → Takes (againBy n s ed old start before h cs .laid)
   unfolding againBy rowAt entryAt
-  laid-take zero start h cs f = tt
-  laid-take (suc n) start h cs f =
+  laid-take zero start before h cs f = tt
+  laid-take (suc n) start before h cs f =
       let l = layLine s h cs in
       let next = start + size (take (l .chars) cs) in
       let rest = drop (l .chars) cs in
-      let more = againBy n s ed old next (l .held) rest in
-      kept-takes ed (keptFrom ed start (restOf start h cs) old) _ (
+      let more = againBy n s ed old next (before + l .chars) (l .held) rest in
+      kept-takes ed before (keptFrom ed start (restOf start h cs) old) _ (
         λ e. line-takes s h cs (f .0) (f .1) (break-goes-on (l .ended) e),
         ended-takes (l .ended) more
-            (laid-take n next (l .held) rest (line-rest s h cs (f .0) (f .1), line-held s h cs (f .0) (f .1))),
+            (laid-take n next (before + l .chars) (l .held) rest (line-rest s h cs (f .0) (f .1), line-held s h cs (f .0) (f .1))),
       )
 
   -- From any entry on, as the first affected one, whose rest was checked.
@@ -88,5 +88,5 @@ module _ (s : Settings) (ed : Edit) (old : List Entry) where
   unfolding again checkRest
   again-takes [] cs j h = tt
   again-takes (e ∷ es) cs j h =
-      laid-take (suc (length cs)) (e .start .0) (heldOf e cs) cs
+      laid-take (suc (length cs)) (e .start .0) (e .before .0) (heldOf e cs) cs
       (held-fits e cs (not-false (restFits e cs) (refuse-good (not (restFits e cs)) (BadLine j) h)))

@@ -34,10 +34,10 @@ pub record Met (ed : Edit) (start : ℕ) (rest : Rest) (at : ℕ) (held : Rest) 
   pub end : movedRest ed held .end .0 ≡ rest .end .0
   pub count : held .count .0 ≡ rest .count .0
 
-pub meets-says : (ed : Edit) (start : ℕ) (rest : Rest) (at : ℕ) (h : Held) (cs : List ℕ) (l : Line)
-    → meets ed start rest (entryAt at h cs l) ≡ true → Met ed start rest at (restOf at h cs)
+pub meets-says : (ed : Edit) (start : ℕ) (rest : Rest) (at before : ℕ) (h : Held) (cs : List ℕ) (l : Line)
+    → meets ed start rest (entryAt at before h cs l) ≡ true → Met ed start rest at (restOf at h cs)
 unfolding meets entryAt
-meets-says ed start rest at h cs l e =
+meets-says ed start rest at before h cs l e =
     let r = restOf at h cs in
     let a = leb (ed .to .0) at in
     let b = eqb (moved ed at) start in

@@ -40,22 +40,25 @@ module _ (ed : Edit) where
         ne-eqb (start + size (take (h .chars) cs)) 0 (λ e. omega arith),
       ))
 
-  pub entry-moved : (start : ℕ) (h : Held) (cs : List ℕ) (l : Line) → ed .to .0 - ed .from .0 ≤ start → h .chars ≤ length cs
-      → entryAt (moved ed start) h cs l ≡ movedEntry ed (entryAt start h cs l)
+  pub entry-moved : (from to start before : ℕ) (h : Held) (cs : List ℕ) (l : Line) → ed .to .0 - ed .from .0 ≤ start → h .chars ≤ length cs
+      → entryAt (moved ed start) (to + (before - from)) h cs l ≡ movedEntry ed from to (entryAt start before h cs l)
   unfolding entryAt movedEntry
-  entry-moved start h cs l m k = rw (later start (l .reach) m, rest-moved start h cs m k)
+  entry-moved from to start before h cs l m k = rw (later start (l .reach) m, rest-moved start h cs m k)
 
-  pub rows-moved : (n : ℕ) (s : Settings) (start : ℕ) (h : Held) (cs : List ℕ)
-      → ed .to .0 - ed .from .0 ≤ start → h .chars ≤ length cs → h .count ≤ h .chars
-      → map entryOfRow (rowsBy n s (moved ed start) h cs) ≡ map (movedEntry ed) (map entryOfRow (rowsBy n s start h cs))
+  pub rows-moved : (n : ℕ) (s : Settings) (from to start before : ℕ) (h : Held) (cs : List ℕ)
+      → from ≤ before → ed .to .0 - ed .from .0 ≤ start → h .chars ≤ length cs → h .count ≤ h .chars
+      → map entryOfRow (rowsBy n s (moved ed start) (to + (before - from)) h cs)
+      ≡ map (movedEntry ed from to) (map entryOfRow (rowsBy n s start before h cs))
   unfolding rowsBy rowAt
-  rows-moved zero s start h cs m k c = refl
-  rows-moved (suc n) s start h cs m k c =
+  rows-moved zero s from to start before h cs f m k c = refl
+  rows-moved (suc n) s from to start before h cs f m k c =
       let l = layLine s h cs in
       let next = start + size (take (l .chars) cs) in
-      let from : ℕ → List Row = λ at. rowsBy n s at (l .held) (drop (l .chars) cs) in
+      let on = before + l .chars in
+      let lines : ℕ → ℕ → List Row = λ at chars. rowsBy n s at chars (l .held) (drop (l .chars) cs) in
+      let counted : to + (before - from) + l .chars ≡ to + (on - from) = omega arith in
       let more =
-      unless-both (λ xs ys. map entryOfRow xs ≡ map (movedEntry ed) (map entryOfRow ys)) (l .ended)
-      (from (moved ed next)) (from next) (λ _. refl)
-      (λ d. rows-moved n s next (l .held) (drop (l .chars) cs) (omega arith) (line-rest s h cs k c) (line-held s h cs k c)) in
-      rw (later start (size (take (l .chars) cs)) m) (λ i. entry-moved start h cs l m k i ∷ more i)
+      unless-both (λ xs ys. map entryOfRow xs ≡ map (movedEntry ed from to) (map entryOfRow ys)) (l .ended)
+      (lines (moved ed next) (to + (on - from))) (lines next on) (λ _. refl)
+      (λ d. rows-moved n s from to next on (l .held) (drop (l .chars) cs) (omega arith) (omega arith) (line-rest s h cs k c) (line-held s h cs k c)) in
+      rw (later start (size (take (l .chars) cs)) m, counted) (λ i. entry-moved from to start before h cs l m k i ∷ more i)

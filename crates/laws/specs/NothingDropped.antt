@@ -136,4 +136,4 @@ module _ (s : Settings) (w : Waits s) where
 
   pub layout-keeps : (cs : List ℕ) → DropNothing (layout s cs)
   unfolding entryAt
-  layout-keeps = each-line s (λ (e : Entry). e .dropped .0 ≡ 0) (λ start h cs. nothing-dropped h cs)
+  layout-keeps = each-line s (λ (e : Entry). e .dropped .0 ≡ 0) (λ start before h cs. nothing-dropped h cs)

@@ -29,10 +29,10 @@ module _ (start : ℕ) (h : Held) (cs : List ℕ) where
   rest-some n = rw (ne-eqb _ _ n)
 
 -- The rest that an entry gives, where the text after its line's start goes on otherwise behind what is held.
-pub held-of : (start : ℕ) (h : Held) (p x y : List ℕ) (l : Line) → h .chars ≤ length p → h .count ≤ h .chars
-    → heldOf (entryAt start h (p ++ x) l) (p ++ y) ≡ h
+pub held-of : (start before : ℕ) (h : Held) (p x y : List ℕ) (l : Line) → h .chars ≤ length p → h .count ≤ h .chars
+    → heldOf (entryAt start before h (p ++ x) l) (p ++ y) ≡ h
 unfolding heldOf noRest entryAt pick
-held-of start h p x y l k c =
+held-of start before h p x y l k c =
     let n = h .chars in
     by-eq n 0
     (λ e.
@@ -52,10 +52,10 @@ held-of start h p x y l k c =
     ))
 
 -- It fits there too: it ends where a character does, and counts no more than the characters up to there.
-pub rest-fits : (start : ℕ) (h : Held) (p x y : List ℕ) (l : Line) → h .chars ≤ length p → h .count ≤ h .chars
-    → restFits (entryAt start h (p ++ x) l) (p ++ y) ≡ true
+pub rest-fits : (start before : ℕ) (h : Held) (p x y : List ℕ) (l : Line) → h .chars ≤ length p → h .count ≤ h .chars
+    → restFits (entryAt start before h (p ++ x) l) (p ++ y) ≡ true
 unfolding restFits noRest entryAt
-rest-fits start h p x y l k c =
+rest-fits start before h p x y l k c =
     let n = h .chars in
     by-eq n 0 (λ e. rw (rest-none start h (p ++ x) e))
     (λ d.

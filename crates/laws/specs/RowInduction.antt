@@ -28,26 +28,27 @@ unless-cases P LineBreak rs f g = g (λ e. let z : _≡_ {A = ℕ} 0 1 = cc in o
 abbrev pub FitsIn : List ℕ → Held → Type 0
 FitsIn cs h = (h .chars ≤ length cs) × (h .count ≤ h .chars)
 
-module _ {ℓ} (s : Settings) (P : ℕ → Held → List ℕ → List Row → Type ℓ)
-    (last : (start : ℕ) (h : Held) (cs : List ℕ) → FitsIn cs h → layLine s h cs .ended ≡ EndOfText → P start h cs (rowAt start h cs (layLine s h cs) ∷ []))
-    (more : (start : ℕ) (h : Held) (cs : List ℕ) → FitsIn cs h → (layLine s h cs .ended ≡ EndOfText → ⊥) → (r : Row) (rs : List Row)
-    → P (start + size (take (layLine s h cs .chars) cs)) (layLine s h cs .held) (drop (layLine s h cs .chars) cs) (r ∷ rs)
-    → P start h cs (rowAt start h cs (layLine s h cs) ∷ r ∷ rs)) where
-  pub each-row : (n start : ℕ) (h : Held) (cs : List ℕ) → length cs < n → FitsIn cs h → P start h cs (rowsBy n s start h cs)
+module _ {ℓ} (s : Settings) (P : (start before : ℕ) → Held → List ℕ → List Row → Type ℓ)
+    (last : (start before : ℕ) (h : Held) (cs : List ℕ) → FitsIn cs h → layLine s h cs .ended ≡ EndOfText → P start before h cs (rowAt start before h cs (layLine s h cs) ∷ []))
+    (more : (start before : ℕ) (h : Held) (cs : List ℕ) → FitsIn cs h → (layLine s h cs .ended ≡ EndOfText → ⊥) → (r : Row) (rs : List Row)
+    → P (start + size (take (layLine s h cs .chars) cs)) (before + layLine s h cs .chars) (layLine s h cs .held) (drop (layLine s h cs .chars) cs) (r ∷ rs)
+    → P start before h cs (rowAt start before h cs (layLine s h cs) ∷ r ∷ rs)) where
+  pub each-row : (n start before : ℕ) (h : Held) (cs : List ℕ) → length cs < n → FitsIn cs h
+      → P start before h cs (rowsBy n s start before h cs)
   unfolding rowsBy
-  each-row zero start h cs m f = absurd (omega arith)
-  each-row (suc zero) start h cs m f =
+  each-row zero start before h cs m f = absurd (omega arith)
+  each-row (suc zero) start before h cs m f =
       let l = layLine s h cs in
-      unless-cases (λ qs. P start h cs (rowAt start h cs l ∷ qs)) (l .ended) [] (last start h cs f)
+      unless-cases (λ qs. P start before h cs (rowAt start before h cs l ∷ qs)) (l .ended) [] (last start before h cs f)
       (λ d. absurd (omega (arith, line-takes s h cs (f .0) (f .1) d, line-chars s h cs (f .0) (f .1))))
-  each-row (suc (suc n)) start h cs m f =
+  each-row (suc (suc n)) start before h cs m f =
       let l = layLine s h cs in
       let next = start + size (take (l .chars) cs) in
       let rest = drop (l .chars) cs in
-      unless-cases (λ qs. P start h cs (rowAt start h cs l ∷ qs)) (l .ended) (rowsBy (suc n) s next (l .held) rest) (last start h cs f)
+      unless-cases (λ qs. P start before h cs (rowAt start before h cs l ∷ qs)) (l .ended) (rowsBy (suc n) s next (before + l .chars) (l .held) rest) (last start before h cs f)
       (λ d.
       let fewer : length rest < suc n = rw length-drop (omega (arith, line-takes s h cs (f .0) (f .1) d, line-chars s h cs (f .0) (f .1))) in
-      more start h cs f d _ _ (each-row (suc n) next (l .held) rest fewer (line-rest s h cs (f .0) (f .1), line-held s h cs (f .0) (f .1))))
+      more start before h cs f d _ _ (each-row (suc n) next (before + l .chars) (l .held) rest fewer (line-rest s h cs (f .0) (f .1), line-held s h cs (f .0) (f .1))))
 
 -- ---- every line by itself
 
@@ -56,20 +57,20 @@ abbrev pub Each : (Entry → Type 0) → List Entry → Type 0
 Each P [] = Unit {0}
 Each P (e ∷ es) = P e × Each P es
 
-module _ (s : Settings) (P : Entry → Type 0) (holds : (start : ℕ) (h : Held) (cs : List ℕ) → P (entryAt start h cs (layLine s h cs))) where
-  each-by : (n start : ℕ) (h : Held) (cs : List ℕ) → Each P (map entryOfRow (rowsBy n s start h cs))
+module _ (s : Settings) (P : Entry → Type 0) (holds : (start before : ℕ) (h : Held) (cs : List ℕ) → P (entryAt start before h cs (layLine s h cs))) where
+  each-by : (n start before : ℕ) (h : Held) (cs : List ℕ) → Each P (map entryOfRow (rowsBy n s start before h cs))
   unfolding rowsBy rowAt
-  each-by zero start h cs = tt
-  each-by (suc n) start h cs =
+  each-by zero start before h cs = tt
+  each-by (suc n) start before h cs =
       let l = layLine s h cs in
       let next = start + size (take (l .chars) cs) in
-      let more = rowsBy n s next (l .held) (drop (l .chars) cs) in (
-        holds start h cs,
+      let more = rowsBy n s next (before + l .chars) (l .held) (drop (l .chars) cs) in (
+        holds start before h cs,
         unless-cases (λ (rs : List Row). Each P (map entryOfRow rs)) (l .ended) more (λ _. tt)
-            (λ _. each-by n next (l .held) (drop (l .chars) cs)),
+            (λ _. each-by n next (before + l .chars) (l .held) (drop (l .chars) cs)),
       )
 
   -- What holds of every line, wherever it starts and whatever is held before it, holds of each line of a layout.
   pub each-line : (cs : List ℕ) → Each P (layout s cs)
   unfolding layout rows
-  each-line cs = each-by (mostLines cs) 0 nothingHeld cs
+  each-line cs = each-by (mostLines cs) 0 0 nothingHeld cs

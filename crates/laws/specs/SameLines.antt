@@ -106,17 +106,18 @@ module _ {s s′ : Settings} (e : SameLines s s′) where
       let ts = lineTokens h cs in
       line-alone s ts ∙ ap (λ (x : Settings). lineOf x ts) same ∙ sym (line-alone s′ ts)
 
-  rows-by : (n start : ℕ) (h : Held) (cs : List ℕ) → rowsBy n s start h cs ≡ rowsBy n s′ start h cs
+  rows-by : (n start before : ℕ) (h : Held) (cs : List ℕ) → rowsBy n s start before h cs ≡ rowsBy n s′ start before h cs
   unfolding rowsBy
-  rows-by zero start h cs = refl
-  rows-by (suc n) start h cs =
+  rows-by zero start before h cs = refl
+  rows-by (suc n) start before h cs =
       λ i.
       let l = same-line h cs i in
-      rowAt start h cs l ∷ unlessEnded (l .ended) (rows-by n (start + size (take (l .chars) cs)) (l .held) (drop (l .chars) cs) i)
+      let next = start + size (take (l .chars) cs) in
+      rowAt start before h cs l ∷ unlessEnded (l .ended) (rows-by n next (before + l .chars) (l .held) (drop (l .chars) cs) i)
 
   pub same-rows : (cs : List ℕ) → rows s cs ≡ rows s′ cs
   unfolding rows
-  same-rows cs = rows-by (suc (length cs)) 0 nothingHeld cs
+  same-rows cs = rows-by (suc (length cs)) 0 0 nothingHeld cs
 
   pub same-layout : (cs : List ℕ) → layout s cs ≡ layout s′ cs
   unfolding layout

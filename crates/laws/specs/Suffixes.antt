@@ -4,7 +4,8 @@ use Prim.Native.Nat.{ℕ, zero, suc, _+_, _-_, _≤_, _<_}
 use native.Mathlib.Omega.{arith}
 use mathlib.Core.Path.{_≡_, refl, sym, ap, _∙_}
 use mathlib.Core.List.{List, [], _∷_, _++_}
-use lib.ListN.{length, take, length-take}
+use lib.ListN.{length, take, length-append, length-take}
+use lib.Seq.{take-append-seam}
 use borrow.Author.Tests.{le-leb, lt-leb}
 use Rattle.basis.specs.Choice.{pick}
 use Rattle.unicode.specs.Encoding.{bytes, size}
@@ -56,6 +57,10 @@ chars-in-take (suc k) [] h = absurd (omega arith)
 chars-in-take (suc k) (b ∷ c) h =
     let e : bytes b + size (take k c) - bytes b ≡ size (take k c) = omega arith in
     simp (le-leb (bytes b) (bytes b + size (take k c)) (omega arith), e) (ap suc (chars-in-take k c (omega arith)))
+
+-- The characters up to where a text's front ends are those of the front.
+pub chars-in-front : (x y : List ℕ) → charsIn (x ++ y) (size x) ≡ length x
+chars-in-front x y = rw take-append-seam at (chars-in-take (length x) (x ++ y) (rw length-append (omega arith)))
 
 -- Characters take a byte each at least.
 pub take-size : (k : ℕ) (c : List ℕ) → k ≤ length c → k ≤ size (take k c)
