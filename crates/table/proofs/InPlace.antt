@@ -1,6 +1,6 @@
--- A line moved where it stands: start, rest and reach are stored, and the other numbers are as they were.
+-- A line moved where it stands: start, rest, reach and the characters before are stored, and the other numbers are as they were.
 -- Assumes nothing.
-use Prim.Native.Nat.{ℕ, zero, suc, _+_, _*_, _≤_}
+use Prim.Native.Nat.{ℕ, zero, suc, _+_, _-_, _*_, _≤_}
 use mathlib.Core.Path.{_≡_, sym, ap, subst, _∙_}
 use mathlib.Core.List.{List, [], _∷_}
 use native.Mathlib.Nat.{add-zero}
@@ -11,10 +11,10 @@ use lib.Seq.{set-getD, set-comm, getD-set-other}
 use Rattle.basis.specs.Choice.{pick}
 use Rattle.meaning.specs.Table.{entryNumbers, ofEntry}
 use Rattle.meaning.specs.Edit.{moved, movedRest, movedEntry}
-use Rattle.meaning.specs.declared.edit.Edit.{Edit}
 use Rattle.meaning.specs.declared.line.Entry.{Entry}
 use Rattle.table.specs.Numbers.{putNumbers, storedFrom, stored-are}
-use Rattle.table.specs.Moving.{MovableEntry, Movable, lineMoved, line-movable}
+use Rattle.table.specs.declared.edited.Shift.{Shift}
+use Rattle.table.specs.Moving.{MovableEntry, Movable, movedBy, lineMoved, line-movable}
 use Rattle.table.proofs.Reading.{entryFrom, entry-from}
 
 module _ (t : List ℕ) (i : ℕ) where
@@ -36,42 +36,50 @@ module _ (t : List ℕ) (i : ℕ) where
       ∙ own-stored c (suc n) u xs (λ q p. h q (omega arith))
       ∙ ap (λ (m : ℕ). storedFrom u i m xs) e
 
-  module _ (room : i + entryNumbers ≤ length t) (a b z : ℕ) where
-    -- The first two numbers of a line and its last.
-    three-stored : set (set (set t i a) (i + 1) b) (i + 9) z ≡ putNumbers t i (a ∷ b ∷ own 2 7 (z ∷ []))
-    three-stored =
+  module _ (room : i + entryNumbers ≤ length t) (a b y z : ℕ) where
+    -- The first two numbers of a line and its last two.
+    four-stored : set (set (set (set t i a) (i + 1) b) (i + 9) y) (i + 10) z ≡ putNumbers t i (a ∷ b ∷ own 2 7 (y ∷ z ∷ []))
+    four-stored =
         let u = set (set t i a) (i + 1) b in
-        sym (own-stored 7 2 u (z ∷ []) (λ q p. getD-set-other (set t i a) (i + 1) (i + q) b 0 (λ e. omega arith) ∙ getD-set-other t i (i + q) a 0 (λ e. omega arith)))
-        ∙ stored-are (a ∷ b ∷ own 2 7 (z ∷ [])) t i room
+        sym (own-stored 7 2 u (y ∷ z ∷ []) (λ q p. getD-set-other (set t i a) (i + 1) (i + q) b 0 (λ e. omega arith) ∙ getD-set-other t i (i + q) a 0 (λ e. omega arith)))
+        ∙ stored-are (a ∷ b ∷ own 2 7 (y ∷ z ∷ [])) t i room
 
-module _ (t : List ℕ) (k : ℕ) (ed : Edit) (m : Movable t k k 1 ed) where
+module _ (t : List ℕ) (k : ℕ) (sh : Shift) (m : Movable t k k 1 sh) where
   abbrev at : ℕ
   at = entryNumbers * k
 
-  pub here-movable : MovableEntry ed (entryFrom t (entryNumbers * k))
-  here-movable = subst (MovableEntry ed) (sym (entry-from t (entryNumbers * k))) (line-movable t k k ed m)
+  pub here-movable : MovableEntry sh (entryFrom t (entryNumbers * k))
+  here-movable = subst (MovableEntry sh) (sym (entry-from t (entryNumbers * k))) (line-movable t k k sh m)
 
   room : at + entryNumbers ≤ length t
   room = omega (arith, m .to-room)
 
-  -- The two or three numbers that the code has stored.
-  module _ (start reach : ℕ) (s : start ≡ moved ed (getD t (entryNumbers * k) 0)) (r : reach ≡ moved ed (getD t (entryNumbers * k + 9) 0)) where
-    all-three : (end : ℕ) → end ≡ movedRest ed (entryFrom t at .rest) .end .0
-        → set (set (set t at start) (at + 1) end) (at + 9) reach ≡ lineMoved t k k ed
+  -- The three or four numbers that the code has stored.
+  module _ (start reach count : ℕ) (s : start ≡ moved (sh .edit) (getD t (entryNumbers * k) 0))
+      (r : reach ≡ moved (sh .edit) (getD t (entryNumbers * k + 9) 0))
+      (c : count ≡ sh .to .0 + (getD t (entryNumbers * k + 10) 0 - sh .from .0)) where
+    all-four : (end : ℕ) → end ≡ movedRest (sh .edit) (entryFrom t at .rest) .end .0
+        → set (set (set (set t at start) (at + 1) end) (at + 9) reach) (at + 10) count ≡ lineMoved t k k sh
     unfolding ofEntry movedEntry movedRest
-    all-three end e =
-        three-stored t at room start end reach
-        ∙ (λ j. putNumbers t at (s j ∷ e j ∷ own t at 2 7 (r j ∷ [])))
-        ∙ ap (λ (x : Entry). putNumbers t at (ofEntry (movedEntry ed x))) (entry-from t at)
+    all-four end e =
+        four-stored t at room start end reach count
+        ∙ (λ j. putNumbers t at (s j ∷ e j ∷ own t at 2 7 (r j ∷ c j ∷ [])))
+        ∙ ap (λ (x : Entry). putNumbers t at (ofEntry (movedBy sh x))) (entry-from t at)
 
-    pub moved-two : getD t (entryNumbers * k + 1) 0 ≡ 0 → set (set t (entryNumbers * k) start) (entryNumbers * k + 9) reach ≡ lineMoved t k k ed
+    pub moved-three : getD t (entryNumbers * k + 1) 0 ≡ 0
+        → set (set (set t (entryNumbers * k) start) (entryNumbers * k + 9) reach) (entryNumbers * k + 10) count ≡ lineMoved t k k sh
     unfolding movedRest pick
-    moved-two z =
+    moved-three z =
         let same = own-number t at (set t at start) (at + 1) (getD-set-other t at (at + 1) start 0 (λ e. omega arith)) in
-        ap (λ (u : List ℕ). set u (at + 9) reach) (sym same) ∙ all-three (getD t (at + 1) 0) (rw (eq-eqb _ _ z) z)
+        ap (λ (u : List ℕ). set (set u (at + 9) reach) (at + 10) count) (sym same)
+        ∙ all-four (getD t (at + 1) 0) (rw (eq-eqb _ _ z) z)
 
-    pub moved-three : (getD t (entryNumbers * k + 1) 0 ≡ 0 → ⊥) → (end : ℕ) → end ≡ moved ed (getD t (entryNumbers * k + 1) 0)
-        → set (set (set t (entryNumbers * k) start) (entryNumbers * k + 9) reach) (entryNumbers * k + 1) end ≡ lineMoved t k k ed
+    pub moved-four : (getD t (entryNumbers * k + 1) 0 ≡ 0 → ⊥) → (end : ℕ) → end ≡ moved (sh .edit) (getD t (entryNumbers * k + 1) 0)
+        → set (set (set (set t (entryNumbers * k) start) (entryNumbers * k + 9) reach) (entryNumbers * k + 10) count) (entryNumbers * k + 1) end
+        ≡ lineMoved t k k sh
     unfolding movedRest pick
-    moved-three d end e =
-        set-comm (set t at start) (at + 9) (at + 1) reach end (λ q. omega arith) ∙ all-three end (rw (ne-eqb _ _ d) e)
+    moved-four d end e =
+        let u = set t at start in
+        set-comm (set u (at + 9) reach) (at + 10) (at + 1) count end (λ q. omega arith)
+        ∙ ap (λ (v : List ℕ). set v (at + 10) count) (set-comm u (at + 9) (at + 1) reach end (λ q. omega arith))
+        ∙ all-four end (rw (ne-eqb _ _ d) e)

@@ -6,10 +6,11 @@ use mathlib.Core.Bool.{Bool, true, false, _&&_}
 use native.Mathlib.Numerals.{add-one}
 use borrow.Author.Tests.{lt-ltb, le-ltb}
 use lib.Dec.{leb, eqb}
-use Rattle.meaning.specs.WellFormed.{startGood, noRest, restGood}
+use Rattle.meaning.specs.WellFormed.{startGood, noRest, restGood, countGood}
 use Rattle.meaning.specs.declared.line.Entry.{Entry}
 use Rattle.meaning.specs.declared.counts.Offset.{Offset}
-use Rattle.table.specs.OneLine.{beforeOf, startFits, restStands, endingAt, lineGood}
+use Rattle.meaning.specs.declared.counts.Chars.{Chars}
+use Rattle.table.specs.OneLine.{beforeOf, startFits, restStands, countFits, endingAt, lineGood}
 use Rattle.table.specs.declared.one_line.LineBefore.{LineBefore}
 use Rattle.table.specs.declared.one_line.LineBefore.the-variants.{Nothing, Line}
 
@@ -27,27 +28,37 @@ module _ (n reached start end count : ℕ) where
   unfolding restStands
   stands-tested h p = rw (h, lt-ltb _ _ p)
 
+module _ (e : Entry) (b : LineBefore) where
+  pub count-first : b ≡ Nothing → eqb (e .before .0) 0 ≡ countGood (beforeOf b) e
+  unfolding countGood
+  count-first q = rw q
+
+  pub count-after : (from reach : Offset) (chars : Chars) → b ≡ Line from reach chars
+      → countFits (chars .0) (e .start .0) (e .before .0) ≡ countGood (beforeOf b) e
+  unfolding countGood countFits
+  count-after from reach chars q = rw q
+
 module _ (n : ℕ) (e : Entry) (b : LineBefore) where
   pub start-first : b ≡ Nothing → eqb (e .start .0) 0 ≡ startGood n (beforeOf b) e
   unfolding startGood
   start-first q = rw q
 
-  pub start-after : (from reach : Offset) → b ≡ Line from reach
+  pub start-after : (from reach : Offset) (chars : Chars) → b ≡ Line from reach chars
       → startFits n (from .0) (reach .0) (e .start .0) ≡ startGood n (beforeOf b) e
   unfolding startGood startFits
-  start-after from reach q = rw q
+  start-after from reach chars q = rw q
 
   pub rest-first : b ≡ Nothing → noRest e ≡ restGood n (beforeOf b) e
   unfolding restGood
   rest-first q = rw q
 
-  pub rest-after : (from reach : Offset) → b ≡ Line from reach
+  pub rest-after : (from reach : Offset) (chars : Chars) → b ≡ Line from reach chars
       → restStands n (reach .0) (e .start .0) (e .rest .end .0) (e .rest .count .0) ≡ restGood n (beforeOf b) e
   unfolding restGood noRest restStands
-  rest-after from reach q = rw q
+  rest-after from reach chars q = rw q
 
-  pub all-tests : (last start rest ending : Bool) → start ≡ startGood n (beforeOf b) e → rest ≡ restGood n (beforeOf b) e
-      → ending ≡ endingAt last (e .ending)
-      → start && rest && ending && leb (e .reach .0) (n + 1) ≡ lineGood n (beforeOf b) e last
+  pub all-tests : (last start rest ending count : Bool) → start ≡ startGood n (beforeOf b) e → rest ≡ restGood n (beforeOf b) e
+      → ending ≡ endingAt last (e .ending) → count ≡ countGood (beforeOf b) e
+      → start && rest && ending && leb (e .reach .0) (n + 1) && count ≡ lineGood n (beforeOf b) e last
   unfolding lineGood
-  all-tests last start rest ending p q r = rw (p, q, r, add-one n)
+  all-tests last start rest ending count p q r c = rw (p, q, r, add-one n, c)

@@ -41,12 +41,12 @@ module _ (t : List ℕ) (lines k : ℕ) where
     tested = sym (line-good n b e rest) ∙ ap (lineGood n b e) (last-is h)
 
     pub line-checked : lineGood n b e (eqb (k + 1) lines) ≡ true
-        → checkLines n k b (linesFrom t lines k) ≡ checkLines n (k + 1) (line (e .start .0) (e .reach .0)) rest
+        → checkLines n k b (linesFrom t lines k) ≡ checkLines n (k + 1) (line (e .start .0) (e .reach .0) (e .before .0)) rest
     unfolding checkLines
     line-checked g =
         ap (checkLines n k b) here
         ∙ pick-true _ _ _ (tested ∙ g)
-        ∙ ap (λ (j : ℕ). checkLines n j (line (e .start .0) (e .reach .0)) rest) (sym (add-one k))
+        ∙ ap (λ (j : ℕ). checkLines n j (line (e .start .0) (e .reach .0) (e .before .0)) rest) (sym (add-one k))
 
     pub line-bad : lineGood n b e (eqb (k + 1) lines) ≡ false → checkLines n k b (linesFrom t lines k) ≡ Refused (BadLine k)
     unfolding checkLines

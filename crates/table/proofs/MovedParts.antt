@@ -1,9 +1,11 @@
 -- An entry whose parts are moved is the moved entry.
 -- Assumes nothing.
+use Prim.Native.Nat.{ℕ, _+_, _-_}
 use mathlib.Core.Path.{_≡_, sym, _∙_}
 use borrow.Author.Tests.{eq-eqb, ne-eqb}
 use Rattle.basis.specs.Choice.{pick-true, pick-false}
 use Rattle.meaning.specs.Edit.{moved, movedRest, movedEntry}
+use Rattle.meaning.specs.declared.counts.Chars.{Chars}
 use Rattle.meaning.specs.declared.counts.Offset.{Offset}
 use Rattle.meaning.specs.declared.edit.Edit.{Edit}
 use Rattle.meaning.specs.declared.line.Rest.{Rest}
@@ -23,8 +25,9 @@ module _ (ed : Edit) (r : Rest) where
       let p = e ∙ sym (pick-false _ 0 (moved ed (r .end .0)) (ne-eqb _ _ d)) in
       λ i. record { end = record { 0 = p i }; count = r .count }
 
-pub entry-moved : (ed : Edit) (e : Entry) (start : Offset) (rest : Rest) (reach : Offset)
+pub entry-moved : (ed : Edit) (from to : ℕ) (e : Entry) (start : Offset) (rest : Rest) (reach : Offset) (before : Chars)
     → start .0 ≡ moved ed (e .start .0) → rest ≡ movedRest ed (e .rest) → reach .0 ≡ moved ed (e .reach .0)
+    → before .0 ≡ to + (e .before .0 - from)
     → _≡_ {A = Entry}
     (record {
       start = start;
@@ -36,10 +39,11 @@ pub entry-moved : (ed : Edit) (e : Entry) (start : Offset) (rest : Rest) (reach 
       width = e .width;
       dropped = e .dropped;
       reach = reach;
+      before = before;
     })
-    (movedEntry ed e)
+    (movedEntry ed from to e)
 unfolding movedEntry
-entry-moved ed e start rest reach p q r =
+entry-moved ed from to e start rest reach before p q r c =
     λ i. record {
       start = record { 0 = p i };
       rest = q i;
@@ -50,4 +54,5 @@ entry-moved ed e start rest reach p q r =
       width = e .width;
       dropped = e .dropped;
       reach = record { 0 = r i };
+      before = record { 0 = c i };
     }

@@ -21,6 +21,7 @@ entryFrom t i =
       width = record { 0 = getD t (i + 7) 0 };
       dropped = record { 0 = getD t (i + 8) 0 };
       reach = record { 0 = getD t (i + 9) 0 };
+      before = record { 0 = getD t (i + 10) 0 };
     }
 
 pub entry-from : (t : List ℕ) (i : ℕ) → entryFrom t i ≡ entryIn (drop i t)

@@ -10,13 +10,13 @@ use lib.Dec.{leb, eqb}
 use lib.ListN.{length, getD, drop}
 use Rattle.basis.specs.Choice.{and-true}
 use Rattle.meaning.specs.Table.{entryNumbers, entryIn, entriesIn}
-use Rattle.meaning.specs.WellFormed.{Before, nothing, line, startGood, noRest, restGood, checkLines}
+use Rattle.meaning.specs.WellFormed.{Before, nothing, line, startGood, noRest, restGood, countGood, checkLines}
 use Rattle.meaning.specs.Edit.{unaffected}
 use Rattle.meaning.specs.declared.line.Entry.{Entry}
 use Rattle.meaning.specs.declared.refusals.Refusal.the-variants.{BadLine}
 use Rattle.meaning.specs.declared.refusals.Checked.the-variants.{Refused}
-use Rattle.table.specs.LinesFrom.{linesFrom, lines-all, start-at, reach-at}
-use Rattle.table.specs.OneLine.{startFits, restStands, endingAt, lineGood}
+use Rattle.table.specs.LinesFrom.{linesFrom, lines-all, start-at, reach-at, before-at}
+use Rattle.table.specs.OneLine.{startFits, restStands, countFits, endingAt, lineGood}
 use Rattle.table.specs.Skipping.{before, GoodLine, checkFrom, Skipped}
 use Rattle.table.proofs.Reading.{entryFrom, entry-from}
 use Rattle.table.proofs.LineByLine.{line-checked, line-bad}
@@ -34,24 +34,25 @@ not-good e = absurd (subst Holds (sym e) tt)
 module _ (t : List ℕ) (at n most : ℕ) where
   pub all-good : most ≤ n + 1 → startFits n (getD t (at - entryNumbers) 0) (getD t (at - entryNumbers + 9) 0) (getD t at 0) ≡ true
       → restStands n (getD t (at - entryNumbers + 9) 0) (getD t at 0) (getD t (at + 1) 0) (getD t (at + 2) 0) ≡ true
+      → countFits (getD t (at - entryNumbers + 10) 0) (getD t at 0) (getD t (at + 10) 0) ≡ true
       → endingAt false (getD t (at + 3) 0) && leb (getD t (at + 9) 0) most ≡ true
       → GoodLine t at n most
-  unfolding lineGood startGood restGood noRest startFits restStands
-  all-good m s r e =
+  unfolding lineGood startGood restGood noRest countGood startFits restStands countFits
+  all-good m s r c e =
       let f = and-true (endingAt false (getD t (at + 3) 0)) (leb (getD t (at + 9) 0) most) e in
       let low = leb-true (getD t (at + 9) 0) most (f .1) in
       let high : leb (getD t (at + 9) 0) (suc n) ≡ true = le-leb (getD t (at + 9) 0) (suc n) (omega arith) in
-      let all : lineGood n (before t at) (entryFrom t at) false ≡ true = λ i. s i && r i && f .0 i && high i in
+      let all : lineGood n (before t at) (entryFrom t at) false ≡ true = λ i. s i && r i && f .0 i && high i && c i in
       record { good = subst (λ (x : Entry). lineGood n (before t at) x false ≡ true) (entry-from t at) all; low = low }
 
 -- ---- line after line
 
 module _ (t : List ℕ) (lines n k : ℕ) where
   -- The line before line k + 1 is line k.
-  before-next : (e : Entry) → e ≡ entryIn (drop (entryNumbers * k) t) → line (e .start .0) (e .reach .0) ≡ before t (entryNumbers * (k + 1))
+  before-next : (e : Entry) → e ≡ entryIn (drop (entryNumbers * k) t) → line (e .start .0) (e .reach .0) (e .before .0) ≡ before t (entryNumbers * (k + 1))
   before-next e q =
       let p : entryNumbers * (k + 1) - entryNumbers ≡ entryNumbers * k = omega arith in
-      rw (q, p, start-at t k, reach-at t k)
+      rw (q, p, start-at t k, reach-at t k, before-at t k)
 
   pub line-on : k < lines → (e : Entry) → e ≡ entryIn (drop (entryNumbers * k) t)
       → lineGood n (before t (entryNumbers * k)) e (eqb (k + 1) lines) ≡ true

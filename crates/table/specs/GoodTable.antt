@@ -20,19 +20,19 @@ use Rattle.laws.specs.GoodLines.{good-both, good-more, good-start, start-after}
 
 -- ---- how many lines there are
 
-few-after : (n k start reach : ℕ) (es : List Entry) → start ≤ n → checkLines n k (line start reach) es ≡ Good
+few-after : (n k start reach before : ℕ) (es : List Entry) → start ≤ n → checkLines n k (line start reach before) es ≡ Good
     → length es ≤ n - start
-few-after n k start reach [] s h = omega arith
-few-after n k start reach (e ∷ es) s h =
-    let a = start-after n start reach e (good-start n k (line start reach) e es h) in
-    omega (arith, few-after n (suc k) (e .start .0) (e .reach .0) es (a .2) (good-more n k (line start reach) e es h))
+few-after n k start reach before [] s h = omega arith
+few-after n k start reach before (e ∷ es) s h =
+    let a = start-after n start reach before e (good-start n k (line start reach before) e es h) in
+    omega (arith, few-after n (suc k) (e .start .0) (e .reach .0) (e .before .0) es (a .2) (good-more n k (line start reach before) e es h))
 
 pub few-lines : (n k : ℕ) (es : List Entry) → checkLines n k nothing es ≡ Good → length es ≤ n + 1
 unfolding startGood
 few-lines n k [] h = omega arith
 few-lines n k (e ∷ es) h =
     let z = eqb-true (e .start .0) 0 (good-start n k nothing e es h) in
-    omega (arith, few-after n (suc k) (e .start .0) (e .reach .0) es (omega arith) (good-more n k nothing e es h))
+    omega (arith, few-after n (suc k) (e .start .0) (e .reach .0) (e .before .0) es (omega arith) (good-more n k nothing e es h))
 
 -- ---- the whole table
 

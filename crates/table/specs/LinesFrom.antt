@@ -34,7 +34,7 @@ module _ (t : List ℕ) (lines : ℕ) where
         let e : lines - k ≡ 0 = omega arith in
         rw e
 
--- The last line's reach is the last number of the lines.
+-- The last line's reach is the last number but one of the lines.
 pub last-reach : (m : ℕ) (t : List ℕ) → lastReach (entriesIn (suc m) t) ≡ getD t (entryNumbers * m + 9) 0
 unfolding lastReach entriesIn entryIn
 last-reach zero t = refl
@@ -55,3 +55,7 @@ module _ (t : List ℕ) (k : ℕ) where
   pub reach-at : entryIn (drop (entryNumbers * k) t) .reach .0 ≡ getD t (entryNumbers * k + 9) 0
   unfolding entryIn
   reach-at = getD-drop (entryNumbers * k) t 9 0
+
+  pub before-at : entryIn (drop (entryNumbers * k) t) .before .0 ≡ getD t (entryNumbers * k + 10) 0
+  unfolding entryIn
+  before-at = getD-drop (entryNumbers * k) t 10 0

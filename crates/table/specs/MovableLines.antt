@@ -13,13 +13,13 @@ use lib.Seq.{drop-nil, drop-drop}
 use Rattle.basis.specs.Choice.{and-true, by-either}
 use Rattle.meaning.specs.Checks.{textLimit}
 use Rattle.meaning.specs.Table.{entryNumbers, entryIn, entriesIn}
-use Rattle.meaning.specs.WellFormed.{lastReach, textLength, Before, nothing, line, startGood, noRest, restGood, checkLines, checkTable}
-use Rattle.meaning.specs.declared.edit.Edit.{Edit}
+use Rattle.meaning.specs.WellFormed.{lastReach, textLength, Before, nothing, line, startGood, noRest, restGood, countGood, checkLines, checkTable}
 use Rattle.meaning.specs.declared.line.Entry.{Entry}
 use Rattle.meaning.specs.declared.refusals.Checked.the-variants.{Good}
 use Rattle.table.specs.LinesFrom.{linesFrom, lines-more}
-use Rattle.laws.specs.GoodLines.{good-more, good-start, good-rest, good-reach, start-after}
+use Rattle.laws.specs.GoodLines.{good-more, good-start, good-rest, good-reach, good-count, start-after, count-after}
 use Rattle.table.specs.GoodTable.{table-reach, table-text, table-lines}
+use Rattle.table.specs.declared.edited.Shift.{Shift}
 use Rattle.table.specs.Moving.{MovableEntry, AllMovable}
 
 -- The lines of a table from line j on.
@@ -40,7 +40,12 @@ module _ (n : ℕ) (e : Entry) where
   start-within : (b : Before) → startGood n b e ≡ true → e .start .0 ≤ n
   unfolding startGood
   start-within nothing h = omega (arith, eqb-true (e .start .0) 0 h)
-  start-within (line start reach) h = start-after n start reach e h .2
+  start-within (line start reach before) h = start-after n start reach before e h .2
+
+  count-within : (b : Before) → countGood b e ≡ true → e .before .0 ≤ e .start .0
+  unfolding countGood
+  count-within nothing h = omega (arith, eqb-true (e .before .0) 0 h)
+  count-within (line start reach before) h = count-after start reach before e h .1
 
   no-end : noRest e ≡ true → e .rest .end .0 ≡ 0
   unfolding noRest
@@ -49,7 +54,7 @@ module _ (n : ℕ) (e : Entry) where
   rest-within : (b : Before) → restGood n b e ≡ true → 0 < e .rest .end .0 → (e .start .0 ≤ e .rest .end .0) × (e .rest .end .0 ≤ n)
   unfolding restGood
   rest-within nothing h some = absurd (omega (arith, no-end h))
-  rest-within (line start reach) h some =
+  rest-within (line start reach before) h some =
       let end = e .rest .end .0 in
       let above = ltb (e .start .0) end in
       let inside = leb end n in
@@ -62,50 +67,53 @@ module _ (n : ℕ) (e : Entry) where
 
 -- ---- line after line
 
-module _ (n : ℕ) (ed : Edit) (short : n ≤ textLimit) where
-  one : (k : ℕ) (b : Before) (e : Entry) (es : List Entry) → checkLines n k b (e ∷ es) ≡ Good → ed .to .0 ≤ e .start .0
-      → e .start .0 ≤ e .reach .0
-      → MovableEntry ed e
-  one k b e es h s r =
+module _ (n : ℕ) (sh : Shift) (short : n ≤ textLimit) where
+  one : (k : ℕ) (b : Before) (e : Entry) (es : List Entry) → checkLines n k b (e ∷ es) ≡ Good → sh .edit .to .0 ≤ e .start .0
+      → e .start .0 ≤ e .reach .0 → sh .from .0 ≤ e .before .0
+      → MovableEntry sh e
+  one k b e es h s r f =
       let rest = rest-within n e b (good-rest n k b e es h) in
       record {
         start = (omega arith, omega (arith, start-within n e b (good-start n k b e es h)));
         rest = λ some. (omega (arith, rest some), omega (arith, rest some));
         reach = (omega arith, omega (arith, good-reach n k b e es h));
+        before = (f, omega (arith, count-within n e b (good-count n k b e es h), start-within n e b (good-start n k b e es h)));
       }
 
   lines : (k : ℕ) (b : Before) (e : Entry) (es : List Entry) → checkLines n k b (e ∷ es) ≡ Good → lastReach (e ∷ es) ≡ n + 1
-      → ed .to .0 ≤ e .start .0
-      → AllMovable ed (e ∷ es)
+      → sh .edit .to .0 ≤ e .start .0 → sh .from .0 ≤ e .before .0
+      → AllMovable sh (e ∷ es)
   unfolding lastReach
-  lines k b e [] h r s = (one k b e [] h s (omega (arith, start-within n e b (good-start n k b e [] h))), tt)
-  lines k b e (f ∷ es) h r s =
-      let c = line (e .start .0) (e .reach .0) in
+  lines k b e [] h r s p = (one k b e [] h s (omega (arith, start-within n e b (good-start n k b e [] h))) p, tt)
+  lines k b e (f ∷ es) h r s p =
+      let c = line (e .start .0) (e .reach .0) (e .before .0) in
       let more = good-more n k b e (f ∷ es) h in
-      let a = start-after n (e .start .0) (e .reach .0) f (good-start n (suc k) c f es more) in
-      (one k b e (f ∷ es) h s (omega (arith, a)), lines (suc k) c f es more r (omega (arith, a)))
+      let a = start-after n (e .start .0) (e .reach .0) (e .before .0) f (good-start n (suc k) c f es more) in
+      let d = count-after (e .start .0) (e .reach .0) (e .before .0) f (good-count n (suc k) c f es more) in
+      (one k b e (f ∷ es) h s (omega (arith, a)) p, lines (suc k) c f es more r (omega (arith, a)) (omega (arith, d)))
 
   -- From any of the lines on.
   pub lines-movable : (j k : ℕ) (b : Before) (es : List Entry) → checkLines n k b es ≡ Good → lastReach es ≡ n + 1
-      → (e : Entry) (more : List Entry) → drop j es ≡ e ∷ more → ed .to .0 ≤ e .start .0
-      → AllMovable ed (e ∷ more)
+      → (e : Entry) (more : List Entry) → drop j es ≡ e ∷ more → sh .edit .to .0 ≤ e .start .0
+      → sh .from .0 ≤ e .before .0 → AllMovable sh (e ∷ more)
   unfolding lastReach
-  lines-movable zero k b es h r e more q s =
-      lines k b e more (ap (checkLines n k b) (sym q) ∙ h) (ap lastReach (sym q) ∙ r) s
-  lines-movable (suc j) k b [] h r e more q s = absurd (omega (arith, ap length q))
-  lines-movable (suc j) k b (x ∷ []) h r e more q s = absurd (omega (arith, ap length (sym (drop-nil j) ∙ q)))
-  lines-movable (suc j) k b (x ∷ f ∷ es) h r e more q s =
-      lines-movable j (suc k) (line (x .start .0) (x .reach .0)) (f ∷ es) (good-more n k b x (f ∷ es) h) r e more q s
+  lines-movable zero k b es h r e more q s p =
+      lines k b e more (ap (checkLines n k b) (sym q) ∙ h) (ap lastReach (sym q) ∙ r) s p
+  lines-movable (suc j) k b [] h r e more q s p = absurd (omega (arith, ap length q))
+  lines-movable (suc j) k b (x ∷ []) h r e more q s p = absurd (omega (arith, ap length (sym (drop-nil j) ∙ q)))
+  lines-movable (suc j) k b (x ∷ f ∷ es) h r e more q s p =
+      lines-movable j (suc k) (line (x .start .0) (x .reach .0) (x .before .0)) (f ∷ es) (good-more n k b x (f ∷ es) h) r e more q s p
 
 -- ---- of a table
 
-module _ (t : List ℕ) (lines j : ℕ) (ed : Edit) where
-  pub table-movable : checkTable lines t ≡ Good → j < lines → ed .to .0 ≤ entryIn (drop (entryNumbers * j) t) .start .0
-      → AllMovable ed (entriesIn (lines - j) (drop (entryNumbers * j) t))
+module _ (t : List ℕ) (lines j : ℕ) (sh : Shift) where
+  pub table-movable : checkTable lines t ≡ Good → j < lines → sh .edit .to .0 ≤ entryIn (drop (entryNumbers * j) t) .start .0
+      → sh .from .0 ≤ entryIn (drop (entryNumbers * j) t) .before .0
+      → AllMovable sh (entriesIn (lines - j) (drop (entryNumbers * j) t))
   unfolding textLength linesFrom
-  table-movable h k s =
+  table-movable h k s p =
       let old = entriesIn lines t in
       let reach : lastReach old ≡ textLength old + 1 = omega (arith, table-reach lines t h) in
       let here = lines-more t lines j k in
-      subst (AllMovable ed) (sym here)
-      (lines-movable (textLength old) ed (table-text lines t h) j 0 nothing old (table-lines lines t h) reach _ _ (entries-from j lines t ∙ here) s)
+      subst (AllMovable sh) (sym here)
+      (lines-movable (textLength old) sh (table-text lines t h) j 0 nothing old (table-lines lines t h) reach _ _ (entries-from j lines t ∙ here) s p)

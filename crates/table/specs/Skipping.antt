@@ -14,7 +14,7 @@ use Rattle.table.specs.LinesFrom.{linesFrom}
 
 -- The line before the one at a number of the table.
 abbrev pub before : List ℕ → (at : ℕ) → Before
-before t at = line (getD t (at - entryNumbers) 0) (getD t (at - entryNumbers + 9) 0)
+before t at = line (getD t (at - entryNumbers) 0) (getD t (at - entryNumbers + 9) 0) (getD t (at - entryNumbers + 10) 0)
 
 -- The line at a number is good, not the last, and its reach at most this.
 pub record GoodLine (t : List ℕ) (at n most : ℕ) : Type 0 where

@@ -1,18 +1,27 @@
 // An edit of a text of so many bytes: how long the text is then, and where an offset behind the edit comes to stand.
 // Refusal 3, refusal 6, laying again.
 use basis::numbers::less_wide;
+use meaning::counts::Chars;
 use meaning::counts::Offset;
 use meaning::edit::Edit;
 ghost use Prim.Native.Nat.{_+_, _-_, _≤_};
 ghost use mathlib.Core.Path.{_≡_};
 ghost use Rattle.meaning.specs.Edit.{moved};
 ghost use Rattle.table.specs.EditAlone.{editedWhole};
-ghost use Rattle.table.specs.Moving.{MovableEdit, MovableOffset};
+ghost use Rattle.table.specs.Moving.{MovableEdit, MovableOffset, MovableShift, MovableCount};
 
 // The length of the edited whole; or the edit does not replace bytes of the text.
 pub enum Whole {
     Length(u64),
     OutOfPlace,
+}
+
+// How the old lines that follow an edit are moved: by that edit, and where there were `from` characters before the first of
+// them there are now `to`.
+pub struct Shift {
+    pub edit: Edit,
+    pub from: Chars,
+    pub to: Chars,
 }
 
 // The length of the edited whole. 32-bit numbers are added in 64 bits, so that nothing wraps.
@@ -53,4 +62,12 @@ pub fn moved_number(x: u32, edit: Edit) -> u32
 {
     let replaced = edit.to.0 - edit.from.0;
     x + edit.inserted.0 - replaced
+}
+
+// The characters before an old line that follows, counted on.
+pub fn shifted_count(x: u32, shift: Shift) -> u32
+    requires { ⌜ MovableShift shift × MovableCount shift x ⌝ }
+    ensures { λ r. ⌜ r ≡ shift .to .0 + (x - shift .from .0) ⌝ }
+{
+    shift.to.0 + (x - shift.from.0)
 }

@@ -4,6 +4,7 @@ use meaning::counts::Offset;
 use meaning::counts::Pixels;
 use meaning::line::Entry;
 use meaning::line::Rest;
+use meaning::sizes::BEFORE;
 use meaning::sizes::DROPPED;
 use meaning::sizes::ENDING;
 use meaning::sizes::ENTRY_NUMBERS;
@@ -20,7 +21,7 @@ ghost use lib.ListN.{length, drop};
 ghost use Rattle.meaning.specs.Table.{entryNumbers, ofEntry, entryIn};
 ghost use Rattle.table.specs.Numbers.{putNumbers};
 
-// Line k, from its ten numbers.
+// Line k, from its eleven numbers.
 pub fn read_entry(table: &[u32], k: usize) -> Entry
     requires { ⌜ entryNumbers * k + entryNumbers ≤ length (now table) ⌝ }
     ensures { λ r. ⌜ r ≡ entryIn (drop (entryNumbers * k) (now (table .entry))) ⌝ }
@@ -40,10 +41,11 @@ pub fn read_entry(table: &[u32], k: usize) -> Entry
         width: Pixels(table[at + WIDTH]),
         dropped: Chars(table[at + DROPPED]),
         reach: Offset(table[at + REACH]),
+        before: Chars(table[at + BEFORE]),
     }
 }
 
-// The ten numbers of line k.
+// The eleven numbers of line k.
 pub fn write_entry(table: &mut [u32], k: usize, e: Entry)
     requires { ⌜ entryNumbers * k + entryNumbers ≤ length (now table) ⌝ }
     ensures { λ _. ⌜ now (table .exit) ≡ putNumbers (now (table .entry)) (entryNumbers * k) (ofEntry e) ⌝ }
@@ -59,4 +61,5 @@ pub fn write_entry(table: &mut [u32], k: usize, e: Entry)
     table[at + WIDTH] = e.width.0;
     table[at + DROPPED] = e.dropped.0;
     table[at + REACH] = e.reach.0;
+    table[at + BEFORE] = e.before.0;
 }

@@ -1,18 +1,22 @@
 // The old lines that follow after an edit, moved within their table (laying again).
+use crate::edited::Shift;
 use crate::edited::moved_number;
+use crate::edited::shifted_count;
 use crate::entries::read_entry;
 use crate::entries::write_entry;
+use meaning::counts::Chars;
 use meaning::counts::Offset;
 use meaning::edit::Edit;
 use meaning::line::Entry;
 use meaning::line::Rest;
+use meaning::sizes::BEFORE;
 use meaning::sizes::ENTRY_NUMBERS;
 use meaning::sizes::REACH;
 use meaning::sizes::REST_END;
 ghost use Prim.Native.Nat.{_≤_, _<_};
 ghost use mathlib.Core.Path.{_≡_};
-ghost use Rattle.meaning.specs.Edit.{moved, movedRest, movedEntry};
-ghost use Rattle.table.specs.Moving.{MovableEdit, MovableOffset, MovableEntry, Movable, lineMoved, linesMoved};
+ghost use Rattle.meaning.specs.Edit.{moved, movedRest};
+ghost use Rattle.table.specs.Moving.{MovableEdit, MovableOffset, MovableShift, MovableEntry, Movable, movedBy, lineMoved, linesMoved};
 
 fn moved_offset(x: Offset, edit: Edit) -> Offset
     requires { ⌜ MovableEdit edit × MovableOffset edit (x .0) ⌝ }
@@ -35,35 +39,41 @@ fn moved_rest(rest: Rest, edit: Edit) -> Rest
     Rest { end: after, count }
 }
 
-// Start, rest and reach are moved, all else stays.
-pub fn moved_entry(e: Entry, edit: Edit) -> Entry
-    requires { ⌜ MovableEdit edit × MovableEntry edit e ⌝ }
-    ensures { λ r. ⌜ r ≡ movedEntry edit e ⌝ }
+// Start, rest, reach and the characters before are moved, all else stays.
+pub fn moved_entry(e: Entry, shift: Shift) -> Entry
+    requires { ⌜ MovableShift shift × MovableEntry shift e ⌝ }
+    ensures { λ r. ⌜ r ≡ movedBy shift e ⌝ }
 {
+    let edit = shift.edit;
     let old_start = e.start;
     let old_rest = e.rest;
     let old_reach = e.reach;
     let start = moved_offset(old_start, edit);
     let rest = moved_rest(old_rest, edit);
     let reach = moved_offset(old_reach, edit);
+    let before = Chars(shifted_count(e.before.0, shift));
     let mut after = e;
     after.start = start;
     after.rest = rest;
     after.reach = reach;
+    after.before = before;
     after
 }
 
 // Line k, moved where it stands: its other numbers are not touched.
-fn move_here(table: &mut [u32], k: usize, edit: Edit)
-    requires { ⌜ Movable (now table) k k 1 edit ⌝ }
-    ensures { λ _. ⌜ now (table .exit) ≡ lineMoved (now (table .entry)) k k edit ⌝ }
+fn move_here(table: &mut [u32], k: usize, shift: Shift)
+    requires { ⌜ Movable (now table) k k 1 shift ⌝ }
+    ensures { λ _. ⌜ now (table .exit) ≡ lineMoved (now (table .entry)) k k shift ⌝ }
 {
+    let edit = shift.edit;
     let at = ENTRY_NUMBERS * k;
     let start = table[at];
     let end = table[at + REST_END];
     let reach = table[at + REACH];
+    let count = table[at + BEFORE];
     table[at] = moved_number(start, edit);
     table[at + REACH] = moved_number(reach, edit);
+    table[at + BEFORE] = shifted_count(count, shift);
     if end == 0 {
         return;
     }
@@ -71,51 +81,51 @@ fn move_here(table: &mut [u32], k: usize, edit: Edit)
 }
 
 // Line `from`, moved, written to line `to`.
-fn move_line(table: &mut [u32], from: usize, to: usize, edit: Edit)
-    requires { ⌜ Movable (now table) from to 1 edit ⌝ }
-    ensures { λ _. ⌜ now (table .exit) ≡ lineMoved (now (table .entry)) from to edit ⌝ }
+fn move_line(table: &mut [u32], from: usize, to: usize, shift: Shift)
+    requires { ⌜ Movable (now table) from to 1 shift ⌝ }
+    ensures { λ _. ⌜ now (table .exit) ≡ lineMoved (now (table .entry)) from to shift ⌝ }
 {
     if from == to {
-        move_here(table, to, edit);
+        move_here(table, to, shift);
         return;
     }
     let old = read_entry(table, from);
-    let after = moved_entry(old, edit);
+    let after = moved_entry(old, shift);
     write_entry(table, to, after);
 }
 
 // Lines moved toward the table's front: the first of them first, so that none is written over before it is read.
-fn move_forward(table: &mut [u32], from: usize, to: usize, count: usize, edit: Edit)
-    requires { ⌜ Movable (now table) from to count edit × (to ≤ from) ⌝ }
-    ensures { λ _. ⌜ now (table .exit) ≡ linesMoved (now (table .entry)) from to count edit ⌝ }
+fn move_forward(table: &mut [u32], from: usize, to: usize, count: usize, shift: Shift)
+    requires { ⌜ Movable (now table) from to count shift × (to ≤ from) ⌝ }
+    ensures { λ _. ⌜ now (table .exit) ≡ linesMoved (now (table .entry)) from to count shift ⌝ }
 {
     let mut i: usize = 0;
     while i < count {
-        move_line(table, from + i, to + i, edit);
+        move_line(table, from + i, to + i, shift);
         i += 1;
     }
 }
 
 // Lines moved toward the table's end: the last of them first.
-fn move_back(table: &mut [u32], from: usize, to: usize, count: usize, edit: Edit)
-    requires { ⌜ Movable (now table) from to count edit × (from ≤ to) ⌝ }
-    ensures { λ _. ⌜ now (table .exit) ≡ linesMoved (now (table .entry)) from to count edit ⌝ }
+fn move_back(table: &mut [u32], from: usize, to: usize, count: usize, shift: Shift)
+    requires { ⌜ Movable (now table) from to count shift × (from ≤ to) ⌝ }
+    ensures { λ _. ⌜ now (table .exit) ≡ linesMoved (now (table .entry)) from to count shift ⌝ }
 {
     let mut left: usize = count;
     while 0 < left {
         left -= 1;
-        move_line(table, from + left, to + left, edit);
+        move_line(table, from + left, to + left, shift);
     }
 }
 
 // So many lines from line `from` on, moved, written from line `to` on. The two stretches may overlap.
-pub fn move_lines(table: &mut [u32], from: usize, to: usize, count: usize, edit: Edit)
-    requires { ⌜ Movable (now table) from to count edit ⌝ }
-    ensures { λ _. ⌜ now (table .exit) ≡ linesMoved (now (table .entry)) from to count edit ⌝ }
+pub fn move_lines(table: &mut [u32], from: usize, to: usize, count: usize, shift: Shift)
+    requires { ⌜ Movable (now table) from to count shift ⌝ }
+    ensures { λ _. ⌜ now (table .exit) ≡ linesMoved (now (table .entry)) from to count shift ⌝ }
 {
     if to <= from {
-        move_forward(table, from, to, count, edit);
+        move_forward(table, from, to, count, shift);
         return;
     }
-    move_back(table, from, to, count, edit);
+    move_back(table, from, to, count, shift);
 }

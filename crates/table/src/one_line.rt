@@ -1,16 +1,18 @@
 // Whether the numbers of one line are good behind those of the line before it (refusal 5).
+use meaning::counts::Chars;
 use meaning::counts::Offset;
 use meaning::line::Entry;
 ghost use Prim.Native.Nat.{_≤_};
 ghost use mathlib.Core.Path.{_≡_};
 ghost use Rattle.meaning.specs.Checks.{textLimit};
-ghost use Rattle.meaning.specs.WellFormed.{startGood, noRest, restGood};
-ghost use Rattle.table.specs.OneLine.{beforeOf, startFits, restStands, endingAt, lineGood};
+ghost use Rattle.meaning.specs.WellFormed.{startGood, noRest, restGood, countGood};
+ghost use Rattle.table.specs.OneLine.{beforeOf, startFits, restStands, countFits, endingAt, lineGood};
 
-// What a line is held to of the line before it: that line's start and reach.
+// What a line is held to of the line before it: that line's start, its reach and the characters before
+// it.
 pub enum LineBefore {
     Nothing,
-    Line(Offset, Offset),
+    Line(Offset, Offset, Chars),
 }
 
 // Every test of a line is made, whatever the others say, as in the definitions.
@@ -35,6 +37,13 @@ pub fn rest_stands(bytes: u32, reached: u32, start: u32, end: u32, count: u32) -
     (end <= bytes) & (end <= reached) & (count <= end - start)
 }
 
+// The characters before a line that starts at `start`, where there are `from` before the line before it.
+pub fn count_fits(from: u32, start: u32, count: u32) -> bool
+    ensures { λ r. ⌜ r ≡ countFits from start count ⌝ }
+{
+    (from < count) & (count <= start)
+}
+
 pub fn has_no_rest(e: Entry) -> bool
     ensures { λ r. ⌜ r ≡ noRest e ⌝ }
 {
@@ -47,7 +56,7 @@ fn start_good(bytes: Offset, prior: LineBefore, e: Entry) -> bool
     let start = e.start.0;
     match prior {
         LineBefore::Nothing => start == 0,
-        LineBefore::Line(from, reach) => start_fits(bytes.0, from.0, reach.0, start),
+        LineBefore::Line(from, reach, _) => start_fits(bytes.0, from.0, reach.0, start),
     }
 }
 
@@ -56,13 +65,23 @@ fn rest_good(bytes: Offset, prior: LineBefore, e: Entry) -> bool
 {
     match prior {
         LineBefore::Nothing => has_no_rest(e),
-        LineBefore::Line(_, reach) => rest_stands(
+        LineBefore::Line(_, reach, _) => rest_stands(
             bytes.0,
             reach.0,
             e.start.0,
             e.rest.end.0,
             e.rest.count.0,
         ),
+    }
+}
+
+fn count_good(prior: LineBefore, e: Entry) -> bool
+    ensures { λ r. ⌜ r ≡ countGood (beforeOf prior) e ⌝ }
+{
+    let count = e.before.0;
+    match prior {
+        LineBefore::Nothing => count == 0,
+        LineBefore::Line(_, _, from) => count_fits(from.0, e.start.0, count),
     }
 }
 
@@ -83,5 +102,6 @@ pub fn entry_good(bytes: Offset, prior: LineBefore, e: Entry, last: bool) -> boo
     let start = start_good(bytes, prior, e);
     let rest = rest_good(bytes, prior, e);
     let ending = ending_good(last, e.ending);
-    start & rest & ending & (e.reach.0 <= bytes.0 + 1)
+    let count = count_good(prior, e);
+    start & rest & ending & (e.reach.0 <= bytes.0 + 1) & count
 }

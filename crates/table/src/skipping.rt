@@ -1,7 +1,9 @@
 // Good lines that are not the last, skipped in one loop over plain numbers (refusal 5).
+use crate::one_line::count_fits;
 use crate::one_line::ending_good;
 use crate::one_line::rest_stands;
 use crate::one_line::start_fits;
+use meaning::sizes::BEFORE;
 use meaning::sizes::ENDING;
 use meaning::sizes::ENTRY_NUMBERS;
 use meaning::sizes::REACH;
@@ -29,6 +31,10 @@ fn line_is_good(table: &[u32], at: usize, bytes: u32, most: u32) -> bool
     let end = table[at + REST_END];
     let count = table[at + REST_COUNT];
     if !rest_stands(bytes, reached, start, end, count) {
+        return false;
+    }
+    let chars = table[at + BEFORE];
+    if !count_fits(table[before + BEFORE], start, chars) {
         return false;
     }
     let ending = table[at + ENDING];

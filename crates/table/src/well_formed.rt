@@ -6,9 +6,11 @@ use crate::search::affected_from;
 use crate::skipping::skip_good;
 use basis::numbers::lesser;
 use meaning::answers::Affected;
+use meaning::counts::Chars;
 use meaning::counts::Offset;
 use meaning::refusals::Checked;
 use meaning::refusals::Refusal;
+use meaning::sizes::BEFORE;
 use meaning::sizes::ENTRY_NUMBERS;
 use meaning::sizes::REACH;
 use meaning::sizes::REACH_LIMIT;
@@ -56,7 +58,8 @@ fn check_on(table: &[u32], lines: usize, bytes: Offset, j: usize) -> Checked
         let before = ENTRY_NUMBERS * k - ENTRY_NUMBERS;
         let from = table[before];
         let reached = table[before + REACH];
-        let prior = LineBefore::Line(Offset(from), Offset(reached));
+        let chars = table[before + BEFORE];
+        let prior = LineBefore::Line(Offset(from), Offset(reached), Chars(chars));
         let next = k + 1;
         if !entry_good(bytes, prior, e, next == lines) {
             return Checked::Refused(Refusal::BadLine(k as u64));

@@ -97,9 +97,18 @@ mul-t41 c = search needs
 shared-slice-read-t43 : tie.Need-shared-slice-read-t43
 shared-slice-read-t43 c = search needs
 
+add-t45 : tie.Need-add-t45
+add-t45 c = search needs
+
+mul-t46 : tie.Need-mul-t46
+mul-t46 c = search needs
+
+shared-slice-read-t48 : tie.Need-shared-slice-read-t48
+shared-slice-read-t48 c = search needs
+
 returns : tie.Need-returns
 returns c =
-    let s = c .before .before .before .before .before .before .before .before .before .before in
+    let s = c .before .before .before .before .before .before .before .before .before .before .before in
     entry-from (s .args .table .now) (entryNumbers * s .args .k)
 
 pub read-entry-spec : {M : Type 1} → statement M
@@ -136,4 +145,7 @@ read-entry-spec =
     add-t40
     mul-t41
     shared-slice-read-t43
+    add-t45
+    mul-t46
+    shared-slice-read-t48
     returns)

@@ -99,6 +99,15 @@ mul-table-10 c = search needs
 slice-write-table-10 : tie.Need-slice-write-table-10
 slice-write-table-10 c = simp length-set (omega arith)
 
+add-table-10 : tie.Need-add-table-10
+add-table-10 c = search needs
+
+mul-table-11 : tie.Need-mul-table-11
+mul-table-11 c = search needs
+
+slice-write-table-11 : tie.Need-slice-write-table-11
+slice-write-table-11 c = simp length-set (omega arith)
+
 same-length : tie.Need-same-length
 same-length c = simp length-set
 
@@ -140,5 +149,8 @@ write-entry-spec =
     add-table-9
     mul-table-10
     slice-write-table-10
+    add-table-10
+    mul-table-11
+    slice-write-table-11
     same-length
     returns)

@@ -7,10 +7,10 @@ use Rattle.table.proofs.moving.move_back.Statement.{statement}
 use Rattle.table.proofs.moving.move_back.Tie as tie
 
 abbrev Inv-loop : tie.InvT-loop
-Inv-loop table₀ from to count edit left₀ table left = Back table₀ from to count edit table left
+Inv-loop table₀ from to count shift left₀ table left = Back table₀ from to count shift table left
 
 abbrev μ-loop : tie.MeasureT-loop
-μ-loop table₀ from to count edit left₀ table left = left
+μ-loop table₀ from to count shift left₀ table left = left
 
 loop-holds : tie.Need-loop-holds Inv-loop μ-loop
 loop-holds c = back-start _ _ _ _ _ (c .before .pre .0)

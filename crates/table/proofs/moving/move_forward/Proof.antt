@@ -8,10 +8,10 @@ use Rattle.table.proofs.moving.move_forward.Statement.{statement}
 use Rattle.table.proofs.moving.move_forward.Tie as tie
 
 abbrev Inv-loop : tie.InvT-loop
-Inv-loop table₀ from to count edit i₀ table i = Forward table₀ from to count edit table i
+Inv-loop table₀ from to count shift i₀ table i = Forward table₀ from to count shift table i
 
 abbrev μ-loop : tie.MeasureT-loop
-μ-loop table₀ from to count edit i₀ table i = count - i
+μ-loop table₀ from to count shift i₀ table i = count - i
 
 loop-holds : tie.Need-loop-holds Inv-loop μ-loop
 loop-holds c = forward-start _ _ _ _ _ (c .before .pre .0)

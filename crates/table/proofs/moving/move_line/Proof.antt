@@ -4,10 +4,9 @@ use Prim.Native.Nat.{ℕ, _*_}
 use mathlib.Core.Path.{sym, subst, ap, _∙_}
 use borrow.Author.Needs.{needs}
 use Rattle.meaning.specs.Table.{entryNumbers, ofEntry}
-use Rattle.meaning.specs.Edit.{movedEntry}
 use Rattle.meaning.specs.declared.line.Entry.{Entry}
 use Rattle.table.specs.Numbers.{putNumbers}
-use Rattle.table.specs.Moving.{MovableEntry, Movable, lineMoved, line-movable}
+use Rattle.table.specs.Moving.{MovableEntry, Movable, movedBy, lineMoved, line-movable}
 use Rattle.table.proofs.moving.move_line.Statement.{statement}
 use Rattle.table.proofs.moving.move_line.Tie as tie
 
@@ -15,7 +14,7 @@ move-here-requires : tie.Need-move-here-requires
 move-here-requires c κs =
     let same = c .before in
     let s = same .before .before in
-    subst (λ (k : ℕ). Movable (s .args .table .now) k (s .args .to) 1 (s .args .edit)) (same .if1 .taken) (s .pre)
+    subst (λ (k : ℕ). Movable (s .args .table .now) k (s .args .to) 1 (s .args .shift)) (same .if1 .taken) (s .pre)
 
 same-length : tie.Need-same-length
 same-length c = search needs
@@ -25,7 +24,7 @@ returns c =
     let m = c .before .before in
     let same = m .before .before in
     let a = same .before .before .args in
-    m .move-here .ensures ∙ ap (λ (k : ℕ). lineMoved (a .table .now) k (a .to) (a .edit)) (sym (same .if1 .taken))
+    m .move-here .ensures ∙ ap (λ (k : ℕ). lineMoved (a .table .now) k (a .to) (a .shift)) (sym (same .if1 .taken))
 
 read-entry-requires : tie.Need-read-entry-requires
 read-entry-requires c κs = search needs
@@ -33,7 +32,7 @@ read-entry-requires c κs = search needs
 moved-entry-requires : tie.Need-moved-entry-requires
 moved-entry-requires c κs = let s = c .before .before .before .before in
     let a = s .args in
-    (s .pre .edit, subst (MovableEntry (a .edit)) (sym (c .read-entry .ensures)) (line-movable (a .table .now) (a .from) (a .to) (a .edit) (s .pre)))
+    (s .pre .shift, subst (MovableEntry (a .shift)) (sym (c .read-entry .ensures)) (line-movable (a .table .now) (a .from) (a .to) (a .shift) (s .pre)))
 
 write-entry-requires : tie.Need-write-entry-requires
 write-entry-requires c κs = search needs
@@ -46,7 +45,7 @@ returns-2 c = let w = c .before .before in
     let m = w .before .before in
     let a = m .before .before .before .before .before .args in
     w .write-entry .ensures
-    ∙ ap (λ (e : Entry). putNumbers (a .table .now) (entryNumbers * a .to) (ofEntry e)) (m .moved-entry .ensures ∙ ap (movedEntry (a .edit)) (m .before .read-entry .ensures))
+    ∙ ap (λ (e : Entry). putNumbers (a .table .now) (entryNumbers * a .to) (ofEntry e)) (m .moved-entry .ensures ∙ ap (movedBy (a .shift)) (m .before .read-entry .ensures))
 
 pub move-line-spec : {M : Type 1} → statement M
 move-line-spec =

@@ -14,9 +14,17 @@ moved-rest-requires c κs = search needs
 moved-offset-requires-2 : tie.Need-moved-offset-requires-2
 moved-offset-requires-2 c κs = search needs
 
+shifted-count-requires : tie.Need-shifted-count-requires
+shifted-count-requires c κs = search needs
+
 returns : tie.Need-returns
-returns c = let a = c .before .before .before .before .before .before .args in
-    entry-moved (a .edit) (a .e) _ _ _ (c .before .before .moved-offset .ensures) (c .before .moved-rest .ensures) (c .moved-offset2 .ensures)
+returns c =
+    let reach = c .before in
+    let rest = reach .before in
+    let start = rest .before in
+    let a = start .before .before .before .before .before .args in
+    entry-moved (a .shift .edit) (a .shift .from .0) (a .shift .to .0) (a .e) _ _ _ _ (start .moved-offset .ensures)
+    (rest .moved-rest .ensures) (reach .moved-offset2 .ensures) (c .shifted-count .ensures)
 
 pub moved-entry-spec : {M : Type 1} → statement M
-moved-entry-spec = tie.close (tie.spec moved-offset-requires moved-rest-requires moved-offset-requires-2 returns)
+moved-entry-spec = tie.close (tie.spec moved-offset-requires moved-rest-requires moved-offset-requires-2 shifted-count-requires returns)

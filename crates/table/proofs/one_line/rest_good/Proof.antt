@@ -27,7 +27,7 @@ returns-2 : tie.Need-returns-2
 returns-2 c =
     let l = c .before .before in
     let s = l .before .before in
-    c .rest-stands .ensures ∙ rest-after (s .args .bytes .0) (s .args .e) (s .args .prior) _ _ (l .prior .given .1)
+    c .rest-stands .ensures ∙ rest-after (s .args .bytes .0) (s .args .e) (s .args .prior) _ _ _ (l .prior .given .1)
 
 pub rest-good-spec : {M : Type 1} → statement M
 rest-good-spec =

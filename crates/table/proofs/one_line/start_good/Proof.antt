@@ -24,7 +24,7 @@ returns-2 : tie.Need-returns-2
 returns-2 c =
     let l = c .before .before in
     let s = l .before .before in
-    c .start-fits .ensures ∙ start-after (s .args .bytes .0) (s .args .e) (s .args .prior) _ _ (l .prior .given .1)
+    c .start-fits .ensures ∙ start-after (s .args .bytes .0) (s .args .e) (s .args .prior) _ _ _ (l .prior .given .1)
 
 pub start-good-spec : {M : Type 1} → statement M
 start-good-spec = tie.close (tie.spec enum-told enum-known-prior start-fits-requires returns returns-2)

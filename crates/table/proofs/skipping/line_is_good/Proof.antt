@@ -65,6 +65,30 @@ rest-stands-requires c κs = search needs
 returns-2 : tie.Need-returns-2
 returns-2 c = not-good
 
+add-chars : tie.Need-add-chars
+add-chars c = search needs
+
+mul-chars : tie.Need-mul-chars
+mul-chars c = search needs
+
+shared-slice-read-chars : tie.Need-shared-slice-read-chars
+shared-slice-read-chars c = search needs
+
+add-count-fits : tie.Need-add-count-fits
+add-count-fits c = search needs
+
+mul-count-fits : tie.Need-mul-count-fits
+mul-count-fits c = search needs
+
+shared-slice-read-count-fits : tie.Need-shared-slice-read-count-fits
+shared-slice-read-count-fits c = search needs
+
+count-fits-requires : tie.Need-count-fits-requires
+count-fits-requires c κs = search needs
+
+returns-3 : tie.Need-returns-3
+returns-3 c = not-good
+
 add-ending : tie.Need-add-ending
 add-ending c = search needs
 
@@ -86,9 +110,11 @@ shared-slice-read-reach c = search needs
 ending-good-requires : tie.Need-ending-good-requires
 ending-good-requires c κs = search needs
 
-returns-3 : tie.Need-returns-3
-returns-3 c e =
-    let rest-passed = c .before .before .before in
+returns-4 : tie.Need-returns-4
+returns-4 c e =
+    let count-passed = c .before .before .before in
+    let count = count-passed .before in
+    let rest-passed = count .before .before .before in
     let rest = rest-passed .before in
     let start-passed = rest .before .before .before in
     let fits = start-passed .before in
@@ -96,6 +122,7 @@ returns-3 c e =
     all-good (s .args .table .now) (s .args .at) (s .args .bytes) (s .args .most) (s .pre .2)
     (sym (fits .start-fits .ensures) ∙ not-false _ (start-passed .if1 .left))
     (sym (rest .rest-stands .ensures) ∙ not-false _ (rest-passed .if2 .left))
+    (sym (count .count-fits .ensures) ∙ not-false _ (count-passed .if3 .left))
     (ap (λ (b : Bool). b && leb (getD (s .args .table .now) (s .args .at + 9) 0) (s .args .most)) (sym (c .ending-good .ensures)) ∙ e)
 
 pub line-is-good-spec : {M : Type 1} → statement M
@@ -120,6 +147,14 @@ line-is-good-spec =
     shared-slice-read-count
     rest-stands-requires
     returns-2
+    add-chars
+    mul-chars
+    shared-slice-read-chars
+    add-count-fits
+    mul-count-fits
+    shared-slice-read-count-fits
+    count-fits-requires
+    returns-3
     add-ending
     mul-ending
     shared-slice-read-ending
@@ -127,4 +162,4 @@ line-is-good-spec =
     mul-reach
     shared-slice-read-reach
     ending-good-requires
-    returns-3)
+    returns-4)

@@ -46,6 +46,15 @@ mul-reached c = search needs
 shared-slice-read-reached : tie.Need-shared-slice-read-reached Inv-loop μ-loop
 shared-slice-read-reached c = search needs
 
+add-chars : tie.Need-add-chars Inv-loop μ-loop
+add-chars c = search needs
+
+mul-chars : tie.Need-mul-chars Inv-loop μ-loop
+mul-chars c = search needs
+
+shared-slice-read-chars : tie.Need-shared-slice-read-chars Inv-loop μ-loop
+shared-slice-read-chars c = search needs
+
 add-next : tie.Need-add-next Inv-loop μ-loop
 add-next c = search needs
 
@@ -55,7 +64,7 @@ entry-good-requires c κs = search needs
 returns : tie.Need-returns Inv-loop μ-loop
 returns c =
     let g = c .before in
-    let r = g .before .before .before in
+    let r = g .before .before .before .before in
     let l = r .before .before in
     let s = l .before .before in
     sym (line-bad (s .args .table .now) (s .args .lines) (l .loop .k) (r .before .loop-test .taken) (r .read-entry .result)
@@ -68,7 +77,7 @@ loop-less c = search needs
 loop-again : tie.Need-loop-again Inv-loop μ-loop
 loop-again c =
     let g = c .before in
-    let r = g .before .before .before in
+    let r = g .before .before .before .before in
     let l = r .before .before in
     let s = l .before .before in (
       sym (line-on (s .args .table .now) (s .args .lines) (s .args .bytes .0) (l .loop .k) (r .before .loop-test .taken)
@@ -100,6 +109,9 @@ check-on-spec =
     add-reached
     mul-reached
     shared-slice-read-reached
+    add-chars
+    mul-chars
+    shared-slice-read-chars
     add-next
     entry-good-requires
     returns
