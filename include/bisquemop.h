@@ -115,10 +115,11 @@ enum bisquemop_line_column {
     BISQUEMOP_LINE_WIDTH = 7,      /* the width measured, with plain spaces: never above the box's */
     BISQUEMOP_LINE_DROPPED = 8,    /* how many characters belong to a word dropped here, which no line draws: the line's
                                       last characters */
-    BISQUEMOP_LINE_REACH = 9       /* the offset after the furthest character that the line depends on, and the text's
+    BISQUEMOP_LINE_REACH = 9,      /* the offset after the furthest character that the line depends on, and the text's
                                       length plus 1 if it depends on where the text ends */
+    BISQUEMOP_LINE_CHARS = 10      /* how many characters the text has before the line's start */
 };
-#define BISQUEMOP_LINE_NUMBERS 10 /* how many numbers a line has in a table */
+#define BISQUEMOP_LINE_NUMBERS 11 /* how many numbers a line has in a table */
 
 /* How a line ends. The last line of a text ends by the end of the text, and no other does. */
 enum bisquemop_end {
@@ -237,9 +238,9 @@ uint32_t bisquemop_check_text(const uint8_t *text, uint64_t len, uint64_t *value
 uint32_t bisquemop_tokens(const uint8_t *text, uint64_t len, uint32_t *tokens, uint64_t tokens_len, uint64_t *value);
 
 /*
- * Lays the `len` bytes at `text` by the thirteen settings, and writes ten numbers (enum bisquemop_line_column) for each
- * line to `table`, which has `table_len` numbers. One line more than the text has bytes, 10 * (len + 1) numbers, is
- * surely enough. There is always a line, though the text be empty. Numbers past the last line written keep what they
+ * Lays the `len` bytes at `text` by the thirteen settings, and writes eleven numbers (enum bisquemop_line_column) for
+ * each line to `table`, which has `table_len` numbers. One line more than the text has bytes, 11 * (len + 1) numbers,
+ * is surely enough. There is always a line, though the text be empty. Numbers past the last line written keep what they
  * held. The numbers do not depend on the spacings, the heights, the top and the vertical alignment. Returns
  *   BISQUEMOP_OK                    done; *value is how many lines were written
  *   BISQUEMOP_SETTING_OUT_OF_RANGE  as by bisquemop_check_settings; *value is 0
@@ -298,7 +299,8 @@ static inline uint32_t bisquemop_settings_layout_events(const struct bisquemop_s
  * this: the last reach, which is the text's length plus 1, is 1 to 65,536; starts rise strictly from 0, and none passes
  * the text's length or the reach before it; end types are known, and the last line and no other ends by the end of the
  * text; no reach passes the last one; a rest ends above its line's start, and at most at the text's length and the
- * reach before it, and counts at most its bytes; line 0 has no rest. They look at no line past the count.
+ * reach before it, and counts at most its bytes; line 0 has no rest; the characters before a line rise strictly from 0,
+ * and are at most its start. They look at no line past the count.
  */
 
 /*
@@ -327,8 +329,9 @@ uint32_t bisquemop_first_affected(const uint32_t *table, uint64_t table_len, uin
  *
  * Lines before the first affected one are not touched. From there on lines are laid until one is to start, and with the
  * same rest, where a line of the old text that began at `b` or later has come to stand: the old lines from that one on
- * follow, with their offsets moved. Numbers past the new last line keep what they held. *laid, a uint64_t of the
- * caller's that must not be NULL, is how many lines were laid, and keeps what it held if the call refuses. Returns
+ * follow, with their offsets and their counts of characters moved. Numbers past the new last line keep what they held.
+ * *laid, a uint64_t of the caller's that must not be NULL, is how many lines were laid, and keeps what it held if the
+ * call refuses. Returns
  *   BISQUEMOP_OK                    done; *value is how many lines the table now holds
  *   BISQUEMOP_SETTING_OUT_OF_RANGE  as by bisquemop_check_settings; *value is 0
  *   BISQUEMOP_UNKNOWN_ALIGNMENT     as by bisquemop_check_settings; *value is the number that was given

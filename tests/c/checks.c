@@ -63,6 +63,8 @@ int main(int count, char **words)
     test_wraps();
     printf("texts in their boxes\n");
     test_inside();
+    printf("characters before lines\n");
+    test_characters();
     printf("%lu spoiled tables, seed %lu\n", edits, seed);
     test_spoiled(edits, seed);
 #ifndef SMALL_MEMORY

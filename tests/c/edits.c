@@ -83,9 +83,11 @@ static void one_edit(const char *what, struct bisquemop_settings s, size_t most)
     uint64_t first = affected_line(table, lines, e.a);
     expect_affected(what, table, NUMBERS * lines, lines, e.a, e.b, e.inserted, BISQUEMOP_OK, first);
     expect_height(what, s, table, NUMBERS * lines, lines, BISQUEMOP_OK, height_of(s));
-    /* the lines before it, and the start and the rest of the line itself */
+    /* the lines before it, and the start, the rest and the characters before the line itself */
     size_t same = NUMBERS * first + BISQUEMOP_LINE_REST_COUNT + 1;
-    expect(what, memcmp(table, fresh, same * sizeof *table) == 0);
+    uint32_t before = line_number(table, first, BISQUEMOP_LINE_CHARS);
+    expect(what, memcmp(table, fresh, same * sizeof *table) == 0 &&
+                     before == line_number(fresh, first, BISQUEMOP_LINE_CHARS));
 
     size_t start = line_number(table, first, BISQUEMOP_LINE_START);
     struct relay given = {edited + start, new_len - start, table, 0, lines, e};

@@ -40,7 +40,7 @@ static void test_example(const char *what, struct bisquemop_settings s, const ui
 
 static void test_examples(void)
 {
-    static const uint32_t line[LINE] = {0, 0, 0, 2, 0, 6, 0, 0, 0, 1};
+    static const uint32_t line[LINE] = {0, 0, 0, 2, 0, 6, 0, 0, 0, 1, 0};
     each_example(test_example);
     drawing_is("no bytes at NULL", laid(6, 30, LEFT, 1, DROP), NULL, 0, line, 1, NULL, 0);
 }

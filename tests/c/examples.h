@@ -14,7 +14,7 @@ enum { SPACE = BISQUEMOP_DRAWN_SPACE, PRINTED, MOVE };
 struct bisquemop_settings laid(uint32_t glyph, uint32_t width, uint32_t alignment, uint32_t leading, uint32_t wrap);
 
 /*
- * A line: start, rest end, rest count, end type, left, space width, extra, width, dropped, reach.
+ * A line: start, rest end, rest count, end type, left, space width, extra, width, dropped, reach, characters before.
  * An event: kind, start, end, count, width, x.
  */
 struct example {

@@ -94,6 +94,7 @@ void test_again(void);
 void test_refused(void);
 void test_wraps(void);
 void test_inside(void);
+void test_characters(void);
 void test_spoiled(unsigned long tables, unsigned long seed);
 void test_edits(unsigned long edits, unsigned long seed);
 

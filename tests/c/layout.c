@@ -70,7 +70,7 @@ static void test_refusals(void)
 /* What height and y take plays no part. */
 static void test_settings_that_do_not_matter(void)
 {
-    static const uint32_t expected[] = {0, 0, 0, 3, 0, 6, 0, 12, 0, 7, 3, 0, 0, 2, 0, 6, 0, 18, 0, 7};
+    static const uint32_t expected[] = {0, 0, 0, 3, 0, 6, 0, 12, 0, 7, 0, /**/ 3, 0, 0, 2, 0, 6, 0, 18, 0, 7, 3};
     static const struct bisquemop_settings list[] = {
         {6, 30, 24, 0, 0, 1, 0, -4096, LEFT, BISQUEMOP_VERTICAL_TOP, 1, 0, DROP},
         {6, 30, 24, 4096, 4096, 64, 4096, 4096, LEFT, BISQUEMOP_VERTICAL_BOTTOM, 1, 0, WAIT},
@@ -87,7 +87,7 @@ static void test_names(void)
            BISQUEMOP_LINE_START == 0 && BISQUEMOP_LINE_REST_END == 1 && BISQUEMOP_LINE_REST_COUNT == 2 &&
                BISQUEMOP_LINE_END == 3 && BISQUEMOP_LINE_LEFT == 4 && BISQUEMOP_LINE_SPACE == 5 &&
                BISQUEMOP_LINE_EXTRA == 6 && BISQUEMOP_LINE_WIDTH == 7 && BISQUEMOP_LINE_DROPPED == 8 &&
-               BISQUEMOP_LINE_REACH == 9 && BISQUEMOP_LINE_NUMBERS == 10);
+               BISQUEMOP_LINE_REACH == 9 && BISQUEMOP_LINE_CHARS == 10 && BISQUEMOP_LINE_NUMBERS == 11);
     expect("the names of the end types", BISQUEMOP_END_NEW_LINE == 0 && BISQUEMOP_END_CARRIAGE_RETURN == 1 &&
                                              BISQUEMOP_END_END_OF_TEXT == 2 && BISQUEMOP_END_LINE_BREAK == 3);
     expect("the names of the later refusals", BISQUEMOP_BAD_LINE == 5 && BISQUEMOP_BAD_EDIT == 6 &&

@@ -1,6 +1,7 @@
 #include "long_texts.h"
 
 #include "examples.h"
+#include "rules.h"
 
 #include <string.h>
 
@@ -18,10 +19,22 @@ static void begin(const char *what, struct bisquemop_settings s, const char *uni
     }
 }
 
+/* How many characters there are before an offset, counted on from the last line. */
+static uint32_t characters_before(uint32_t start)
+{
+    if (made.count == 0) {
+        return characters_in(made.text, start);
+    }
+    uint32_t last = line_number(made.lines, made.count - 1, BISQUEMOP_LINE_START);
+    return line_number(made.lines, made.count - 1, BISQUEMOP_LINE_CHARS) +
+           characters_in(made.text + last, start - last);
+}
+
 /* One line more, which has no rest, no extra pixels and drops nothing. */
 static void add_line(uint32_t start, uint32_t end, uint32_t left, uint32_t space, uint32_t width, uint32_t reach)
 {
-    const uint32_t line[BISQUEMOP_LINE_NUMBERS] = {start, 0, 0, end, left, space, 0, width, 0, reach};
+    const uint32_t line[BISQUEMOP_LINE_NUMBERS] = {
+        start, 0, 0, end, left, space, 0, width, 0, reach, characters_before(start)};
     memcpy(made.lines + BISQUEMOP_LINE_NUMBERS * made.count++, line, sizeof line);
 }
 

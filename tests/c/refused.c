@@ -15,7 +15,7 @@ static const struct bisquemop_settings plain = {6, 18, 24, 10, 3, 8, 40, 0, BISQ
                                                 BISQUEMOP_VERTICAL_TOP, 1, 0, 0};
 
 /* The two lines of "abc   d", of which the second has a rest of two bytes, and room for more. */
-static const uint32_t table[12 * NUMBERS] = {0, 0, 0, 3, 0, 6, 0, 18, 0, 7, /**/ 4, 6, 2, 2, 0, 6, 0, 18, 0, 8};
+static const uint32_t table[12 * NUMBERS] = {0, 0, 0, 3, 0, 6, 0, 18, 0, 7, 0, /**/ 4, 6, 2, 2, 0, 6, 0, 18, 0, 8, 4};
 
 /* A refusal comes after those of settings, and tables of each size are refused for the same. */
 static void expect_after_settings(const char *what, struct relay given, uint32_t number, uint64_t value)

@@ -35,6 +35,17 @@ static int start_is_good(const uint32_t *table, uint64_t k, uint32_t length)
            start <= line_number(table, k - 1, BISQUEMOP_LINE_REACH);
 }
 
+/* Characters before a line rise from 0, and are no more than the bytes before it. */
+static int characters_are_good(const uint32_t *table, uint64_t k)
+{
+    uint32_t characters = line_number(table, k, BISQUEMOP_LINE_CHARS);
+    if (k == 0) {
+        return characters == 0;
+    }
+    return characters > line_number(table, k - 1, BISQUEMOP_LINE_CHARS) &&
+           characters <= line_number(table, k, BISQUEMOP_LINE_START);
+}
+
 uint64_t bad_line(const uint32_t *table, size_t table_len, uint64_t lines)
 {
     if (lines == 0 || lines > table_len / NUMBERS) {
@@ -48,7 +59,7 @@ uint64_t bad_line(const uint32_t *table, size_t table_len, uint64_t lines)
         uint32_t end = line_number(table, k, BISQUEMOP_LINE_END);
         if (!start_is_good(table, k, last - 1) || !rest_is_good(table, k, last - 1) || end > 3 ||
             (end == BISQUEMOP_END_END_OF_TEXT) != (k + 1 == lines) ||
-            line_number(table, k, BISQUEMOP_LINE_REACH) > last) {
+            line_number(table, k, BISQUEMOP_LINE_REACH) > last || !characters_are_good(table, k)) {
             return k;
         }
     }
@@ -70,21 +81,25 @@ static int is_boundary(const struct relay *given, uint64_t at)
     return at == given->part_len || (at < given->part_len && (given->part[at] & 0xC0) != 0x80);
 }
 
+uint32_t characters_in(const uint8_t *text, size_t bytes)
+{
+    uint32_t characters = 0;
+    for (size_t i = 0; i < bytes; i++) {
+        characters += (text[i] & 0xC0) != 0x80;
+    }
+    return characters;
+}
+
 /* Does the rest of line k end at a boundary of the part, and count no more than the characters up to there. */
 static int rest_fits(const struct relay *given, uint64_t k)
 {
-    uint32_t end = line_number(given->table, k, BISQUEMOP_LINE_REST_END), characters = 0;
+    uint32_t end = line_number(given->table, k, BISQUEMOP_LINE_REST_END);
     if (end == 0) {
         return 1;
     }
     uint32_t at = end - line_number(given->table, k, BISQUEMOP_LINE_START);
-    if (!is_boundary(given, at)) {
-        return 0;
-    }
-    for (uint32_t i = 0; i < at; i++) {
-        characters += (given->part[i] & 0xC0) != 0x80;
-    }
-    return line_number(given->table, k, BISQUEMOP_LINE_REST_COUNT) <= characters;
+    return is_boundary(given, at) &&
+           line_number(given->table, k, BISQUEMOP_LINE_REST_COUNT) <= characters_in(given->part, at);
 }
 
 static struct refused refused_by(uint32_t number, uint64_t value)
@@ -143,9 +158,10 @@ int64_t length_change(struct edit e)
     return (int64_t)e.inserted - ((int64_t)e.b - e.a);
 }
 
-void move_line(const uint32_t *line, int64_t by, uint32_t *moved)
+void move_line(const uint32_t *line, int64_t by, int64_t characters, uint32_t *moved)
 {
     memcpy(moved, line, NUMBERS * sizeof *line);
+    moved[BISQUEMOP_LINE_CHARS] = (uint32_t)(line[BISQUEMOP_LINE_CHARS] + characters);
     moved[BISQUEMOP_LINE_START] = (uint32_t)(line[BISQUEMOP_LINE_START] + by);
     moved[BISQUEMOP_LINE_REACH] = (uint32_t)(line[BISQUEMOP_LINE_REACH] + by);
     if (line[BISQUEMOP_LINE_REST_END] != 0) {
@@ -174,7 +190,7 @@ uint64_t lines_laid(const struct relay *given, uint64_t first, const uint32_t *n
         if (j == given->lines) {
             break;
         }
-        move_line(given->table + NUMBERS * j, length_change(given->edit), moved);
+        move_line(given->table + NUMBERS * j, length_change(given->edit), 0, moved);
         /* start, rest end and rest count are the first three numbers */
         if (memcmp(moved, line, 3 * sizeof *line) == 0) {
             *met = j;

@@ -29,8 +29,12 @@ struct refused refused_before(const struct relay *given);
 uint64_t lines_laid(const struct relay *given, uint64_t first, const uint32_t *new_table, uint64_t new_lines,
                     uint64_t *met);
 
-/* A line with its start, the end of its rest if it has one, and its reach moved by so much. */
-void move_line(const uint32_t *line, int64_t by, uint32_t *moved);
+/* A line with its start, the end of its rest if it has one, and its reach moved by so many bytes, and what it counts
+   before it by so many characters. */
+void move_line(const uint32_t *line, int64_t by, int64_t characters, uint32_t *moved);
+
+/* How many characters begin in so many bytes of a text that is UTF-8. */
+uint32_t characters_in(const uint8_t *text, size_t bytes);
 
 /* By how much an edit changes the text's length. */
 int64_t length_change(struct edit e);

@@ -50,6 +50,16 @@ static uint32_t another(uint32_t n)
     }
 }
 
+/* How many characters line k may have before it: more than the line before, and at most its start. */
+static uint32_t random_characters(uint64_t k, uint32_t start)
+{
+    if (k == 0) {
+        return 0;
+    }
+    uint32_t before = line_number(table, k - 1, BISQUEMOP_LINE_CHARS);
+    return before + 1 + below(start - before);
+}
+
 /* A line with this start, where the next one starts at `next` or, if it is the last, nowhere. */
 static void random_line(uint64_t k, uint32_t start, uint32_t next, int last)
 {
@@ -65,6 +75,7 @@ static void random_line(uint64_t k, uint32_t start, uint32_t next, int last)
         line[BISQUEMOP_LINE_REST_END] == 0 ? 0 : below(line[BISQUEMOP_LINE_REST_END] - start + 1);
     line[BISQUEMOP_LINE_END] = last ? BISQUEMOP_END_END_OF_TEXT : below(2) ? BISQUEMOP_END_LINE_BREAK : below(2);
     line[BISQUEMOP_LINE_REACH] = last ? length + 1 : below(2) ? next : next + below(length + 2 - next);
+    line[BISQUEMOP_LINE_CHARS] = random_characters(k, start);
 }
 
 /* A table that is well formed, and answers how many lines it has. */
@@ -169,6 +180,26 @@ static void spoil(struct relay *given, size_t numbers)
     }
 }
 
+/* How many characters stand before an offset: those before the first affected line, by its own number, and the part's
+   from there. */
+static uint32_t characters_before(const struct relay *given, uint64_t first, uint32_t offset)
+{
+    uint32_t base = line_number(given->table, first, BISQUEMOP_LINE_START);
+    return line_number(given->table, first, BISQUEMOP_LINE_CHARS) + characters_in(given->part, offset - base);
+}
+
+/* Does each line laid say how many characters stand before it. */
+static int counted_truly(const struct relay *given, const uint32_t *after, uint64_t first, uint64_t laid)
+{
+    for (uint64_t k = first; k < first + laid; k++) {
+        if (line_number(after, k, BISQUEMOP_LINE_CHARS) !=
+            characters_before(given, first, line_number(after, k, BISQUEMOP_LINE_START))) {
+            return 0;
+        }
+    }
+    return 1;
+}
+
 /*
  * The lines laid, those of the table after the call from `first` on: the first starts, and with the same rest, where
  * the old one did, and from the first without a rest on they are the layout of the text from there.
@@ -196,7 +227,7 @@ static int laid_truly(struct bisquemop_settings s, const struct relay *given, co
     }
     for (uint64_t i = 0; k + i < end; i++) {
         uint32_t moved[NUMBERS];
-        move_line(fresh + NUMBERS * i, start, moved);
+        move_line(fresh + NUMBERS * i, start, characters_before(given, first, start), moved);
         if (memcmp(moved, after + NUMBERS * (k + i), sizeof moved) != 0) {
             return 0;
         }
@@ -204,19 +235,40 @@ static int laid_truly(struct bisquemop_settings s, const struct relay *given, co
     return 1;
 }
 
+/* By how many characters the old lines from `met` on are moved: what the first of them counts now, less what it did. */
+static int64_t characters_moved(const struct relay *given, uint64_t first, uint64_t met)
+{
+    int64_t start = line_number(given->table, met, BISQUEMOP_LINE_START) + length_change(given->edit);
+    return (int64_t)characters_before(given, first, (uint32_t)start) -
+           line_number(given->table, met, BISQUEMOP_LINE_CHARS);
+}
+
+/* Is a table well formed, but for the characters: old lines of no text that are moved may count more than there are
+   bytes. */
+static int formed_else(const uint32_t *after, size_t table_len, uint64_t lines)
+{
+    static uint32_t else_same[NUMBERS * LINES];
+    memcpy(else_same, after, NUMBERS * lines * sizeof *after);
+    for (uint64_t k = 0; k < lines; k++) {
+        else_same[NUMBERS * k + BISQUEMOP_LINE_CHARS] = line_number(after, k, BISQUEMOP_LINE_START);
+    }
+    return bad_line(else_same, table_len, lines) == NO_BAD_LINE;
+}
+
 /* The table after the call: the old lines before `first`, those laid, old lines moved, and what the table held. */
 static int treated_truly(struct bisquemop_settings s, const struct relay *given, const uint32_t *after, uint64_t value,
                          uint64_t laid)
 {
     uint64_t first = affected_line(given->table, given->lines, given->edit.a), met;
-    if (bad_line(after, given->table_len, value) != NO_BAD_LINE || value < first + laid ||
+    if (!formed_else(after, given->table_len, value) || value < first + laid ||
         lines_laid(given, first, after, value, &met) != laid || value != first + laid + (given->lines - met) ||
-        !laid_truly(s, given, after, first, laid, value)) {
+        !laid_truly(s, given, after, first, laid, value) || !counted_truly(given, after, first, laid)) {
         return 0;
     }
+    int64_t characters = met < given->lines ? characters_moved(given, first, met) : 0;
     for (uint64_t i = 0; met + i < given->lines; i++) {
         uint32_t moved[NUMBERS];
-        move_line(given->table + NUMBERS * (met + i), length_change(given->edit), moved);
+        move_line(given->table + NUMBERS * (met + i), length_change(given->edit), characters, moved);
         if (memcmp(moved, after + NUMBERS * (first + laid + i), sizeof moved) != 0) {
             return 0;
         }

@@ -28,15 +28,17 @@ static uint64_t lay(struct bisquemop_settings s, const uint8_t *text, size_t len
     return lines;
 }
 
-/* A line by its start, rest end, rest count, end type and reach. */
-#define LINE(start, end, count, ending, reach) start, end, count, ending, 0, 6, 0, 0, 0, reach
+/* A line by its start, rest end, rest count, end type and reach; with any characters before it, and with as few as a
+   first or a second line can have. */
+#define LINE_AFTER(chars, start, end, count, ending, reach) start, end, count, ending, 0, 6, 0, 0, 0, reach, chars
+#define LINE(start, end, count, ending, reach) LINE_AFTER((start) > 0, start, end, count, ending, reach)
 
 #define GOOD UINT64_MAX
 
 struct table_example {
     uint64_t lines;
     size_t held; /* how many lines the table has room for */
-    uint32_t numbers[2 * NUMBERS];
+    uint32_t numbers[3 * NUMBERS];
     uint64_t bad; /* the first bad line, or GOOD */
 };
 
@@ -51,8 +53,10 @@ static const struct table_example table_examples[] = {
     {1, 1, {LINE(0, 0, 0, 2, UINT32_MAX)}, 0},
     {2, 2, {LINE(0, 0, 0, 3, 7), LINE(4, 0, 0, 2, 0)}, 0},
     /* a first start that is not 0, a start that does not rise, one past the reach before it, one past the text */
-    {1, 1, {LINE(1, 0, 0, 2, 8)}, 0},
+    {1, 1, {LINE_AFTER(0, 1, 0, 0, 2, 8)}, 0},
     {2, 2, {LINE(0, 0, 0, 3, 7), LINE(0, 0, 0, 2, 8)}, 1},
+    {3, 3, {LINE(0, 0, 0, 3, 7), LINE(4, 0, 0, 3, 8), LINE_AFTER(2, 4, 0, 0, 2, 8)}, 2},
+    {3, 3, {LINE(0, 0, 0, 3, 7), LINE(4, 0, 0, 3, 8), LINE_AFTER(2, 5, 0, 0, 2, 8)}, GOOD},
     {2, 2, {LINE(0, 0, 0, 3, 3), LINE(4, 0, 0, 2, 8)}, 1},
     {2, 2, {LINE(0, 0, 0, 3, 8), LINE(8, 0, 0, 2, 8)}, 1},
     {2, 2, {LINE(0, 0, 0, 3, 8), LINE(7, 0, 0, 2, 8)}, GOOD},
@@ -72,6 +76,21 @@ static const struct table_example table_examples[] = {
     {2, 2, {LINE(0, 0, 0, 3, 7), LINE(4, 6, 3, 2, 8)}, 1},
     {2, 2, {LINE(0, 0, 0, 3, 7), LINE(4, 0, 1, 2, 8)}, 1},
     {2, 2, {LINE(0, 0, 0, 3, 7), LINE(4, 6, 0, 2, 8)}, GOOD},
+    /* characters before line 0; as many as before the line before; fewer; more than bytes, by one and by many */
+    {1, 1, {LINE_AFTER(1, 0, 0, 0, 2, 8)}, 0},
+    {1, 1, {LINE_AFTER(UINT32_MAX, 0, 0, 0, 2, 8)}, 0},
+    {2, 2, {LINE(0, 0, 0, 3, 7), LINE_AFTER(0, 4, 0, 0, 2, 8)}, 1},
+    {3, 3, {LINE(0, 0, 0, 3, 7), LINE_AFTER(2, 4, 0, 0, 3, 8), LINE_AFTER(2, 5, 0, 0, 2, 8)}, 2},
+    {3, 3, {LINE(0, 0, 0, 3, 7), LINE_AFTER(2, 4, 0, 0, 3, 8), LINE_AFTER(1, 5, 0, 0, 2, 8)}, 2},
+    {2, 2, {LINE(0, 0, 0, 3, 7), LINE_AFTER(5, 4, 0, 0, 2, 8)}, 1},
+    {2, 2, {LINE(0, 0, 0, 3, 7), LINE_AFTER(65536, 4, 0, 0, 2, 8)}, 1},
+    {2, 2, {LINE(0, 0, 0, 3, 7), LINE_AFTER(UINT32_MAX, 4, 0, 0, 2, 8)}, 1},
+    {3, 3, {LINE(0, 0, 0, 3, 7), LINE_AFTER(5, 4, 0, 0, 3, 8), LINE_AFTER(6, 6, 0, 0, 2, 8)}, 1},
+    {3, 3, {LINE_AFTER(1, 0, 0, 0, 3, 7), LINE_AFTER(2, 4, 0, 0, 3, 8), LINE_AFTER(3, 6, 0, 0, 2, 8)}, 0},
+    {3, 3, {LINE(0, 0, 0, 3, 7), LINE_AFTER(4, 4, 0, 0, 3, 8), LINE_AFTER(5, 6, 0, 0, 2, 8)}, GOOD},
+    /* a line's characters and another's fault: the first of the two lines is told */
+    {3, 3, {LINE(0, 0, 0, 3, 7), LINE_AFTER(5, 4, 0, 0, 3, 8), LINE_AFTER(2, 4, 0, 0, 2, 8)}, 1},
+    {3, 3, {LINE(0, 0, 0, 3, 7), LINE(4, 4, 0, 3, 8), LINE_AFTER(1, 5, 0, 0, 2, 8)}, 1},
     /* lines past the count may be anything */
     {1, 2, {LINE(0, 0, 0, 2, 8), LINE(9, 9, 9, 9, 9)}, GOOD},
 };

@@ -59,7 +59,8 @@ static int same_up_to(uint64_t k)
     const uint32_t *dropping = by_dropping.table + LINE * k, *waiting = by_waiting.table + LINE * k;
     return k < by_waiting.lines && memcmp(by_dropping.table, by_waiting.table, LINE * k * sizeof(uint32_t)) == 0 &&
            memcmp(dropping, waiting, BISQUEMOP_LINE_DROPPED * sizeof(uint32_t)) == 0 &&
-           dropping[BISQUEMOP_LINE_REACH] == waiting[BISQUEMOP_LINE_REACH];
+           dropping[BISQUEMOP_LINE_REACH] == waiting[BISQUEMOP_LINE_REACH] &&
+           dropping[BISQUEMOP_LINE_CHARS] == waiting[BISQUEMOP_LINE_CHARS];
 }
 
 static void one_text(const char *what, struct bisquemop_settings s)
