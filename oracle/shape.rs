@@ -57,7 +57,7 @@ pub const BY_CARRIAGE_RETURN: u32 = 1;
 pub const BY_END_OF_TEXT: u32 = 2;
 pub const BY_LINE_BREAK: u32 = 3;
 
-/// The eight of a line's ten numbers that the crate has too.
+/// The eight of a line's eleven numbers that the crate has too.
 #[derive(Clone, Copy, Debug, PartialEq, Eq)]
 pub struct Line {
     pub start: u32,
@@ -71,12 +71,17 @@ pub struct Line {
     pub width: u32,
 }
 
-/// A line's other two numbers, which the crate does not have.
+/// A line's other three numbers, which the crate does not have.
 #[derive(Clone, Copy, Debug, PartialEq, Eq)]
 pub struct Extent {
     pub dropped: u32,
     pub reach: u32,
+    /// The characters before the line's start.
+    pub chars: u32,
 }
+
+/// How many numbers a line has in a table.
+pub const LINE_NUMBERS: usize = 11;
 
 /// The kinds of event.
 pub const SPACE: u32 = 0;
@@ -106,6 +111,13 @@ pub struct Laid {
 }
 
 impl Laid {
+    /// The numbers of each line as a table has them, where the side has them all.
+    pub fn entries(&self) -> impl Iterator<Item = [u32; LINE_NUMBERS]> + '_ {
+        self.lines.iter().zip(&self.extents).map(|(l, e)| {
+            [l.start, l.rest_end, l.rest_count, l.end, l.left as u32, l.space, l.extra, l.width, e.dropped, e.reach, e.chars]
+        })
+    }
+
     pub fn clear(&mut self) {
         self.lines.clear();
         self.extents.clear();

@@ -3,7 +3,7 @@
 
 use crate::bisquemop::{self, Edit};
 use embedded_text_wrapping::plugin::probe as wrapping;
-use shape::Settings;
+use shape::{Settings, LINE_NUMBERS};
 use std::hint::black_box;
 
 /// A clue a line. devices/bench.c lays the same on other machines.
@@ -72,7 +72,7 @@ struct Room {
 
 impl Room {
     fn new() -> Room {
-        Room { table: vec![0; 10 * 65_536], events: vec![0; 6 * 131_072] }
+        Room { table: vec![0; LINE_NUMBERS * 65_536], events: vec![0; 6 * 131_072] }
     }
 }
 
@@ -109,7 +109,7 @@ fn typed(settings: &Settings, text: &str, place: &str, times: u32, room: &mut Ro
     for _ in 0..times {
         for (whole, edit) in [(longer.as_str(), Edit { a: at, b: at, inserted: 1 }), (text, Edit { a: at, b: at + 1, inserted: 0 })] {
             let first = bisquemop::first_affected(&room.table, lines, edit).expect("a good edit") as usize;
-            let part = &whole.as_bytes()[room.table[10 * first] as usize..];
+            let part = &whole.as_bytes()[room.table[LINE_NUMBERS * first] as usize..];
             let again = bisquemop::lay_again(settings, part, &mut room.table, lines, edit).expect("a good edit");
             lines = again.lines;
             laid += again.laid;

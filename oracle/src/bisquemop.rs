@@ -159,7 +159,7 @@ pub fn tokens(text: &[u8], tokens: &mut [u32]) -> Result<u64, Refusal> {
     answer(number, value)
 }
 
-/// How many lines were written, ten numbers each.
+/// How many lines were written, eleven numbers each.
 pub fn layout(settings: &Settings, text: &[u8], table: &mut [u32]) -> Result<u64, Refusal> {
     let mut value = 0;
     // SAFETY: pointers and lengths are those of two slices, one lent for reading and one for writing, which cannot overlap.
@@ -168,7 +168,7 @@ pub fn layout(settings: &Settings, text: &[u8], table: &mut [u32]) -> Result<u64
     answer(number, value)
 }
 
-/// How many lines were written, ten numbers each, and how many events, six numbers each.
+/// How many lines were written, eleven numbers each, and how many events, six numbers each.
 pub fn layout_events(settings: &Settings, text: &[u8], table: &mut [u32], events: &mut [u32]) -> Result<(u64, u64), Refusal> {
     let (mut value, mut count) = (0, UNWRITTEN);
     // SAFETY: pointers and lengths are those of three slices, one lent for reading and two for writing, which cannot overlap.

@@ -4,9 +4,12 @@
 use crate::bisquemop::{self, Edit, Refusal};
 use crate::examples::Claims;
 use crate::EXAMPLE;
-use shape::Settings;
+use shape::{Settings, LINE_NUMBERS};
 
 const UNTOUCHED: u32 = 7;
+
+/// Which number of a line is the characters before it.
+const CHARS: usize = 10;
 
 /// What a call answers over a buffer of some numbers, and whether it left the buffer alone.
 fn lent<T>(numbers: usize, call: impl FnOnce(&mut [u32]) -> T) -> (T, bool) {
@@ -35,7 +38,7 @@ fn refused() -> Vec<(Settings, Vec<u8>, Refusal)> {
 
 /// The table of a text that surely has room.
 fn table_of(settings: &Settings, text: &str) -> (Vec<u32>, u64) {
-    let mut table = vec![UNTOUCHED; 10 * (text.len() + 1)];
+    let mut table = vec![UNTOUCHED; LINE_NUMBERS * (text.len() + 1)];
     let lines = bisquemop::layout(settings, text.as_bytes(), &mut table).expect("a good text and good settings");
     (table, lines)
 }
@@ -72,16 +75,16 @@ fn layouts(claims: &mut Claims) {
         let found = lent(400, |table| lent(400, |events| bisquemop::layout_events(&settings, &text, table, events)));
         claims.equal("layout_events", found, ((Err(refusal), true), true));
     }
-    // Two lines and three events: 20 numbers and 18.
+    // Two lines and three events: 22 numbers and 18.
     let text = b"ab cde";
-    claims.equal("layout", lent(20, |table| bisquemop::layout(&EXAMPLE, text, table)), (Ok(2), false));
-    let small = lent(19, |table| bisquemop::layout(&EXAMPLE, text, table));
+    claims.equal("layout", lent(22, |table| bisquemop::layout(&EXAMPLE, text, table)), (Ok(2), false));
+    let small = lent(21, |table| bisquemop::layout(&EXAMPLE, text, table));
     claims.equal("layout in too small a table", small, (Err(Refusal::TooSmall(2)), true));
     let with_events =
         |lines, drawn| lent(lines, |table| lent(drawn, |events| bisquemop::layout_events(&EXAMPLE, text, table, events)));
-    claims.equal("layout_events", with_events(20, 18), ((Ok((2, 3)), false), false));
-    claims.equal("layout_events in too small a table", with_events(19, 0), ((Err(Refusal::TooSmall(2)), true), true));
-    claims.equal("layout_events in too small a buffer", with_events(20, 17), ((Err(Refusal::TooSmall(3)), true), true));
+    claims.equal("layout_events", with_events(22, 18), ((Ok((2, 3)), false), false));
+    claims.equal("layout_events in too small a table", with_events(21, 0), ((Err(Refusal::TooSmall(2)), true), true));
+    claims.equal("layout_events in too small a buffer", with_events(22, 17), ((Err(Refusal::TooSmall(3)), true), true));
 }
 
 fn tables(claims: &mut Claims) {
@@ -93,6 +96,15 @@ fn tables(claims: &mut Claims) {
     claims.equal("first_affected of a part of the lines", affected(2, edit(3, 3, 1)), Err(Refusal::BadLine(1)));
     claims.equal("first_affected of an edit turned round", affected(lines, edit(4, 3, 1)), Err(Refusal::BadEdit));
     claims.equal("first_affected of an edit past the end", affected(lines, edit(3, 9, 1)), Err(Refusal::BadEdit));
+    for (line, chars) in [(0, 1), (1, 0), (2, 3), (2, 2), (1, 4), (2, u32::MAX)] {
+        let mut bad = table.clone();
+        bad[LINE_NUMBERS * line + CHARS] = chars;
+        let found = bisquemop::first_affected(&bad, lines, edit(3, 3, 1));
+        claims.equal("first_affected of bad counts of characters", found, Err(Refusal::BadLine(line as u64)));
+        claims.equal("height of bad counts of characters", bisquemop::height(&EXAMPLE, &bad, lines), {
+            Err(Refusal::BadLine(line as u64))
+        });
+    }
     let long = affected(lines, edit(3, 3, 65_535));
     claims.equal("first_affected of a long edit", long, Err(Refusal::TextTooLong(65_543)));
     let (one, count) = table_of(&EXAMPLE, "ab cde");
@@ -117,13 +129,13 @@ fn again(claims: &mut Claims) {
     let mut laid = table.clone();
     let answer = bisquemop::lay_again(&EXAMPLE, b"xbb\ncc", &mut laid, lines, edit);
     claims.equal("lay_again, the scope's example", answer, Ok(bisquemop::Again { lines: 3, laid: 1 }));
-    let starts: Vec<u32> = laid.chunks_exact(10).take(3).map(|line| line[0]).collect();
+    let starts: Vec<u32> = laid.chunks_exact(LINE_NUMBERS).take(3).map(|line| line[0]).collect();
     claims.equal("lay_again, the scope's example: starts", starts, vec![0, 3, 7]);
 
     let mut refuse = |words, settings: &Settings, part: &[u8], room: usize, lines, edit, refusal| {
-        let mut lent = table[..10 * room].to_vec();
+        let mut lent = table[..LINE_NUMBERS * room].to_vec();
         let answer = bisquemop::lay_again(settings, part, &mut lent, lines, edit);
-        claims.equal(words, (answer, lent == table[..10 * room]), (Err(refusal), true));
+        claims.equal(words, (answer, lent == table[..LINE_NUMBERS * room]), (Err(refusal), true));
     };
     let bad = Settings { tab: 4097, ..EXAMPLE };
     refuse("lay_again at a bad setting", &bad, b"xbb\ncc", 9, lines, edit, Refusal::SettingOutOfRange);

@@ -10,8 +10,8 @@ use std::panic::{catch_unwind, AssertUnwindSafe};
 use embedded_text_checked::plugin::probe as checked;
 use embedded_text_wrapping::plugin::probe as wrapping;
 
-/// What two layouts differ in first, in words; nothing if they are the same. Dropped characters, reach and which line an event
-/// belongs to are compared where both sides have them.
+/// What two layouts differ in first, in words; nothing if they are the same. Dropped characters, reach, the characters before a
+/// line and which line an event belongs to are compared where both sides have them.
 pub fn difference(one: &Laid, other: &Laid) -> Option<&'static str> {
     for (a, b) in one.lines.iter().zip(&other.lines) {
         if a != b {
@@ -34,6 +34,9 @@ pub fn difference(one: &Laid, other: &Laid) -> Option<&'static str> {
         }
         if a.reach != b.reach {
             return Some("reach");
+        }
+        if a.chars != b.chars {
+            return Some("characters before it");
         }
     }
     if one.lines.len() != other.lines.len() {
@@ -100,6 +103,7 @@ impl Sides {
         tally.cases += 1;
         let beyond = model::lay(settings, RULES, &self.text, &mut self.measure, &mut self.model);
         self.inside(settings, text, &self.model, tally);
+        self.counts(settings, text, &self.model, tally);
         if glue::splits(text) {
             self.like_no_break(settings, text, deep, tally);
         } else {

@@ -107,9 +107,7 @@ pub fn write(count: u64, seed: u64) -> bool {
             other += 1;
         }
         let Settings { glyph, width, tab, alignment, leading, wrap, .. } = settings;
-        let lines = list(rules.lines.iter().zip(&rules.extents).map(|(l, e)| {
-            row([l.start, l.rest_end, l.rest_count, l.end, l.left as u32, l.space, l.extra, l.width, e.dropped, e.reach])
-        }));
+        let lines = list(rules.entries().map(row));
         let events = list(rules.events.iter().map(|e| row([e.kind, e.start, e.end, e.count, e.width, e.x as u32])));
         let between = if number == 0 { "" } else { "∷ " };
         let sets = format!("sets {glyph} {width} {tab} {alignment} {leading} {wrap}");

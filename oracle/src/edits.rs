@@ -7,7 +7,7 @@ use crate::{model, random, show};
 use shape::*;
 
 /// A line of a table.
-type Entry = [u32; 10];
+type Entry = [u32; LINE_NUMBERS];
 
 const START: usize = 0;
 const REST_END: usize = 1;
@@ -26,7 +26,7 @@ struct Page {
 }
 
 fn numbers(text: &str) -> usize {
-    10 * (text.len() + 3)
+    LINE_NUMBERS * (text.len() + 3)
 }
 
 impl Page {
@@ -37,8 +37,8 @@ impl Page {
     }
 
     fn entries(&self) -> Vec<Entry> {
-        let rows = self.table.chunks_exact(10).take(self.lines as usize);
-        rows.map(|row| row.try_into().expect("ten numbers")).collect()
+        let rows = self.table.chunks_exact(LINE_NUMBERS).take(self.lines as usize);
+        rows.map(|row| row.try_into().expect("as many numbers")).collect()
     }
 }
 
@@ -139,7 +139,7 @@ fn hold(page: &mut Page, change: Change, found: &mut Found) -> Result<(), String
         return Err(format!("a part of a wrong length is answered {answer:?}"));
     }
     if expected.len() > old.len() {
-        let room = 10 * (expected.len() - 1);
+        let room = LINE_NUMBERS * (expected.len() - 1);
         let answer = bisquemop::lay_again(&page.settings, part, &mut page.table[..room], lines, edit);
         if answer != Err(Refusal::TooSmall(expected.len() as u64)) || page.table != before {
             return Err(format!("too small a table is answered {answer:?}"));
@@ -152,7 +152,7 @@ fn hold(page: &mut Page, change: Change, found: &mut Found) -> Result<(), String
     if answer != Ok(Again { lines: fresh.lines, laid }) {
         return Err(format!("laying again answers {answer:?}, and not {} lines, {laid} laid", fresh.lines));
     }
-    let count = 10 * expected.len();
+    let count = LINE_NUMBERS * expected.len();
     if page.table[..count] != fresh.table[..count] {
         return Err(format!("laying again writes {:?}, and not {expected:?}", &page.table[..count]));
     }
@@ -197,11 +197,7 @@ pub fn run(count: u64, seed: u64) -> bool {
         // The text that all the edits came to, by the rules.
         apart.take_apart(&page.text);
         model::lay(&settings, model::Ways::default(), &apart, &mut measure, &mut rules);
-        let both = rules.lines.iter().zip(&rules.extents);
-        let by_rules = both.map(|(l, e)| {
-            [l.start, l.rest_end, l.rest_count, l.end, l.left as u32, l.space, l.extra, l.width, e.dropped, e.reach]
-        });
-        if tally.unexplained.is_empty() && !by_rules.eq(page.entries()) {
+        if tally.unexplained.is_empty() && !rules.entries().eq(page.entries()) {
             Tally::note(&mut tally.unexplained, "the edited text".into(), &settings, &page.text, || show::laid(&rules));
         }
         progress.tell(found.edits, count, &tally);

@@ -87,7 +87,7 @@ fn file(specs: &str, name: &str) -> String {
     std::fs::read_to_string(&path).unwrap_or_else(|cause| panic!("{path}: {cause}"))
 }
 
-/// The first eight of a line's ten numbers, as a table writes them.
+/// The first eight of a line's eleven numbers, as a table writes them.
 fn eight(line: &Line) -> Vec<u32> {
     vec![line.start, line.rest_end, line.rest_count, line.end, line.left as u32, line.space, line.extra, line.width]
 }
@@ -96,10 +96,9 @@ fn six(event: &Event) -> Vec<u32> {
     vec![event.kind, event.start, event.end, event.count, event.width, event.x as u32]
 }
 
-/// All ten numbers of each line.
-fn ten(laid: &Laid) -> Vec<Vec<u32>> {
-    let both = laid.lines.iter().zip(&laid.extents);
-    both.map(|(line, extent)| [eight(line), vec![extent.dropped, extent.reach]].concat()).collect()
+/// All eleven numbers of each line.
+fn eleven(laid: &Laid) -> Vec<Vec<u32>> {
+    laid.entries().map(Vec::from).collect()
 }
 
 /// Holds the library to the same rows.
@@ -107,7 +106,7 @@ fn ten(laid: &Laid) -> Vec<Vec<u32>> {
 fn hold_library(claims: &mut Claims, settings: &Settings, text: &str, lines: &[Vec<u32>], events: Option<&[Vec<u32>]>) {
     let mut laid = Laid::default();
     let answer = crate::library::Library::default().lay(settings, text, &mut laid);
-    let (found, drawn) = (ten(&laid), laid.events.iter().map(six).collect::<Vec<_>>());
+    let (found, drawn) = (eleven(&laid), laid.events.iter().map(six).collect::<Vec<_>>());
     claims.claim(answer.is_ok() && found == lines && events.map_or(true, |events| drawn == events), || {
         let name = format!("{} at {}", show::text(text), show::settings(settings, false));
         format!("layout of {name}\n  library {answer:?} {found:?} {drawn:?}\n  example {lines:?} {events:?}")
@@ -131,14 +130,14 @@ fn hold_crate(claims: &mut Claims, settings: &Settings, text: &str, lines: &[Vec
     hold_events(claims, &name, "crate", &krate, events);
 }
 
-/// Holds the sides to rows of ten numbers, and to rows of six where events are given.
+/// Holds the sides to rows of eleven numbers, and to rows of six where events are given.
 fn hold(claims: &mut Claims, settings: &Settings, text: &str, lines: &[Vec<u32>], events: Option<&[Vec<u32>]>) {
     let name = format!("{} at {}", show::text(text), show::settings(settings, false));
     let (rules, beyond) = by_rules(settings, text);
     if settings.wrap == 0 && !beyond && !glue::splits(text) {
         hold_crate(claims, settings, text, lines, events);
     }
-    let found = ten(&rules);
+    let found = eleven(&rules);
     claims.claim(found == lines, || format!("lines of {name}\n  rules   {found:?}\n  example {lines:?}"));
     hold_events(claims, &name, "rules", &rules, events);
     #[cfg(library)]
@@ -353,6 +352,8 @@ fn scope(claims: &mut Claims, _specs: &str) {
         claim(rows == listed, side, "\"ab cde\" box 30: the listing", &laid);
         let good = laid.extents.iter().all(|extent| (extent.dropped, extent.reach) == (0, 7));
         claim(good, side, "\"ab cde\" box 30: nothing dropped, reach 7", &laid);
+        let chars: Vec<u32> = laid.extents.iter().map(|extent| extent.chars).collect();
+        claim(chars.is_empty() || chars == [0, 3], side, "\"ab cde\" box 30: 0 and 3 characters before the lines", &laid);
     }
     for (side, laid) in sides(&wide(30), "ab cd") {
         claim(starts(&laid) == [0], side, "\"ab cd\" box 30: one line, start 0", &laid);

@@ -43,15 +43,15 @@ impl Library {
         Ok(())
     }
 
-    /// A layout with all ten numbers of each line, and the events.
+    /// A layout with all eleven numbers of each line, and the events.
     pub fn lay(&mut self, settings: &Settings, text: &str, laid: &mut Laid) -> Result<(), Refusal> {
         laid.clear();
         // A line takes a byte, but the last; and a text has no more events than bytes.
-        let table = fresh(&mut self.table, 10 * (text.len() + 1));
+        let table = fresh(&mut self.table, LINE_NUMBERS * (text.len() + 1));
         let events = fresh(&mut self.events, 6 * text.len());
         let (lines, event_count) = bisquemop::layout_events(settings, text.as_bytes(), table, events)?;
         self.lines = lines;
-        for n in rows(&self.table, lines, 10) {
+        for n in rows(&self.table, lines, LINE_NUMBERS) {
             laid.lines.push(Line {
                 start: n[0],
                 rest_end: n[1],
@@ -62,7 +62,7 @@ impl Library {
                 extra: n[6],
                 width: n[7],
             });
-            laid.extents.push(Extent { dropped: n[8], reach: n[9] });
+            laid.extents.push(Extent { dropped: n[8], reach: n[9], chars: n[10] });
         }
         for n in rows(&self.events, event_count, 6) {
             laid.events.push(Event { kind: n[0], start: n[1], end: n[2], count: n[3], width: n[4], x: n[5] as i32 });
@@ -72,7 +72,7 @@ impl Library {
 
     /// Whether the call without events writes the table of the last layout.
     pub fn lays_the_same(&mut self, settings: &Settings, text: &str) -> bool {
-        let answer = bisquemop::layout(settings, text.as_bytes(), fresh(&mut self.again, 10 * (text.len() + 1)));
+        let answer = bisquemop::layout(settings, text.as_bytes(), fresh(&mut self.again, LINE_NUMBERS * (text.len() + 1)));
         answer == Ok(self.lines) && self.again == self.table
     }
 

@@ -10,6 +10,7 @@ mod bisquemop;
 #[cfg(library)]
 mod calls;
 mod compare;
+mod counts;
 mod definitions;
 #[cfg(library)]
 mod edits;

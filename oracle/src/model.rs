@@ -490,7 +490,12 @@ pub fn lay(settings: &Settings, ways: Ways, text: &Text, measure: &mut Vec<Event
             extra: spaces.extra,
             width,
         });
-        laid.extents.push(Extent { dropped: drawing.dropped, reach: measuring.reach.max(drawing.reach) });
+        laid.extents.push(Extent {
+            dropped: drawing.dropped,
+            reach: measuring.reach.max(drawing.reach),
+            // A text is an array of characters here: the number of the first is how many stand before it.
+            chars: at as u32,
+        });
         laid.upto.push(laid.events.len() as u32);
         if ended.by == BY_END_OF_TEXT {
             return beyond;

@@ -47,12 +47,12 @@ pub fn text(text: &str) -> String {
     quoted(text, |c| matches!(c, ' ' | 'a'..='z' | 'A'..='Z' | '0'..='9' | '-' | 'é' | '漢' | '😀'))
 }
 
-/// The numbers of a line: ten where the side has them all, else eight.
+/// The numbers of a line: eleven where the side has them all, else eight.
 pub fn line(laid: &Laid, at: usize) -> String {
     let l = &laid.lines[at];
     let mut out = format!("{} {} {} {} {} {} {} {}", l.start, l.rest_end, l.rest_count, l.end, l.left, l.space, l.extra, l.width);
     if let Some(extent) = laid.extents.get(at) {
-        write!(out, " {} {}", extent.dropped, extent.reach).unwrap();
+        write!(out, " {} {} {}", extent.dropped, extent.reach, extent.chars).unwrap();
     }
     out
 }

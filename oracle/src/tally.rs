@@ -54,7 +54,7 @@ pub struct Tally {
     pub waiting_same: u64,
     pub waiting_other: u64,
     pub kept_whole: u64,
-    /// Layouts of the library that were held to the rules, all ten numbers of a line and all events, by wrap; and those that were
+    /// Layouts of the library that were held to the rules, all eleven numbers of a line and all events, by wrap; and those that were
     /// also held to the crate, in the domain.
     pub library: [u64; 2],
     pub library_crate: u64,

@@ -18,6 +18,7 @@ impl Sides {
         model::lay(settings, model::Ways::default(), &self.text, &mut self.measure, &mut self.waiting);
         tally.waiting += 1;
         self.inside(settings, text, &self.waiting, tally);
+        self.counts(settings, text, &self.waiting, tally);
         let other = difference(&self.model, &self.waiting);
         let details = || format!(" old rule:\n{} words wait:\n{}", show::laid(&self.model), show::laid(&self.waiting));
         if drops(&self.model) {
