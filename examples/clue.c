@@ -1,5 +1,6 @@
 /*
  * A clue on a small screen: laid by the old rule, which drops a word, and where words wait; drawn, edited and laid again.
+ * At last a screen reader asks for a character by its number.
  *
  * The screen is a grid of characters here. Everything else is as in an app: the library says where each line starts and
  * stands, what is drawn in it and where, what an edit changes, and how many characters a line had to drop. An app must
@@ -82,6 +83,13 @@ static void lay_all(struct app *app, enum bisquemop_wrap wrap)
     app->laid = app->lines;
 }
 
+/* How many bytes the character has that begins at an offset. */
+static size_t character_bytes(const struct app *app, size_t at)
+{
+    uint8_t lead = app->text[at];
+    return lead < 0xC0 ? 1 : lead < 0xE0 ? 2 : lead < 0xF0 ? 3 : 4;
+}
+
 /* Puts the characters of a printed event into a row, and "-" for a soft hyphen. Answers whether all have room there. */
 static int put(struct app *app, int row, const uint32_t *event)
 {
@@ -89,8 +97,7 @@ static int put(struct app *app, int row, const uint32_t *event)
     size_t column = event[BISQUEMOP_EVENT_X] / GLYPH;
     for (; at < end && column < COLUMNS; column++) {
         char *cell = app->screen[row][column];
-        uint8_t lead = app->text[at];
-        size_t n = lead < 0xC0 ? 1 : lead < 0xE0 ? 2 : lead < 0xF0 ? 3 : 4;
+        size_t n = character_bytes(app, at);
         memset(cell, 0, sizeof app->screen[row][column]);
         memcpy(cell, app->text + at, n);
         if (strcmp(cell, "\xC2\xAD") == 0) {
@@ -203,6 +210,31 @@ static void redraw(struct app *app)
     show(app);
 }
 
+/* ---- a screen reader speaks of characters, and not of bytes */
+
+/* The line that holds a character, counted from 1: the last line with fewer characters before it. */
+static uint64_t line_of_character(const struct app *app, uint32_t character)
+{
+    uint64_t line = 0;
+    while (line + 1 < app->lines && of_line(app, line + 1, BISQUEMOP_LINE_CHARS) < character) {
+        line++;
+    }
+    return line;
+}
+
+/* Says which character of a line it is, and where its bytes stand. */
+static void say_character(const struct app *app, uint32_t character)
+{
+    uint64_t line = line_of_character(app, character);
+    uint32_t in_line = character - of_line(app, line, BISQUEMOP_LINE_CHARS);
+    size_t at = of_line(app, line, BISQUEMOP_LINE_START);
+    for (uint32_t k = 1; k < in_line; k++) {
+        at += character_bytes(app, at);
+    }
+    printf("  character %" PRIu32 " is character %" PRIu32 " of line %" PRIu64 ": \"%.*s\", at byte %lu\n", character,
+           in_line, line + 1, (int)character_bytes(app, at), (const char *)app->text + at, (unsigned long)at + 1);
+}
+
 int main(void)
 {
     static const char clue[] = "Who lied?\n            not the baker,\nnot his wife.";
@@ -232,5 +264,13 @@ int main(void)
     printf("\nThe baker becomes a butler:\n");
     edit(&app, 19, 24, "butler");
     redraw(&app);
+
+    printf("\nThe butler becomes a fianc\u00e9e:\n");
+    edit(&app, 19, 25, "fianc\u00e9e");
+    redraw(&app);
+
+    printf("\nA screen reader asks for the 20th character, and for the 40th:\n");
+    say_character(&app, 20);
+    say_character(&app, 40);
     return 0;
 }
