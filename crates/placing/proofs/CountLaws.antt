@@ -19,7 +19,7 @@ use Rattle.meaning.specs.declared.line.EventKind.the-variants.{Space}
 use Rattle.meaning.specs.declared.line.Placed.{Placed}
 use Rattle.laws.specs.Measuring.{printedAt}
 use Rattle.parser.specs.Lexing.{charsFrom, lexedAt}
-use Rattle.pairs.specs.Pairs.{PairAt}
+use Rattle.pairs.specs.Pairs.{oneSpace, PairAt}
 use Rattle.parser.specs.declared.lexeme.Lexeme.{Lexeme}
 use Rattle.parser.specs.declared.lexeme.Lexed.the-variants.{Token}
 use Rattle.steps.specs.Unrolled.{nothingResumed}
@@ -27,6 +27,7 @@ use Rattle.steps.specs.Running.{PassReady}
 use Rattle.placing.specs.Laying.{LineReady, plainly}
 use Rattle.steps.specs.Stopping.{wordMeasure, wordPlace}
 use Rattle.strides.specs.Strides.{Onward}
+use Rattle.placing.specs.Taken.{Taken, token-taken, taken-on}
 use Rattle.placing.specs.Quick.{Fair, Stood, plainPlace, Counts}
 use Rattle.placing.specs.LayLaws.{start-ready, plain-ready}
 use Rattle.steps.specs.WordLaws.{word-at}
@@ -98,11 +99,17 @@ module _ {s : Settings} {t : List ℕ} {at : ℕ} (h : LineReady s t at nothingR
         gaps = 0;
         all = omega arith;
         few = omega arith;
+        taken = token-taken t at x e;
         plain = first-plain (rw a at f);
         placed = first-stood;
       })
 
 -- ---- one more
+
+-- A space and a word.
+pair-taken : {t : List ℕ} {to next looked : ℕ} {x : Lexeme} → PairAt t to next looked x → Taken t to (x .end .0) (1 + x .chars .0)
+pair-taken {t} {to} {next} {looked} {x} w =
+    taken-on t to next (x .end .0) 1 (x .chars .0) (token-taken t to (oneSpace next looked) (w .space)) (token-taken t next x (w .word))
 
 module _ {s : Settings} {t : List ℕ} {to next looked : ℕ} {x : Lexeme} (w : PairAt t to next looked x) where
   pair-stood : {at : ℕ} (p : Placed) (letters gaps : ℕ) → Fair s p (letters + x .chars .0) (gaps + 1) → Stood s p t at letters gaps to
@@ -168,6 +175,7 @@ module _ {s : Settings} {t : List ℕ} {to next looked : ℕ} {x : Lexeme} (w : 
         gaps = c .gaps + 1;
         all = omega (arith, c .all);
         few = omega (arith, c .few);
+        taken = taken-on t _ to (x .end .0) columns (1 + x .chars .0) (c .taken) (pair-taken w);
         plain = onward-on (c .plain) (pair-plain columns spaces f (c .plain .ready));
         placed = λ p g. pair-stood p (c .letters) (c .gaps) g (c .placed p (fair-less s p (c .letters) (c .gaps) (x .chars .0) g));
       }

@@ -7,6 +7,7 @@ use Prim.Native.Nat.{ℕ, _+_, _-_, _*_, _/_, _≤_, _<_, min}
 use native.Mathlib.Nat.{le-div-iff-mul-le}
 use native.Mathlib.Omega.{arith}
 use borrow.Author.Tests.{lt-leb}
+use lib.ListN.{length, length-append}
 use Rattle.meaning.specs.Tokens.{tokens}
 use Rattle.meaning.specs.Cursor.{roomOf, fitsIn}
 use Rattle.meaning.specs.SpaceConfig.{spacesWidth}
@@ -27,6 +28,7 @@ use Rattle.moves.specs.Fine.{FineSpaces}
 use Rattle.steps.specs.Unrolled.{nothingResumed}
 use Rattle.placing.specs.Laying.{LineReady, passedFrom, plainly, placedBy}
 use Rattle.steps.specs.Stopping.{wordMeasure, endsBefore}
+use Rattle.placing.specs.Taken.{Taken, front-taken, token-taken}
 use Rattle.placing.specs.Quick.{SameEnd, DrawnAlike}
 use Rattle.steps.specs.declared.step.Ended.{Ended}
 use Rattle.steps.specs.WordLaws.{WordAt, word-at, part-small, word-parts}
@@ -105,3 +107,11 @@ module _ {s : Settings} {t : List ℕ} {at : ℕ} (h : LineReady s t at nothingR
         let same : SameEnd r (endsBefore LineBreak d (part .end .0) 0 (x .reach .0))
         = subst (λ (q : Ended). SameEnd q (endsBefore LineBreak d (part .end .0) 0 (x .reach .0))) (sym b) (same-before LineBreak m d (part .end .0) (x .reach .0)) in
         record { measured = measured; drawn = subst (SameEnd r) (cut-passed p (fair .spaces) (omega (arith, fair .within))) same }
+
+    -- It takes the part's characters.
+    pub cut-taken : (m : Measure) (r : Ended) → r ≡ endsBefore LineBreak m (part .end .0) 0 (x .reach .0) → Taken t at (r .next .0) most
+    unfolding endsBefore partOf
+    cut-taken m r b =
+        let word = token-taken t at x e in
+        let all : x .chars .0 ≤ length (charsFrom t at) = rw (word .stretch .are, length-append) (omega (arith, word .count)) in
+        front-taken t at most (omega arith) (r .next .0) (ap (λ (q : Ended). q .next .0) b ∙ ap (λ (q : Part). q .end .0) parted)

@@ -2,3 +2,4 @@ pub mod CountLaws
 pub mod CountingLaws
 pub mod CutLaws
 pub mod QuickLaws
+pub mod TakenLaws

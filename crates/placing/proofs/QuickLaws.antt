@@ -15,6 +15,8 @@ use Rattle.meaning.specs.SpaceConfig.{spacesWidth}
 use Rattle.meaning.specs.Alignment.{plainSpaces}
 use Rattle.meaning.specs.Line.{noted, heldTokens, startPlace}
 use Rattle.meaning.specs.declared.settings.Settings.{Settings}
+use Rattle.meaning.specs.declared.counts.Offset.{Offset}
+use Rattle.pairs.specs.Pairs.{oneSpace}
 use Rattle.meaning.specs.declared.tokens.TokenKind.the-variants as kind
 use Rattle.meaning.specs.declared.cursor.LineCursor.{LineCursor}
 use Rattle.meaning.specs.declared.cursor.Spaces.{Spaces}
@@ -39,6 +41,7 @@ use Rattle.steps.specs.Running.{PassReady}
 use Rattle.placing.specs.Laying.{LineReady, passedFrom, plainly, placedBy}
 use Rattle.steps.specs.Stopping.{endsBefore}
 use Rattle.strides.specs.Strides.{goingAt, strodePlace, Waits, WaitReady}
+use Rattle.placing.specs.Taken.{Taken, token-taken, taken-on}
 use Rattle.placing.specs.Quick.{Fair, Stood, plainPlace, Counts, CountedWords, SameEnd, DrawnAlike}
 use Rattle.strides.specs.declared.going.Waiting.{Waiting}
 use Rattle.strides.specs.declared.going.Going.{Going}
@@ -242,3 +245,36 @@ module _ {s : Settings} {t : List ℕ} {at : ℕ} (h : LineReady s t at nothingR
         → e ≡ endsBefore NewLine (g .measure) (g .at .0 + 1) 0 (g .at .0 + 1) → DrawnAlike s t at e
     unfolding goingAt
     quick-feeds = rw is λ b e f. subst (DrawnAlike s t at) (sym f) (feeds-alike h (d .counts) (d .within) b)
+
+    -- ---- how many characters it takes
+
+    abbrev words : ℕ
+    words = c .columns .0
+
+    ends-at : (e : Ended) (next n : ℕ) → e .next .0 ≡ next → Taken t at next n → Taken t at (e .next .0) n
+    ends-at e next n q a = subst (λ (x : ℕ). Taken t at x n) (sym q) a
+
+    -- The words, and the space before the word that waits.
+    pub waits-taken : (g .waits .next .0 ≡ 0 → ⊥) → (e : Ended) → e ≡ ranFrom s (g .place) t (g .at .0) 0 0 (g .measure)
+        → Taken t at (e .next .0) (c .columns .0 + 1)
+    unfolding goingAt
+    waits-taken = rw is λ n e f.
+        let w = d .waits n in
+        let v = c .waits in
+        let q = ap (λ (x : Ended). x .next .0) f ∙ ap (λ (o : Offset). o .0) (wait-ends (d .counts .plain .ready) w .next) in
+        ends-at e (v .next .0) (words + 1) q
+        (taken-on t at (c .end .0) (v .next .0) words 1 (d .counts .taken) (token-taken t (c .end .0) (oneSpace (v .next .0) (v .looked .0)) (w .pair .space)))
+
+    -- The words alone.
+    pub ends-taken : (e : Ended) → e ≡ endsBefore EndOfText (g .measure) (g .at .0) 0 (g .at .0 + 1) → Taken t at (e .next .0) (c .columns .0)
+    unfolding goingAt endsBefore
+    ends-taken = rw is λ e f. ends-at e (c .end .0) words (ap (λ (x : Ended). x .next .0) f) (d .counts .taken)
+
+    -- The words, and the line feed.
+    pub feeds-taken : feedAt t (g .at .0) ≡ true → (e : Ended)
+        → e ≡ endsBefore NewLine (g .measure) (g .at .0 + 1) 0 (g .at .0 + 1) → Taken t at (e .next .0) (c .columns .0 + 1)
+    unfolding goingAt endsBefore aloneAt
+    feeds-taken = rw is λ b e f.
+        let to = c .end .0 in
+        ends-at e (to + 1) (words + 1) (ap (λ (x : Ended). x .next .0) f)
+        (taken-on t at to (to + 1) words 1 (d .counts .taken) (token-taken t to (aloneAt kind.NewLine (to + 1)) (sym (feed-lexed t to b))))

@@ -76,9 +76,9 @@ fair-less s p letters gaps n f =
 
 -- ---- laid alike
 
-pub laid-same : (at : ℕ) (r : Resumed) (p : Placed) (width : ℕ) (e d : Ended) → SameEnd e d
-    → laidAt at r p width (e .reach .0) e ≡ laidAt at r p width (e .reach .0) d
+pub laid-same : (at before : ℕ) (r : Resumed) (p : Placed) (width : ℕ) (e d : Ended) (chars : ℕ) → SameEnd e d
+    → laidAt at before r p width (e .reach .0) e chars ≡ laidAt at before r p width (e .reach .0) d chars
 unfolding laidAt
-laid-same at r p width e d h =
+laid-same at before r p width e d chars h =
     let far : max (e .reach .0) (d .reach .0) ≡ max (e .reach .0) (e .reach .0) = omega (arith, h .reach) in
     rw (far, h .ended, h .next, h .rest, h .dropped)

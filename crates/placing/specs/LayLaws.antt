@@ -2,10 +2,10 @@
 -- Assumes nothing.
 use Prim.Native.Nat.{ℕ, _≤_}
 use native.Mathlib.Omega.{arith}
-use mathlib.Core.Path.{_≡_, refl, sym, ap, _∙_}
+use mathlib.Core.Path.{_≡_, refl, sym, ap, subst, _∙_}
 use mathlib.Core.Bool.{true}
 use mathlib.Core.List.{List}
-use Rattle.meaning.specs.Line.{unmeasured, startPlace}
+use Rattle.meaning.specs.Line.{unmeasured, startPlace, layLine}
 use Rattle.meaning.specs.declared.settings.Settings.{Settings}
 use Rattle.meaning.specs.declared.cursor.Place.{Place}
 use Rattle.meaning.specs.declared.line.Measure.{Measure}
@@ -16,8 +16,12 @@ use Rattle.placing.specs.PlaceLaws.{place-fine}
 use Rattle.steps.specs.Stepping.{ranFrom}
 use Rattle.steps.specs.Unrolled.{nothingResumed}
 use Rattle.steps.specs.Running.{PassReady, none-fits}
-use Rattle.placing.specs.LineFrom.{lineFrom}
-use Rattle.placing.specs.Laying.{LineReady, passedFrom, plainly, asMeasured, placedBy, laidAt, line-passes, measured-plainly}
+use Rattle.laws.specs.LineBounds.{line-chars}
+use Rattle.parser.specs.Lexing.{charsFrom}
+use Rattle.meaning.specs.declared.counts.Offset.{Offset}
+use Rattle.placing.specs.LineFrom.{heldIn, lineAtOf, lineFrom}
+use Rattle.placing.specs.Taken.{Taken, taken-is}
+use Rattle.placing.specs.Laying.{LineReady, passedFrom, plainly, asMeasured, placedBy, laidAt, line-passes, passes-next, measured-plainly}
 use Rattle.placing.specs.LineLaws.{placed-count}
 use Rattle.placing.specs.Quick.{DrawnAlike}
 use Rattle.steps.specs.declared.step.Resumed.{Resumed}
@@ -59,13 +63,24 @@ module _ {s : Settings} {t : List ℕ} {at : ℕ} {r : Resumed} (h : LineReady s
 
     -- ---- and drawn
 
-    module _ (width : ℕ) (p : Placed) (l : LineAt) (wide : width ≡ first .measure .width .0) (placed : p ≡ placedBy s first) where
-      pub laid-twice : (drawn : Ended) → drawn ≡ passedFrom s t at r p → l ≡ laidAt at r p width (first .reach .0) drawn → l ≡ lineFrom s t at r
-      laid-twice drawn e f = rw (f, e, placed, wide, measured, is) (sym (line-passes s t at r (h .rest)))
+    module _ (width : ℕ) (p : Placed) (l : LineAt) (wide : width ≡ first .measure .width .0) (placed : p ≡ placedBy s first) (before n : ℕ) where
+      -- The line takes as many characters as its drawing pass.
+      drawn-chars : Taken t at (passedFrom s t at r p .next .0) n → n ≡ layLine s (heldIn r) (charsFrom t at) .chars
+      drawn-chars a =
+          let k = layLine s (heldIn r) (charsFrom t at) .chars in
+          let all = line-chars s (heldIn r) (charsFrom t at) (h .rest .within) (h .rest .counts) in
+          taken-is t at k (passedFrom s t at r p .next .0) n (omega arith)
+          (rw (placed, measured, is) (passes-next s t at before r (h .rest))) a
+
+      pub laid-twice : (drawn : Ended) → drawn ≡ passedFrom s t at r p → Taken t at (drawn .next .0) n
+          → l ≡ laidAt at before r p width (first .reach .0) drawn n → l ≡ lineFrom s t at before r
+      laid-twice drawn e a f =
+          rw (f, drawn-chars (rw e at a), e, placed, wide, measured, is) (sym (line-passes s t at before r (h .rest)))
 
       -- A line that is placed as it was measured is drawn as it was.
-      pub laid-once : asMeasured s p ≡ true → l ≡ laidAt at r p width (first .reach .0) first → l ≡ lineFrom s t at r
-      laid-once e f = laid-twice first (measured ∙ ap (passedFrom s t at r) (is ∙ sym (measured-plainly s p e))) f
+      pub laid-once : asMeasured s p ≡ true → Taken t at (first .next .0) n
+          → l ≡ laidAt at before r p width (first .reach .0) first n → l ≡ lineFrom s t at before r
+      laid-once e a f = laid-twice first (measured ∙ ap (passedFrom s t at r) (is ∙ sym (measured-plainly s p e))) a f
 
 -- ---- a line that is drawn as it was measured
 
@@ -83,10 +98,13 @@ module _ {s : Settings} {t : List ℕ} {at : ℕ} {r : Resumed} (h : LineReady s
     pub alike-few : e .measure .count .0 ≤ 65535
     alike-few = few-spaces h (plainly s) e refl (d .measured ∙ passed-rested (plainly s))
 
-    pub laid-alike : (l : LineAt) → l ≡ laidAt at r (placedBy s e) (e .measure .width .0) (e .reach .0) e → l ≡ lineFrom s t at r
-    laid-alike l f =
+    pub laid-alike : (before n : ℕ) → Taken t at (e .next .0) n → (l : LineAt)
+        → l ≡ laidAt at before r (placedBy s e) (e .measure .width .0) (e .reach .0) e n → l ≡ lineFrom s t at before r
+    laid-alike before n a l f =
         let p = placedBy s e in
         let width = e .measure .width .0 in
-        laid-twice h (plainly s) e refl (d .measured ∙ passed-rested (plainly s)) width p l refl refl
-        (passedFrom s t at nothingResumed p) (passed-rested p)
-        (f ∙ laid-same at r p width e (passedFrom s t at nothingResumed p) (d .drawn))
+        let drawn = passedFrom s t at nothingResumed p in
+        let ends : e .next .0 ≡ drawn .next .0 = ap (λ (o : Offset). o .0) (sym (d .drawn .next)) in
+        laid-twice h (plainly s) e refl (d .measured ∙ passed-rested (plainly s)) width p l refl refl before n
+        drawn (passed-rested p) (subst (λ (x : ℕ). Taken t at x n) ends a)
+        (f ∙ laid-same at before r p width e drawn n (d .drawn))

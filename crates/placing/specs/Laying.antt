@@ -2,7 +2,7 @@
 -- Assumes nothing.
 use Prim.Native.Nat.{ℕ, _+_, _≤_, max}
 use native.Mathlib.Omega.{arith}
-use mathlib.Core.Path.{_≡_, ap}
+use mathlib.Core.Path.{_≡_, sym, ap}
 use mathlib.Core.Bool.{Bool, true, _&&_}
 use mathlib.Core.List.{List}
 use borrow.Author.Tests.{eq-eqb, ne-eqb, eqb-true}
@@ -24,6 +24,7 @@ use Rattle.moves.specs.Fine.{FineSettings}
 use Rattle.steps.specs.Stepping.{resumedAt, endedAt, ranFrom}
 use Rattle.placing.specs.LineFrom.{heldIn, lineAtOf, lineFrom}
 use Rattle.steps.specs.Pending.{RestFits}
+use Rattle.placing.specs.Taken.{Stretch, front-stretch}
 use Rattle.steps.specs.declared.step.Resumed.{Resumed}
 use Rattle.steps.specs.declared.step.Ended.{Ended}
 use Rattle.placing.specs.declared.entry.LineAt.{LineAt}
@@ -55,9 +56,10 @@ asMeasured s p = eqb (p .left .0) 0 && eqb (p .spaces .extra .0) 0 && eqb (p .sp
 unfoldable pub placedBy : Settings → Ended → Placed
 placedBy s e = place s (e .ended) (e .measure .width .0) (e .measure .count .0)
 
--- The line that is so placed and so wide, where the measuring pass looked up to an offset and the drawing pass ended so.
-unfoldable pub laidAt : (at : ℕ) → Resumed → Placed → (width looked : ℕ) → Ended → LineAt
-laidAt at r p width looked e =
+-- The line behind so many characters that is so placed and so wide, where the measuring pass looked up to an offset and the drawing
+-- pass ended so and took so many characters.
+unfoldable pub laidAt : (at before : ℕ) → Resumed → Placed → (width looked : ℕ) → Ended → (chars : ℕ) → LineAt
+laidAt at before r p width looked e chars =
     record {
       entry =
           record {
@@ -70,9 +72,11 @@ laidAt at r p width looked e =
             width = record { 0 = width };
             dropped = e .dropped;
             reach = record { 0 = max looked (e .reach .0) };
+            before = record { 0 = before };
           };
       ended = e .ended;
       next = e .next;
+      chars = record { 0 = chars };
       rest = e .rest;
     }
 
@@ -101,6 +105,14 @@ pub measured-is : (s : Settings) (t : List ℕ) (at : ℕ) (r : Resumed)
 unfolding passedFrom measuring lineTokens
 measured-is s t at r = ap (λ (e : Ended). e .measure) (ran-at s (startPlace s 0 (plainSpaces s)) t at (r .chars .0) (r .count .0))
 
+-- A pass goes up to where characters end.
+pub passed-stretch : (s : Settings) (t : List ℕ) (at : ℕ) (r : Resumed) (p : Placed) → Stretch t at (passedFrom s t at r p .next .0)
+unfolding passedFrom
+passed-stretch s t at r p =
+    let start = startPlace s (p .left .0) (p .spaces) in
+    rw (ran-at s start t at (r .chars .0) (r .count .0))
+    (front-stretch t at (process s start 0 (heldTokens (r .chars .0) (r .count .0) (charsFrom t at)) .chars))
+
 -- ---- the line
 
 rest-in : (t : List ℕ) (at : ℕ) (r : Resumed) → RestFits t at r → restOf at (heldIn r) (charsFrom t at) ≡ restIn r
@@ -108,12 +120,12 @@ unfolding restOf restIn pick
 rest-in t at r f =
     by-eq (r .chars .0) 0 (λ e. rw (eq-eqb (r .chars .0) 0 e)) (λ d. rw (ne-eqb (r .chars .0) 0 d, ← (f .ends d)))
 
-pub line-passes : (s : Settings) (t : List ℕ) (at : ℕ) (r : Resumed) → RestFits t at r →
+pub line-passes : (s : Settings) (t : List ℕ) (at before : ℕ) (r : Resumed) → RestFits t at r →
     let e = passedFrom s t at r (plainly s) in
     let p = placedBy s e in
-    lineFrom s t at r ≡ laidAt at r p (e .measure .width .0) (e .reach .0) (passedFrom s t at r p)
+    lineFrom s t at before r ≡ laidAt at before r p (e .measure .width .0) (e .reach .0) (passedFrom s t at r p) (layLine s (heldIn r) (charsFrom t at) .chars)
 unfolding lineFrom lineAtOf layLine lineTokens lineOf measuring placing entryAt passedFrom placedBy laidAt
-line-passes s t at r f =
+line-passes s t at before r f =
     let cs = charsFrom t at in
     let ts = heldTokens (r .chars .0) (r .count .0) cs in
     let m = process s (startPlace s 0 (plainSpaces s)) 0 ts in
@@ -122,6 +134,13 @@ line-passes s t at r f =
     let far : max (at + m .reach) (at + d .reach) ≡ at + max (m .reach) (d .reach) = omega arith in
     rw (ran-at s (startPlace s 0 (plainSpaces s)) t at (r .chars .0) (r .count .0), rest-in t at r f)
     (rw (ran-at s (startPlace s (p .left .0) (p .spaces)) t at (r .chars .0) (r .count .0), far))
+
+-- The next line starts where the drawing pass ended.
+pub passes-next : (s : Settings) (t : List ℕ) (at before : ℕ) (r : Resumed) → RestFits t at r →
+    let e = passedFrom s t at r (plainly s) in
+    passedFrom s t at r (placedBy s e) .next .0 ≡ at + size (take (layLine s (heldIn r) (charsFrom t at) .chars) (charsFrom t at))
+unfolding lineFrom lineAtOf laidAt
+passes-next s t at before r f = sym (ap (λ (l : LineAt). l .next .0) (line-passes s t at before r f))
 
 -- A line that is placed as it was measured.
 pub measured-plainly : (s : Settings) (p : Placed) → asMeasured s p ≡ true → p ≡ plainly s

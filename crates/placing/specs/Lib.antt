@@ -1,6 +1,7 @@
 pub mod PlaceLaws
 pub mod FinePass
 pub mod LineFrom
+pub mod Taken
 pub mod Laying
 pub mod LineLaws
 pub mod Quick

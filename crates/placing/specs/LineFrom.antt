@@ -16,15 +16,16 @@ use Rattle.placing.specs.declared.entry.LineAt.{LineAt}
 abbrev pub heldIn : Resumed → Held
 heldIn r = record { chars = r .chars .0; count = r .count .0 }
 
--- A line that starts at an offset, before the characters cs.
-unfoldable pub lineAtOf : (at : ℕ) → Held → List ℕ → Line → LineAt
-lineAtOf at h cs l =
+-- A line that starts at an offset, behind so many characters and before the characters cs.
+unfoldable pub lineAtOf : (at before : ℕ) → Held → List ℕ → Line → LineAt
+lineAtOf at before h cs l =
     record {
-      entry = entryAt at h cs l;
+      entry = entryAt at before h cs l;
       ended = l .ended;
       next = record { 0 = at + size (take (l .chars) cs) };
+      chars = record { 0 = l .chars };
       rest = resumedAt (at + size (take (l .chars + l .held .chars) cs)) (l .held);
     }
 
-unfoldable pub lineFrom : Settings → List ℕ → (at : ℕ) → Resumed → LineAt
-lineFrom s t at r = lineAtOf at (heldIn r) (charsFrom t at) (layLine s (heldIn r) (charsFrom t at))
+unfoldable pub lineFrom : Settings → List ℕ → (at before : ℕ) → Resumed → LineAt
+lineFrom s t at before r = lineAtOf at before (heldIn r) (charsFrom t at) (layLine s (heldIn r) (charsFrom t at))

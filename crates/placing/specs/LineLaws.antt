@@ -56,17 +56,21 @@ held-fits t at k h e f g =
 
 -- ---- where the next line starts
 
-module _ (s : Settings) (t : List ℕ) (at : ℕ) (r : Resumed) where
+module _ (s : Settings) (t : List ℕ) (at before : ℕ) (r : Resumed) where
   -- It starts after the characters taken, and resumes what is held.
-  pub next-start : lineFrom s t at r .next .0 ≡ at + size (take (layLine s (heldIn r) (charsFrom t at) .chars) (charsFrom t at))
+  pub next-start : lineFrom s t at before r .next .0 ≡ at + size (take (layLine s (heldIn r) (charsFrom t at) .chars) (charsFrom t at))
   unfolding lineFrom lineAtOf
   next-start = refl
 
-  pub next-held : heldIn (lineFrom s t at r .rest) ≡ layLine s (heldIn r) (charsFrom t at) .held
+  pub next-count : lineFrom s t at before r .chars .0 ≡ layLine s (heldIn r) (charsFrom t at) .chars
+  unfolding lineFrom lineAtOf
+  next-count = refl
+
+  pub next-held : heldIn (lineFrom s t at before r .rest) ≡ layLine s (heldIn r) (charsFrom t at) .held
   unfolding lineFrom lineAtOf resumedAt
   next-held = refl
 
-  pub next-chars : charsFrom t (lineFrom s t at r .next .0) ≡ drop (layLine s (heldIn r) (charsFrom t at) .chars) (charsFrom t at)
+  pub next-chars : charsFrom t (lineFrom s t at before r .next .0) ≡ drop (layLine s (heldIn r) (charsFrom t at) .chars) (charsFrom t at)
   unfolding lineFrom lineAtOf
   next-chars =
       let cs = charsFrom t at in
@@ -74,15 +78,24 @@ module _ (s : Settings) (t : List ℕ) (at : ℕ) (r : Resumed) where
       chars-after t (take k cs) (drop k cs) at (sym (take-append-drop k cs))
 
   -- Within the text.
-  pub next-within : at ≤ length t → lineFrom s t at r .next .0 ≤ length t
+  pub next-within : at ≤ length t → lineFrom s t at before r .next .0 ≤ length t
   unfolding lineFrom lineAtOf
   next-within h =
       let cs = charsFrom t at in
       omega (arith, size-take (layLine s (heldIn r) cs .chars) cs, chars-within t at)
 
   module _ (f : RestFits t at r) where
+    -- Which takes no more characters than bytes.
+    pub next-fewer : at + lineFrom s t at before r .chars .0 ≤ lineFrom s t at before r .next .0
+    unfolding lineFrom lineAtOf
+    next-fewer =
+        let cs = charsFrom t at in
+        let k = layLine s (heldIn r) cs .chars in
+        let all = line-chars s (heldIn r) cs (f .within) (f .counts) in
+        omega (arith, length-take-le k cs (omega arith), length-size (take k cs))
+
     -- Further on, unless the line ends the text.
-    pub next-further : (lineFrom s t at r .ended ≡ EndOfText → ⊥) → at < lineFrom s t at r .next .0
+    pub next-further : (lineFrom s t at before r .ended ≡ EndOfText → ⊥) → at < lineFrom s t at before r .next .0
     unfolding lineFrom lineAtOf
     next-further d =
         let cs = charsFrom t at in
@@ -92,7 +105,7 @@ module _ (s : Settings) (t : List ℕ) (at : ℕ) (r : Resumed) where
         omega (arith, length-take-le k cs (omega arith), length-size (take k cs))
 
     -- What is held stands there.
-    pub next-rest : RestFits t (lineFrom s t at r .next .0) (lineFrom s t at r .rest)
+    pub next-rest : RestFits t (lineFrom s t at before r .next .0) (lineFrom s t at before r .rest)
     unfolding lineFrom lineAtOf
     next-rest =
         let cs = charsFrom t at in
@@ -187,9 +200,9 @@ module _ (s : Settings) (t : List ℕ) (at : ℕ) (r : Resumed) (f : RestFits t 
       let m = measured unmeasured (measuring s (lineTokens (heldIn r) cs) .drawn) in
       counts-small s cs m (line-small s t at r f fs) .0
 
-  pub entry-small : SmallEntry t (lineFrom s t at r .entry)
+  pub entry-small : (before : ℕ) → SmallEntry t (lineFrom s t at before r .entry)
   unfolding lineFrom lineAtOf entryAt
-  entry-small =
+  entry-small before =
       let cs = charsFrom t at in
       let l = layLine s (heldIn r) cs in
       let p = placed-fine in

@@ -13,6 +13,7 @@ use Rattle.meaning.specs.declared.line.Placed.{Placed}
 use Rattle.laws.specs.Measuring.{printedAt}
 use Rattle.moves.specs.Fine.{FineSpaces}
 use Rattle.steps.specs.Unrolled.{nothingResumed}
+use Rattle.placing.specs.Taken.{Taken}
 use Rattle.placing.specs.Laying.{passedFrom, plainly, placedBy}
 use Rattle.pairs.specs.PlainWords.{Found}
 use Rattle.strides.specs.Strides.{Onward, Waits}
@@ -54,6 +55,7 @@ pub record Counts (s : Settings) (t : List ℕ) (at to columns spaces : ℕ) : T
   pub gaps : ℕ
   pub all : columns ≡ letters + gaps
   pub few : gaps ≤ spaces
+  pub taken : Taken t at to columns
   pub plain : Onward s (startPlace s 0 (plainSpaces s)) t at nothingResumed unmeasured (plainPlace s (columns * s .glyph .0)) to (printedAt (columns * s .glyph .0) spaces)
   pub placed : (p : Placed) → Fair s p letters gaps → Stood s p t at letters gaps to
 
@@ -78,6 +80,7 @@ pub record DrawnAlike (s : Settings) (t : List ℕ) (at : ℕ) (e : Ended) : Typ
   pub measured : e ≡ passedFrom s t at nothingResumed (plainly s)
   pub drawn : SameEnd e (passedFrom s t at nothingResumed (placedBy s e))
 
+-- And that is known to have so many characters.
 abbrev pub QuickLine : Settings → List ℕ → ℕ → Quick → Type 0
 QuickLine s t at Not = Unit {0}
-QuickLine s t at (Line e) = DrawnAlike s t at e
+QuickLine s t at (Line e n) = DrawnAlike s t at e × Taken t at (e .next .0) (n .0)

@@ -40,7 +40,8 @@ fn cut_part(text: &[u8], s: Settings, at: usize, x: Lexeme) -> Quick
     let next = part.end;
     let reach = x.reach;
     let m = printed_at(Pixels(wide), glues);
-    Quick::Line(ends_before(LineEnd::LineBreak, m, next, Chars(0), reach))
+    let e = ends_before(LineEnd::LineBreak, m, next, Chars(0), reach);
+    Quick::Line(e, Chars(most))
 }
 
 // The line at an offset, if a known word is cut there.

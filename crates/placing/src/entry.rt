@@ -13,11 +13,13 @@ ghost use mathlib.Core.Path.{_≡_};
 ghost use Rattle.meaning.specs.Line.{endNumber};
 ghost use Rattle.placing.specs.Laying.{restIn, laidAt};
 
-// A laid line: its entry, how it ended, where the next line starts and what that line resumes.
+// A laid line: its entry, how it ended, where the next line starts, how many characters it took up to there and what the next
+// line resumes.
 pub struct LineAt {
     pub entry: Entry,
     pub ended: LineEnd,
     pub next: Offset,
+    pub chars: Chars,
     pub rest: Resumed,
 }
 
@@ -48,16 +50,17 @@ fn rest_in(r: Resumed) -> Rest
     Rest { end, count }
 }
 
-// The entry of a line at an offset, from its placing, its width, how far the measuring looked, and how the drawing ended.
+// The entry of a line at an offset, behind so many characters, from its placing, its width, how far the measuring looked, and how the drawing ended.
 pub fn entry_at(
     at: Offset,
+    before: Chars,
     rest: Resumed,
     p: Placed,
     width: Pixels,
     looked: Offset,
     e: Ended,
 ) -> Entry
-    ensures { λ r. ⌜ r ≡ laidAt (at .0) rest p (width .0) (looked .0) e .entry ⌝ }
+    ensures { λ r. ⌜ r ≡ laidAt (at .0) (before .0) rest p (width .0) (looked .0) e 0 .entry ⌝ }
 {
     let ended = e.ended;
     let ending = end_number(ended);
@@ -77,5 +80,6 @@ pub fn entry_at(
         width,
         dropped,
         reach: Offset(reach),
+        before,
     }
 }

@@ -3,3 +3,4 @@ pub mod alignment;
 pub mod cut;
 pub mod entry;
 pub mod quick;
+pub mod taken;

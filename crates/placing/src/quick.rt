@@ -43,9 +43,10 @@ pub struct Counted {
     pub waits: Waiting,
 }
 
+// No such line; or how its passes end, and how many characters it takes.
 pub enum Quick {
     Not,
-    Line(Ended),
+    Line(Ended, Chars),
 }
 
 fn counted_at(end: u32, columns: u32, spaces: u32, waits: Waiting) -> Counted
@@ -146,17 +147,21 @@ pub fn quick_line(text: &[u8], s: Settings, at: usize, known: Known) -> Quick
     }
     let g = measured_to(s, c);
     if g.waits.next.0 != 0 {
-        return Quick::Line(ends_waiting(text, s, g));
+        let taken = c.columns.0 + 1;
+        return Quick::Line(ends_waiting(text, s, g), Chars(taken));
     }
     let m = g.measure;
     let end = g.at.0;
     if text.len() <= end as usize {
         let far = end + 1;
-        return Quick::Line(ends_before(LineEnd::EndOfText, m, Offset(end), Chars(0), Offset(far)));
+        let e = ends_before(LineEnd::EndOfText, m, Offset(end), Chars(0), Offset(far));
+        return Quick::Line(e, Chars(c.columns.0));
     }
     if feed_at(text, end as usize) {
         let next = end + 1;
-        return Quick::Line(ends_before(LineEnd::NewLine, m, Offset(next), Chars(0), Offset(next)));
+        let taken = c.columns.0 + 1;
+        let e = ends_before(LineEnd::NewLine, m, Offset(next), Chars(0), Offset(next));
+        return Quick::Line(e, Chars(taken));
     }
     Quick::Not
 }

@@ -1,6 +1,6 @@
 -- Where a line is to be laid, and the step from there: the line, and where the next one is to be laid.
 -- Assumes nothing.
-use Prim.Native.Nat.{ℕ, _≤_, _<_}
+use Prim.Native.Nat.{ℕ, _+_, _≤_, _<_}
 use native.Mathlib.Omega.{arith}
 use mathlib.Core.Path.{_≡_, refl, sym, ap, _∙_}
 use mathlib.Core.Bool.{Bool, true, false, false≢true}
@@ -14,7 +14,7 @@ use Rattle.meaning.specs.declared.line.LineEnd.the-variants.{NewLine, CarriageR
 use Rattle.steps.specs.Knowing.{KnownFits}
 use Rattle.placing.specs.Laying.{LineReady}
 use Rattle.placing.specs.LineFrom.{lineFrom}
-use Rattle.placing.specs.LineLaws.{next-within, next-further, next-rest}
+use Rattle.placing.specs.LineLaws.{next-within, next-fewer, next-further, next-rest}
 use Rattle.steps.specs.declared.step.Resumed.{Resumed}
 use Rattle.placing.specs.declared.entry.LineAt.{LineAt}
 use Rattle.rows.specs.declared.stand.Stand.{Stand}
@@ -37,48 +37,52 @@ not-last e h q = false≢true (sym h ∙ ap isLast q)
 
 -- ---- stands
 
--- Before the line at an offset, which resumes a rest: a word that is known there stands in the text.
-pub record StandsAt (t : List ℕ) (at : Offset) (r : Resumed) (p : Stand) : Type 0 where
+-- Before the line at an offset, behind so many characters, which resumes a rest: a word that is known there stands in the text.
+pub record StandsAt (t : List ℕ) (at : Offset) (before : ℕ) (r : Resumed) (p : Stand) : Type 0 where
   pub at-is : p .at ≡ at
+  pub before-is : p .before .0 ≡ before
   pub rest-is : p .rest ≡ r
   pub known : KnownFits t (p .known)
 
 abbrev pub textFront : Offset
 textFront = record { 0 = 0 }
 
--- A line can be laid there.
+-- A line can be laid there, and no count of the characters before it wraps: a text's front has few before it, and no more characters
+-- than bytes are counted from there on.
 pub record StandReady (s : Settings) (t : List ℕ) (p : Stand) : Type 0 where
   pub line : LineReady s t (p .at .0) (p .rest)
+  pub few : p .before .0 ≤ p .at .0 + textLimit
   pub known : KnownFits t (p .known)
 
-pub stand-ready : (s : Settings) (t : List ℕ) (at : Offset) (r : Resumed) (p : Stand) → LineReady s t (at .0) r → StandsAt t at r p
-    → StandReady s t p
-stand-ready s t at r p c q = record { line = rw (q .at-is, q .rest-is) c; known = q .known }
+pub stand-ready : (s : Settings) (t : List ℕ) (at : Offset) (before : ℕ) (r : Resumed) (p : Stand) → LineReady s t (at .0) r
+    → before ≤ at .0 + textLimit → StandsAt t at before r p → StandReady s t p
+stand-ready s t at before r p c f q = record { line = rw (q .at-is, q .rest-is) c; few = rw (q .at-is, q .before-is) f; known = q .known }
 
 -- ---- the step
 
 -- The line that is laid at a stand.
 abbrev pub lineAt : Settings → List ℕ → Stand → LineAt
-lineAt s t p = lineFrom s t (p .at .0) (p .rest)
+lineAt s t p = lineFrom s t (p .at .0) (p .before .0) (p .rest)
 
 -- The step: that line, whether it ends the text, and where the next one starts.
 unfoldable pub laidRow : Settings → List ℕ → Stand → LaidRow
 laidRow s t p =
     let l = lineAt s t p in
-    record { entry = l .entry; last = isLast (l .ended); next = l .next; rest = l .rest }
+    record { entry = l .entry; last = isLast (l .ended); next = l .next; chars = l .chars; rest = l .rest }
 
 -- It is taken by laying the line.
 pub row-is : (s : Settings) (t : List ℕ) (p : Stand) (l : LineAt) (b : Bool) → l ≡ lineAt s t p → b ≡ isLast (l .ended)
-    → record { entry = l .entry; last = b; next = l .next; rest = l .rest } ≡ laidRow s t p
+    → record { entry = l .entry; last = b; next = l .next; chars = l .chars; rest = l .rest } ≡ laidRow s t p
 unfolding laidRow
 row-is s t p l b e h =
     let g = h ∙ ap (λ (x : LineAt). isLast (x .ended)) e in
-    λ i. record { entry = e i .entry; last = g i; next = e i .next; rest = e i .rest }
+    λ i. record { entry = e i .entry; last = g i; next = e i .next; chars = e i .chars; rest = e i .rest }
 
 -- What standing on the next line takes for granted.
 pub record NextReady (t : List ℕ) (p : Stand) (x : LaidRow) : Type 0 where
   pub short : length t ≤ textLimit
   pub inside : x .next .0 ≤ length t
+  pub few : p .before .0 + x .chars .0 ≤ x .next .0 + textLimit
   pub known : KnownFits t (p .known)
 
 module _ (s : Settings) (t : List ℕ) (p : Stand) (c : StandReady s t p) (x : LaidRow) (is : x ≡ laidRow s t p) where
@@ -98,6 +102,10 @@ module _ (s : Settings) (t : List ℕ) (p : Stand) (c : StandReady s t p) (x : L
   unfolding laidRow
   next-is = ap (λ (y : LaidRow). y .next) is
 
+  chars-is : x .chars .0 ≡ lineAt s t p .chars .0
+  unfolding laidRow
+  chars-is = ap (λ (y : LaidRow). y .chars .0) is
+
   rest-is : x .rest ≡ lineAt s t p .rest
   unfolding laidRow
   rest-is = ap (λ (y : LaidRow). y .rest) is
@@ -108,27 +116,40 @@ module _ (s : Settings) (t : List ℕ) (p : Stand) (c : StandReady s t p) (x : L
       record {
         settings = l .settings;
         short = l .short;
-        inside = next-within s t (p .at .0) (p .rest) (l .inside);
-        rest = next-rest s t (p .at .0) (p .rest) (l .rest);
+        inside = next-within s t (p .at .0) (p .before .0) (p .rest) (l .inside);
+        rest = next-rest s t (p .at .0) (p .before .0) (p .rest) (l .rest);
       }
 
+  few-after : p .before .0 + x .chars .0 ≤ x .next .0 + textLimit
+  few-after =
+      let next = ap (λ (o : Offset). o .0) next-is in
+      omega (arith, c .few, chars-is, next, next-fewer s t (p .at .0) (p .before .0) (p .rest) (c .line .rest))
+
   pub next-ready : NextReady t p x
-  next-ready = record { short = c .line .short; inside = rw next-is (ready-after .inside); known = c .known }
+  next-ready = record { short = c .line .short; inside = rw next-is (ready-after .inside); few = few-after; known = c .known }
 
   -- A stand on the next line.
-  module _ (q : Stand) (n : StandsAt t (x .next) (x .rest) q) where
+  module _ (q : Stand) (n : StandsAt t (x .next) (p .before .0 + x .chars .0) (x .rest) q) where
     pub next-at : q .at .0 ≡ lineAt s t p .next .0
     next-at = ap (λ (o : Offset). o .0) (n .at-is ∙ next-is)
+
+    pub next-before : q .before .0 ≡ p .before .0 + lineAt s t p .chars .0
+    next-before = omega (arith, n .before-is, chars-is)
 
     pub next-rest-is : q .rest ≡ lineAt s t p .rest
     next-rest-is = n .rest-is ∙ rest-is
 
     pub ready-next : StandReady s t q
-    ready-next = record { line = rw (next-at, next-rest-is) ready-after; known = n .known }
+    ready-next =
+        record {
+          line = rw (next-at, next-rest-is) ready-after;
+          few = omega (arith, n .before-is, next-at, ap (λ (o : Offset). o .0) next-is, few-after);
+          known = n .known;
+        }
 
     -- It is further on, and within the text.
     pub further : x .last ≡ false → p .at .0 < q .at .0
-    further h = omega (arith, next-at, next-further s t (p .at .0) (p .rest) (c .line .rest) (goes-on h))
+    further h = omega (arith, next-at, next-further s t (p .at .0) (p .before .0) (p .rest) (c .line .rest) (goes-on h))
 
     pub stays : q .at .0 ≤ length t
     stays = ready-next .line .inside

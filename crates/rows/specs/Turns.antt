@@ -26,12 +26,12 @@ pub record Counted (s : Settings) (t : List ℕ) (n : ℕ) (p : Stand) : Type 0 
   pub ready : StandReady s t p
   pub left : n + length (entriesFrom s t 0 p) ≡ length (entriesOf s t)
 
-pub start-ready : (s : Settings) (t : List ℕ) (p : Stand) → TextReady s t → StandsAt t textFront nothingResumed p → StandReady s t p
+pub start-ready : (s : Settings) (t : List ℕ) (p : Stand) → TextReady s t → StandsAt t textFront 0 nothingResumed p → StandReady s t p
 start-ready s t p h f =
-    stand-ready s t textFront nothingResumed p
-    (record { settings = h .settings; short = h .short; inside = omega arith; rest = none-fits t 0 nothingResumed refl }) f
+    stand-ready s t textFront 0 nothingResumed p
+    (record { settings = h .settings; short = h .short; inside = omega arith; rest = none-fits t 0 nothingResumed refl }) (omega arith) f
 
-pub count-start : (s : Settings) (t : List ℕ) (p : Stand) → TextReady s t → StandsAt t textFront nothingResumed p → Counted s t 0 p
+pub count-start : (s : Settings) (t : List ℕ) (p : Stand) → TextReady s t → StandsAt t textFront 0 nothingResumed p → Counted s t 0 p
 count-start s t p h f = record { ready = start-ready s t p h f; left = omega (arith, ap length (all-entries s t p f)) }
 
 module _ (s : Settings) (t : List ℕ) (n : ℕ) (p : Stand) (c : Counted s t n p) where
@@ -50,7 +50,7 @@ module _ (s : Settings) (t : List ℕ) (n : ℕ) (p : Stand) (c : Counted s t n 
     pub count-last : x .last ≡ true → n + 1 ≡ length (entriesOf s t)
     count-last h = omega (arith, c .left, ap length (last-entry s t 0 p (c .ready) x is (x .entry) here h))
 
-    pub count-more : (q : Stand) → StandsAt t (x .next) (x .rest) q → x .last ≡ false → Counted s t (n + 1) q
+    pub count-more : (q : Stand) → StandsAt t (x .next) (p .before .0 + x .chars .0) (x .rest) q → x .last ≡ false → Counted s t (n + 1) q
     count-more q on h =
         record {
           ready = ready-next s t p (c .ready) x is q on;
@@ -65,7 +65,7 @@ pub record Wrote (s : Settings) (t t₀ u : List ℕ) (n : ℕ) (p : Stand) : Ty
   pub same : length u ≡ length t₀
   pub left : linesPut u n (entriesFrom s t 0 p) ≡ written t₀ (ofAll ofEntry (entriesOf s t))
 
-pub write-start : (s : Settings) (t t₀ : List ℕ) (p : Stand) → TextReady s t → StandsAt t textFront nothingResumed p → Wrote s t t₀ t₀ 0 p
+pub write-start : (s : Settings) (t t₀ : List ℕ) (p : Stand) → TextReady s t → StandsAt t textFront 0 nothingResumed p → Wrote s t t₀ t₀ 0 p
 write-start s t t₀ p h f =
     record { counted = count-start s t p h f; same = refl; left = rw (all-entries s t p f) (all-put t₀ (entriesOf s t)) }
 
@@ -89,7 +89,7 @@ module _ (s : Settings) (t t₀ u : List ℕ) (n : ℕ) (p : Stand) (w : Wrote s
     pub write-last : x .last ≡ true → v ≡ written t₀ (ofAll ofEntry (entriesOf s t))
     write-last h = sym (none-put v (n + 1)) ∙ one-put [] (last-entry s t 0 p (c .ready) x is (x .entry) (here s t n p c x is) h)
 
-    pub write-next : (q : Stand) → StandsAt t (x .next) (x .rest) q → x .last ≡ false → Wrote s t t₀ v (n + 1) q
+    pub write-next : (q : Stand) → StandsAt t (x .next) (p .before .0 + x .chars .0) (x .rest) q → x .last ≡ false → Wrote s t t₀ v (n + 1) q
     write-next q on h =
         record {
           counted = count-more s t n p c x is q on h;

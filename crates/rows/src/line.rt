@@ -1,5 +1,6 @@
 // A line is measured, placed and drawn (rule 10).
 use crate::pass::run_pass;
+use meaning::counts::Chars;
 use meaning::counts::Offset;
 use meaning::counts::Pixels;
 use meaning::line::Placed;
@@ -13,6 +14,7 @@ use placing::entry::LineAt;
 use placing::entry::entry_at;
 use placing::quick::Quick;
 use placing::quick::quick_line;
+use placing::taken::chars_to;
 use steps::first::Known;
 use steps::first::known_here;
 use steps::step::Ended;
@@ -71,11 +73,20 @@ fn pass_over(text: &[u8], s: Settings, at: usize, rest: Resumed, p: Placed, know
     run_pass(text, s, start, at, rest, nothing_measured(), known)
 }
 
-// The line itself.
-fn laid_at(at: Offset, rest: Resumed, p: Placed, width: Pixels, looked: Offset, e: Ended) -> LineAt
-    ensures { λ r. ⌜ r ≡ laidAt (at .0) rest p (width .0) (looked .0) e ⌝ }
+// The line itself, which took so many characters.
+fn laid_at(
+    at: Offset,
+    before: Chars,
+    rest: Resumed,
+    p: Placed,
+    width: Pixels,
+    looked: Offset,
+    e: Ended,
+    chars: Chars,
+) -> LineAt
+    ensures { λ r. ⌜ r ≡ laidAt (at .0) (before .0) rest p (width .0) (looked .0) e (chars .0) ⌝ }
 {
-    let entry = entry_at(at, rest, p, width, looked, e);
+    let entry = entry_at(at, before, rest, p, width, looked, e);
     let ended = e.ended;
     let next = e.next;
     let held = e.rest;
@@ -83,26 +94,41 @@ fn laid_at(at: Offset, rest: Resumed, p: Placed, width: Pixels, looked: Offset, 
         entry,
         ended,
         next,
+        chars,
         rest: held,
     }
 }
 
 // The line whose drawing pass ends as its measuring pass did.
-fn laid_alike(s: Settings, at: Offset, rest: Resumed, e: Ended) -> LineAt
+fn laid_alike(
+    s: Settings,
+    at: Offset,
+    before: Chars,
+    rest: Resumed,
+    e: Ended,
+    chars: Chars,
+) -> LineAt
     requires { ⌜ FineSettings s × (e .measure .count .0 ≤ 65535) ⌝ }
-    ensures { λ r. ⌜ r ≡ laidAt (at .0) rest (placedBy s e) (e .measure .width .0) (e .reach .0) e ⌝ }
+    ensures { λ r. ⌜ r ≡ laidAt (at .0) (before .0) rest (placedBy s e) (e .measure .width .0) (e .reach .0) e (chars .0) ⌝ }
 {
     let m = e.measure;
     let width = m.width;
     let p = placed_by(s, e);
     let looked = e.reach;
-    laid_at(at, rest, p, width, looked, e)
+    laid_at(at, before, rest, p, width, looked, e, chars)
 }
 
 // The line in two passes. One that is placed as it was measured is drawn as it was.
-fn lay_twice(text: &[u8], s: Settings, at: usize, rest: Resumed, known: Known) -> LineAt
+fn lay_twice(
+    text: &[u8],
+    s: Settings,
+    at: usize,
+    before: Chars,
+    rest: Resumed,
+    known: Known,
+) -> LineAt
     requires { ⌜ LineReady s (now text) at rest × KnownFits (now text) known ⌝ }
-    ensures { λ r. ⌜ r ≡ lineFrom s (now (text .entry)) at rest ⌝ }
+    ensures { λ r. ⌜ r ≡ lineFrom s (now (text .entry)) at (before .0) rest ⌝ }
 {
     let first = pass_over(text, s, at, rest, placed_plainly(s), known);
     let m = first.measure;
@@ -111,27 +137,38 @@ fn lay_twice(text: &[u8], s: Settings, at: usize, rest: Resumed, known: Known) -
     let looked = first.reach;
     let start = at as u32;
     if as_measured(s, p) {
-        return laid_at(Offset(start), rest, p, width, looked, first);
+        let next = first.next;
+        let n = chars_to(text, at, next);
+        return laid_at(Offset(start), before, rest, p, width, looked, first, n);
     }
     let drawn = pass_over(text, s, at, rest, p, known);
-    laid_at(Offset(start), rest, p, width, looked, drawn)
+    let next = drawn.next;
+    let n = chars_to(text, at, next);
+    laid_at(Offset(start), before, rest, p, width, looked, drawn, n)
 }
 
-// The line at an offset of a text, after a rest that it resumes, where a word may be known.
-pub fn lay_line(text: &[u8], s: Settings, at: usize, rest: Resumed, known: Known) -> LineAt
+// The line at an offset of a text, behind so many characters and after a rest that it resumes, where a word may be known.
+pub fn lay_line(
+    text: &[u8],
+    s: Settings,
+    at: usize,
+    before: Chars,
+    rest: Resumed,
+    known: Known,
+) -> LineAt
     requires { ⌜ LineReady s (now text) at rest × KnownFits (now text) known ⌝ }
-    ensures { λ r. ⌜ r ≡ lineFrom s (now (text .entry)) at rest ⌝ }
+    ensures { λ r. ⌜ r ≡ lineFrom s (now (text .entry)) at (before .0) rest ⌝ }
 {
     let start = at as u32;
     if rest.chars.0 == 0 {
-        if let Quick::Line(e) = quick_line(text, s, at, known) {
-            return laid_alike(s, Offset(start), rest, e);
+        if let Quick::Line(e, n) = quick_line(text, s, at, known) {
+            return laid_alike(s, Offset(start), before, rest, e, n);
         }
         let here = known_here(text, at, known);
-        if let Quick::Line(e) = cut_line(text, s, at, here) {
-            return laid_alike(s, Offset(start), rest, e);
+        if let Quick::Line(e, n) = cut_line(text, s, at, here) {
+            return laid_alike(s, Offset(start), before, rest, e, n);
         }
-        return lay_twice(text, s, at, rest, here);
+        return lay_twice(text, s, at, before, rest, here);
     }
-    lay_twice(text, s, at, rest, known)
+    lay_twice(text, s, at, before, rest, known)
 }

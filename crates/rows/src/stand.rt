@@ -1,5 +1,6 @@
 // The one step that every loop over lines takes: the line where it stands is laid, and it stands on the next (rule 10).
 use crate::line::lay_line;
+use meaning::counts::Chars;
 use meaning::counts::Offset;
 use meaning::line::Entry;
 use meaning::line::LineEnd;
@@ -9,7 +10,7 @@ use steps::first::Known;
 use steps::first::known_from;
 use steps::first::nothing_known;
 use steps::step::Resumed;
-ghost use Prim.Native.Nat.{_≤_};
+ghost use Prim.Native.Nat.{_+_, _≤_};
 ghost use mathlib.Core.Path.{_≡_};
 ghost use lib.ListN.{length};
 ghost use Rattle.meaning.specs.Checks.{textLimit};
@@ -17,44 +18,52 @@ ghost use Rattle.steps.specs.Knowing.{KnownFits};
 ghost use Rattle.steps.specs.Unrolled.{nothingResumed};
 ghost use Rattle.rows.specs.Standing.{isLast, textFront, StandsAt, StandReady, laidRow, NextReady};
 
-// Where a line is to be laid: its offset, the rest that it resumes, and a word that may be known there.
+// Where a line is to be laid: its offset, the characters before it, the rest that it resumes, and a word that may be known there.
 pub struct Stand {
     pub at: Offset,
+    pub before: Chars,
     pub rest: Resumed,
     pub known: Known,
 }
 
-// A line that is laid: its entry, whether it ends the text, where the next line starts and what that one resumes.
+// A line that is laid: its entry, whether it ends the text, where the next line starts, how many characters it took up to there
+// and what the next one resumes.
 pub struct LaidRow {
     pub entry: Entry,
     pub last: bool,
     pub next: Offset,
+    pub chars: Chars,
     pub rest: Resumed,
 }
 
-// Before the line at an offset, which resumes a rest, where a word may be known from the line before.
-fn stand_at(text: &[u8], at: Offset, rest: Resumed, before: Known) -> Stand
-    requires { ⌜ (length (now text) ≤ textLimit) × (at .0 ≤ length (now text)) × KnownFits (now text) before ⌝ }
-    ensures { λ r. ⌜ StandsAt (now (text .entry)) at rest r ⌝ }
+// Before the line at an offset, behind so many characters, which resumes a rest, where a word may be known from the line before.
+fn stand_at(text: &[u8], at: Offset, before: Chars, rest: Resumed, word: Known) -> Stand
+    requires { ⌜ (length (now text) ≤ textLimit) × (at .0 ≤ length (now text)) × KnownFits (now text) word ⌝ }
+    ensures { λ r. ⌜ StandsAt (now (text .entry)) at (before .0) rest r ⌝ }
 {
-    let known = known_from(text, at.0 as usize, rest, before);
-    Stand { at, rest, known }
+    let known = known_from(text, at.0 as usize, rest, word);
+    Stand {
+        at,
+        before,
+        rest,
+        known,
+    }
 }
 
-// At a text's front, before a line that resumes a rest.
-pub fn at_front(text: &[u8], rest: Resumed) -> Stand
+// At a text's front, before a line that resumes a rest and has so many characters before it.
+pub fn at_front(text: &[u8], before: Chars, rest: Resumed) -> Stand
     requires { ⌜ length (now text) ≤ textLimit ⌝ }
-    ensures { λ r. ⌜ StandsAt (now (text .entry)) textFront rest r ⌝ }
+    ensures { λ r. ⌜ StandsAt (now (text .entry)) textFront (before .0) rest r ⌝ }
 {
-    stand_at(text, Offset(0), rest, nothing_known())
+    stand_at(text, Offset(0), before, rest, nothing_known())
 }
 
-// At a text's front, where nothing is resumed.
+// At a text's front, where nothing is resumed and no character stands before it.
 pub fn at_start(text: &[u8]) -> Stand
     requires { ⌜ length (now text) ≤ textLimit ⌝ }
-    ensures { λ r. ⌜ StandsAt (now (text .entry)) textFront nothingResumed r ⌝ }
+    ensures { λ r. ⌜ StandsAt (now (text .entry)) textFront 0 nothingResumed r ⌝ }
 {
-    at_front(text, nothing_left())
+    at_front(text, Chars(0), nothing_left())
 }
 
 // Nothing follows the line that ends the text.
@@ -75,18 +84,21 @@ pub fn lay_row(text: &[u8], s: Settings, stand: Stand) -> LaidRow
     ensures { λ r. ⌜ r ≡ laidRow s (now (text .entry)) stand ⌝ }
 {
     let at = stand.at.0 as usize;
+    let before = stand.before;
     let held = stand.rest;
     let known = stand.known;
-    let line = lay_line(text, s, at, held, known);
+    let line = lay_line(text, s, at, before, held, known);
     let entry = line.entry;
     let ended = line.ended;
     let last = is_last(ended);
     let next = line.next;
+    let chars = line.chars;
     let rest = line.rest;
     LaidRow {
         entry,
         last,
         next,
+        chars,
         rest,
     }
 }
@@ -94,10 +106,11 @@ pub fn lay_row(text: &[u8], s: Settings, stand: Stand) -> LaidRow
 // Where the line after it is to be laid. Two functions and not one: an answer with the known word in it would go through memory twice.
 pub fn next_stand(text: &[u8], stand: Stand, row: LaidRow) -> Stand
     requires { ⌜ NextReady (now text) stand row ⌝ }
-    ensures { λ r. ⌜ StandsAt (now (text .entry)) (row .next) (row .rest) r ⌝ }
+    ensures { λ r. ⌜ StandsAt (now (text .entry)) (row .next) (stand .before .0 + row .chars .0) (row .rest) r ⌝ }
 {
     let next = row.next;
+    let before = stand.before.0 + row.chars.0;
     let rest = row.rest;
     let known = stand.known;
-    stand_at(text, next, rest, known)
+    stand_at(text, next, Chars(before), rest, known)
 }

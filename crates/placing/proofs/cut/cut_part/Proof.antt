@@ -3,7 +3,7 @@
 use mathlib.Core.Path.{refl}
 use native.Mathlib.Omega.{arith}
 use borrow.Author.Needs.{needs}
-use Rattle.placing.proofs.CutLaws.{within, cut-alike}
+use Rattle.placing.proofs.CutLaws.{within, cut-alike, cut-taken}
 use Rattle.placing.proofs.cut.cut_part.Statement.{statement}
 use Rattle.placing.proofs.cut.cut_part.Tie as tie
 
@@ -42,8 +42,11 @@ returns-3 c =
     let long = part .before in
     let some = long .before .before in
     let r = begin some .pre in
-    cut-alike (r .0) (begin some .args .x) (r .1) (r .2) refl (some .if1 .left) (long .if2 .left) (part .part-of .ensures) _ _ (m .printed-at .ensures)
-    (c .ends-before .ensures)
+    let x = begin some .args .x in (
+      cut-alike (r .0) x (r .1) (r .2) refl (some .if1 .left) (long .if2 .left) (part .part-of .ensures) _ _ (m .printed-at .ensures)
+          (c .ends-before .ensures),
+      cut-taken (r .0) x (r .1) (r .2) refl (some .if1 .left) (long .if2 .left) (part .part-of .ensures) _ _ (c .ends-before .ensures),
+    )
 
 pub cut-part-spec : {M : Type 1} → statement M
 cut-part-spec =

@@ -31,6 +31,7 @@ returns c =
       width = a .width;
       dropped = a .e .dropped;
       reach = record { 0 = c .greater .ensures i };
+      before = a .before;
     }
 
 pub entry-at-spec : {M : Type 1} → statement M

@@ -2,6 +2,7 @@
 -- Assumes nothing.
 use mathlib.Core.Path.{subst}
 use borrow.Author.Needs.{needs}
+use Rattle.placing.specs.Taken.{Taken}
 use Rattle.placing.specs.Quick.{DrawnAlike, QuickLine}
 use Rattle.placing.specs.LayLaws.{rested, alike-few, laid-alike}
 use Rattle.rows.proofs.line.lay_line.Statement.{statement}
@@ -12,10 +13,10 @@ begin c = c .before .before .before
 
 -- ---- words with one space between any two
 
--- The line that is drawn as it was measured.
+-- The line that is drawn as it was measured, and its characters.
 alike : (c : tie.After-e) →
     let a = begin (c .before .before .before) .args in
-    DrawnAlike (a .s) (a .text .now) (a .at) (c .e .given .0 .0)
+    DrawnAlike (a .s) (a .text .now) (a .at) (c .e .given .0 .0) × Taken (a .text .now) (a .at) (c .e .given .0 .0 .next .0) (c .e .given .0 .1 .0 .0)
 alike c =
     let a = begin (c .before .before .before) .args in
     subst (QuickLine (a .s) (a .text .now) (a .at)) (c .e .given .1) (c .before .before .quick-line .ensures)
@@ -33,13 +34,13 @@ laid-alike-requires : tie.Need-laid-alike-requires
 laid-alike-requires c κs =
     let e = c .before in
     let i = e .before .before .before in
-    (begin i .pre .0 .settings, alike-few (begin i .pre .0) (i .if1 .taken) _ (alike e))
+    (begin i .pre .0 .settings, alike-few (begin i .pre .0) (i .if1 .taken) _ (alike e .0))
 
 returns : tie.Need-returns
 returns c =
     let e = c .before .before in
     let i = e .before .before .before in
-    laid-alike (begin i .pre .0) (i .if1 .taken) _ (alike e) _ (c .laid-alike .ensures)
+    laid-alike (begin i .pre .0) (i .if1 .taken) _ (alike e .0) _ _ (alike e .1) _ (c .laid-alike .ensures)
 
 enum-told : tie.Need-enum-told
 enum-told c = search needs
@@ -62,7 +63,7 @@ enum-known-e-2 c = search needs
 
 cut-alike : (c : tie.After-e2) →
     let a = begin (unquick (c .before .before .before)) .args in
-    DrawnAlike (a .s) (a .text .now) (a .at) (c .e2 .given .0 .0)
+    DrawnAlike (a .s) (a .text .now) (a .at) (c .e2 .given .0 .0) × Taken (a .text .now) (a .at) (c .e2 .given .0 .0 .next .0) (c .e2 .given .0 .1 .0 .0)
 cut-alike c =
     let a = begin (unquick (c .before .before .before)) .args in
     subst (QuickLine (a .s) (a .text .now) (a .at)) (c .e2 .given .1) (c .before .before .cut-line .ensures)
@@ -71,13 +72,13 @@ laid-alike-requires-2 : tie.Need-laid-alike-requires-2
 laid-alike-requires-2 c κs =
     let e = c .before in
     let i = unquick (e .before .before .before) in
-    (begin i .pre .0 .settings, alike-few (begin i .pre .0) (i .if1 .taken) _ (cut-alike e))
+    (begin i .pre .0 .settings, alike-few (begin i .pre .0) (i .if1 .taken) _ (cut-alike e .0))
 
 returns-2 : tie.Need-returns-2
 returns-2 c =
     let e = c .before .before in
     let i = unquick (e .before .before .before) in
-    laid-alike (begin i .pre .0) (i .if1 .taken) _ (cut-alike e) _ (c .laid-alike2 .ensures)
+    laid-alike (begin i .pre .0) (i .if1 .taken) _ (cut-alike e .0) _ _ (cut-alike e .1) _ (c .laid-alike2 .ensures)
 
 enum-told-2 : tie.Need-enum-told-2
 enum-told-2 c = search needs

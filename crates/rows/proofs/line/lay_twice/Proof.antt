@@ -1,10 +1,12 @@
 -- `rows::line::lay_twice` meets its contract (rule 10).
 -- Assumes nothing.
 use Rattle.placing.specs.LayLaws.{plain-ready, few-spaces, placed-ready, laid-twice, laid-once}
-use Rattle.placing.specs.Laying.{LineReady}
+use Rattle.placing.specs.Taken.{Stretch}
+use Rattle.placing.specs.Laying.{LineReady, passed-stretch}
+use Rattle.steps.specs.declared.step.Ended.{Ended}
 use Rattle.steps.specs.Knowing.{KnownFits}
 use native.Mathlib.Omega.{arith}
-use mathlib.Core.Path.{refl, sym, _∙_}
+use mathlib.Core.Path.{refl, sym, subst, _∙_}
 use borrow.Author.Needs.{needs}
 use Rattle.rows.proofs.line.lay_twice.Statement.{statement}
 use Rattle.rows.proofs.line.lay_twice.Tie as tie
@@ -16,6 +18,14 @@ ready c = c .before .before .pre .0
 
 known : (c : tie.After-placed-plainly) → let a = c .before .before .args in KnownFits (a .text .now) (a .known)
 known c = c .before .before .pre .1
+
+-- The first pass ends where a character does.
+stretch : (c : tie.After-pass-over) →
+    let a = c .before .before .before .args in
+    Stretch (a .text .now) (a .at) (c .pass-over .result .next .0)
+stretch c =
+    let a = c .before .before .before .args in
+    subst (λ (e : Ended). Stretch (a .text .now) (a .at) (e .next .0)) (sym (c .pass-over .ensures)) (passed-stretch (a .s) (a .text .now) (a .at) (a .rest) _)
 
 placed-plainly-requires : tie.Need-placed-plainly-requires
 placed-plainly-requires c κs = search needs
@@ -36,16 +46,24 @@ cast-start c = search needs
 as-measured-requires : tie.Need-as-measured-requires
 as-measured-requires c κs = search needs
 
+chars-to-requires : tie.Need-chars-to-requires
+chars-to-requires c κs =
+    let f = c .before .before .before .before .before .before .before in
+    let r = ready (f .before) in
+    (r .short, r .inside, stretch f)
+
 laid-at-requires : tie.Need-laid-at-requires
 laid-at-requires c κs = search needs
 
 returns : tie.Need-returns
 returns c =
-    let i = c .before .before in
+    let n = c .before in
+    let t = n .before .before in
+    let i = t .before in
     let p = i .before .before in
     let f = p .before .before .before in
     laid-once (ready (f .before)) _ _ (f .before .placed-plainly .ensures) (f .pass-over .ensures) _ _ _ refl (p .placed-by .ensures)
-    (sym (i .as-measured .ensures) ∙ c .before .if1 .taken) (c .laid-at .ensures)
+    _ _ (sym (i .as-measured .ensures) ∙ t .if1 .taken) (n .chars-to .ensures) (c .laid-at .ensures)
 
 pass-over-requires-2 : tie.Need-pass-over-requires-2
 pass-over-requires-2 c κs =
@@ -54,16 +72,25 @@ pass-over-requires-2 c κs =
     let g = placed-ready (ready (f .before)) _ _ (f .before .placed-plainly .ensures) (f .pass-over .ensures) _ (p .placed-by .ensures) in
     (ready (f .before), g .0, g .1, known (f .before))
 
+chars-to-requires-2 : tie.Need-chars-to-requires-2
+chars-to-requires-2 c κs =
+    let d = c .before in
+    let f = d .before .before .before .before .before .before .before in
+    let a = f .before .before .before .args in
+    let r = ready (f .before) in
+    (r .short, r .inside, subst (λ (e : Ended). Stretch (a .text .now) (a .at) (e .next .0)) (sym (d .pass-over2 .ensures)) (passed-stretch (a .s) (a .text .now) (a .at) (a .rest) _))
+
 laid-at-requires-2 : tie.Need-laid-at-requires-2
 laid-at-requires-2 c κs = search needs
 
 returns-2 : tie.Need-returns-2
 returns-2 c =
-    let d = c .before in
+    let n = c .before in
+    let d = n .before .before in
     let p = d .before .before .before .before in
     let f = p .before .before .before in
-    laid-twice (ready (f .before)) _ _ (f .before .placed-plainly .ensures) (f .pass-over .ensures) _ _ _ refl (p .placed-by .ensures) _
-    (d .pass-over2 .ensures) (c .laid-at2 .ensures)
+    laid-twice (ready (f .before)) _ _ (f .before .placed-plainly .ensures) (f .pass-over .ensures) _ _ _ refl (p .placed-by .ensures)
+    _ _ _ (d .pass-over2 .ensures) (n .chars-to2 .ensures) (c .laid-at2 .ensures)
 
 pub lay-twice-spec : {M : Type 1} → statement M
 lay-twice-spec =
@@ -74,8 +101,10 @@ lay-twice-spec =
     placed-by-requires
     cast-start
     as-measured-requires
+    chars-to-requires
     laid-at-requires
     returns
     pass-over-requires-2
+    chars-to-requires-2
     laid-at-requires-2
     returns-2)

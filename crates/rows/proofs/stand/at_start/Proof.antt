@@ -14,7 +14,7 @@ at-front-requires c κs = search needs
 returns : tie.Need-returns
 returns c =
     let f = c .at-front .ensures in
-    record { at-is = f .at-is; rest-is = f .rest-is ∙ c .before .nothing-left .ensures; known = f .known }
+    record { at-is = f .at-is; before-is = f .before-is; rest-is = f .rest-is ∙ c .before .nothing-left .ensures; known = f .known }
 
 pub at-start-spec : {M : Type 1} → statement M
 at-start-spec = tie.close (tie.spec nothing-left-requires at-front-requires returns)

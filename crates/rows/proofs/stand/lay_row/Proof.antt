@@ -16,7 +16,7 @@ is-last-requires c κs = search needs
 
 returns : tie.Need-returns
 returns c =
-    let last = c .before .before in
+    let last = c .before .before .before in
     row-is _ _ _ _ _ (last .before .before .lay-line .ensures) (last .is-last .ensures)
 
 pub lay-row-spec : {M : Type 1} → statement M
