@@ -1,7 +1,7 @@
 -- The pointer into the old lines, line by line.
 -- Assumes nothing.
 use Prim.Native.Nat.{ℕ, suc, _+_, _*_, _≤_, _<_}
-use mathlib.Core.Path.{_≡_, ap, _∙_}
+use mathlib.Core.Path.{_≡_, sym, ap, _∙_}
 use mathlib.Core.Bool.{true, false}
 use mathlib.Core.List.{List}
 use lib.ListN.{getD, drop}
@@ -11,7 +11,8 @@ use Rattle.meaning.specs.Edit.{meets}
 use Rattle.meaning.specs.declared.edit.Edit.{Edit}
 use Rattle.meaning.specs.declared.line.Rest.{Rest}
 use Rattle.meaning.specs.declared.line.Entry.{Entry}
-use Rattle.table.specs.LinesFrom.{linesFrom, lines-more, lines-end, start-at}
+use Rattle.table.specs.LinesFrom.{linesFrom, lines-more, lines-end, start-at, before-at}
+use Rattle.laws.specs.Relaid.{countOf}
 use Rattle.edits.specs.Pointer.{standsBefore, passing, meetsFirst}
 
 module _ (ed : Edit) (start : ℕ) (t : List ℕ) (lines i : ℕ) where
@@ -36,3 +37,11 @@ module _ (ed : Edit) (start : ℕ) (t : List ℕ) (lines i : ℕ) where
       → meets ed start rest e ≡ meetsFirst ed start rest (linesFrom t lines i)
   unfolding meetsFirst
   met-line rest e h q = ap (meets ed start rest) q ∙ rw (lines-more t lines i h)
+
+module _ (t : List ℕ) (lines i : ℕ) where
+  -- The characters before line i, if there is one.
+  pub count-none : lines ≤ i → 0 ≡ countOf (linesFrom t lines i)
+  count-none h = rw (lines-end t lines i h)
+
+  pub count-line : i < lines → getD t (entryNumbers * i + 10) 0 ≡ countOf (linesFrom t lines i)
+  count-line h = rw (lines-more t lines i h) (sym (before-at t i))

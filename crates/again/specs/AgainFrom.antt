@@ -31,7 +31,7 @@ unfoldable pub untilKept : Edit → (old : List Entry) → List Row → Again
 untilKept ed old [] = record { laid = []; kept = [] }
 untilKept ed old (r ∷ rs) =
     let more = oneMore r (untilKept ed old rs) in
-    unlessKept ed (keptFrom ed (r .entry .start .0) (r .entry .rest) old) more
+    unlessKept ed (r .entry .before .0) (keptFrom ed (r .entry .start .0) (r .entry .rest) old) more
 
 -- From a stand on, in a part that stands behind so many bytes.
 abbrev pub againFrom : Settings → (part : List ℕ) → Edit → (old : List Entry) → (base : ℕ) → Stand → Again
@@ -46,52 +46,53 @@ until-ended ed old NewLine rs = refl
 until-ended ed old CarriageReturn rs = refl
 until-ended ed old LineBreak rs = refl
 
-by-rows : (n : ℕ) (s : Settings) (ed : Edit) (old : List Entry) (start : ℕ) (h : Held) (cs : List ℕ)
-    → againBy n s ed old start h cs ≡ untilKept ed old (rowsBy n s start h cs)
+by-rows : (n : ℕ) (s : Settings) (ed : Edit) (old : List Entry) (start before : ℕ) (h : Held) (cs : List ℕ)
+    → againBy n s ed old start before h cs ≡ untilKept ed old (rowsBy n s start before h cs)
 unfolding againBy rowsBy untilKept rowAt entryAt
-by-rows zero s ed old start h cs = refl
-by-rows (suc n) s ed old start h cs =
+by-rows zero s ed old start before h cs = refl
+by-rows (suc n) s ed old start before h cs =
     let l = layLine s h cs in
     let next = start + size (take (l .chars) cs) in
     let more = drop (l .chars) cs in
-    ap (λ (x : Again). unlessKept ed (keptFrom ed start (restOf start h cs) old) (oneMore (rowAt start h cs l) x))
-    (ap (againUnlessEnded (l .ended)) (by-rows n s ed old next (l .held) more)
-    ∙ sym (until-ended ed old (l .ended) (rowsBy n s next (l .held) more)))
+    let on = before + l .chars in
+    ap (λ (x : Again). unlessKept ed before (keptFrom ed start (restOf start h cs) old) (oneMore (rowAt start before h cs l) x))
+    (ap (againUnlessEnded (l .ended)) (by-rows n s ed old next on (l .held) more)
+    ∙ sym (until-ended ed old (l .ended) (rowsBy n s next on (l .held) more)))
 
-pub again-front : (s : Settings) (t : List ℕ) (ed : Edit) (old : List Entry) (base : ℕ) (r : Resumed) (p : Stand) → StandsAt t textFront r p
-    → againBy (suc (length (charsFrom t 0))) s ed old base (heldIn r) (charsFrom t 0) ≡ againFrom s t ed old base p
-again-front s t ed old base r p f =
+pub again-front : (s : Settings) (t : List ℕ) (ed : Edit) (old : List Entry) (base before : ℕ) (r : Resumed) (p : Stand) → StandsAt t textFront before r p
+    → againBy (suc (length (charsFrom t 0))) s ed old base before (heldIn r) (charsFrom t 0) ≡ againFrom s t ed old base p
+again-front s t ed old base before r p f =
     let cs = charsFrom t 0 in
-    by-rows (suc (length cs)) s ed old base (heldIn r) cs
-    ∙ ap (λ (n : ℕ). untilKept ed old (rowsBy (suc (length cs)) s n (heldIn r) cs)) (sym (add-zero base))
-    ∙ ap (untilKept ed old) (sym (front-rows s t base r p f))
+    by-rows (suc (length cs)) s ed old base before (heldIn r) cs
+    ∙ ap (λ (n : ℕ). untilKept ed old (rowsBy (suc (length cs)) s n before (heldIn r) cs)) (sym (add-zero base))
+    ∙ ap (untilKept ed old) (sym (front-rows s t base before r p f))
 
 -- ---- what is laid are the first of the lines
 
 module _ (ed : Edit) where
-  first-kept : (es : List Entry) (r : Row) (rs : List Row) (a : Again) → map entryOfRow (a .laid) ≡ take (length (a .laid)) (map entryOfRow rs)
-      → map entryOfRow (unlessKept ed es (oneMore r a) .laid) ≡ take (length (unlessKept ed es (oneMore r a) .laid)) (map entryOfRow (r ∷ rs))
+  first-kept : (before : ℕ) (es : List Entry) (r : Row) (rs : List Row) (a : Again) → map entryOfRow (a .laid) ≡ take (length (a .laid)) (map entryOfRow rs)
+      → map entryOfRow (unlessKept ed before es (oneMore r a) .laid) ≡ take (length (unlessKept ed before es (oneMore r a) .laid)) (map entryOfRow (r ∷ rs))
   unfolding unlessKept
-  first-kept [] r rs a h = ap (λ (es : List Entry). r .entry ∷ es) h
-  first-kept (e ∷ es) r rs a h = refl
+  first-kept before [] r rs a h = ap (λ (es : List Entry). r .entry ∷ es) h
+  first-kept before (e ∷ es) r rs a h = refl
 
-  few-kept : (es : List Entry) (n : ℕ) (a : Again) → length (a .laid) ≤ n → length (unlessKept ed es a .laid) ≤ n
+  few-kept : (before : ℕ) (es : List Entry) (n : ℕ) (a : Again) → length (a .laid) ≤ n → length (unlessKept ed before es a .laid) ≤ n
   unfolding unlessKept
-  few-kept [] n a h = h
-  few-kept (e ∷ es) n a h = omega arith
+  few-kept before [] n a h = h
+  few-kept before (e ∷ es) n a h = omega arith
 
   until-first : (old : List Entry) (rs : List Row)
       → map entryOfRow (untilKept ed old rs .laid) ≡ take (length (untilKept ed old rs .laid)) (map entryOfRow rs)
   unfolding untilKept
   until-first old [] = refl
   until-first old (r ∷ rs) =
-      first-kept (keptFrom ed (r .entry .start .0) (r .entry .rest) old) r rs (untilKept ed old rs) (until-first old rs)
+      first-kept (r .entry .before .0) (keptFrom ed (r .entry .start .0) (r .entry .rest) old) r rs (untilKept ed old rs) (until-first old rs)
 
   until-few : (old : List Entry) (rs : List Row) → length (untilKept ed old rs .laid) ≤ length rs
   unfolding untilKept
   until-few old [] = omega arith
   until-few old (r ∷ rs) =
-      few-kept (keptFrom ed (r .entry .start .0) (r .entry .rest) old) (suc (length rs)) (oneMore r (untilKept ed old rs))
+      few-kept (r .entry .before .0) (keptFrom ed (r .entry .start .0) (r .entry .rest) old) (suc (length rs)) (oneMore r (untilKept ed old rs))
       (omega (arith, until-few old rs))
 
 module _ (s : Settings) (t : List ℕ) (ed : Edit) (old : List Entry) (base : ℕ) (p : Stand) where
@@ -112,16 +113,16 @@ module _ (s : Settings) (t : List ℕ) (ed : Edit) (old : List Entry) (base : �
     -- Before the line the old lines are looked at.
     looked : (rs : List Row)
         → untilKept ed old (rowHere s t base p ∷ rs)
-        ≡ unlessKept ed (keptFrom ed (base + p .at .0) (restBehind base (p .rest)) old) (oneMore (rowHere s t base p) (untilKept ed old rs))
+        ≡ unlessKept ed (p .before .0) (keptFrom ed (base + p .at .0) (restBehind base (p .rest)) old) (oneMore (rowHere s t base p) (untilKept ed old rs))
     unfolding untilKept rowHere rowAt entryAt
     looked rs = rw (rest-behind t base (p .at .0) (p .rest) (ready .line .rest))
 
     -- Old lines follow: nothing is laid.
     pub again-stop : (e : Entry) (es : List Entry) → keptFrom ed (base + p .at .0) (restBehind base (p .rest)) old ≡ e ∷ es
-        → againFrom s t ed old base p ≡ record { laid = []; kept = map (movedEntry ed) (e ∷ es) }
+        → againFrom s t ed old base p ≡ record { laid = []; kept = map (movedEntry ed (e .before .0) (p .before .0)) (e ∷ es) }
     unfolding unlessKept
     again-stop e es k =
-        first-row s t base p (λ rs. untilKept ed old rs ≡ record { laid = []; kept = map (movedEntry ed) (e ∷ es) }) (λ rs. looked rs ∙ rw k)
+        first-row s t base p (λ rs. untilKept ed old rs ≡ record { laid = []; kept = map (movedEntry ed (e .before .0) (p .before .0)) (e ∷ es) }) (λ rs. looked rs ∙ rw k)
 
     module _ (none : keptFrom ed (base + p .at .0) (restBehind base (p .rest)) old ≡ []) (x : LaidRow) (is : x ≡ laidRow s t p) where
       go-on : (rs : List Row) → untilKept ed old (rowHere s t base p ∷ rs) ≡ oneMore (rowHere s t base p) (untilKept ed old rs)
@@ -134,6 +135,6 @@ module _ (s : Settings) (t : List ℕ) (ed : Edit) (old : List Entry) (base : �
       again-last h = ap (untilKept ed old) (last-row s t base p ready x is h) ∙ go-on []
 
       -- Any other, and what follows it.
-      pub again-more : (q : Stand) → StandsAt t (x .next) (x .rest) q → x .last ≡ false
+      pub again-more : (q : Stand) → StandsAt t (x .next) (p .before .0 + x .chars .0) (x .rest) q → x .last ≡ false
           → againFrom s t ed old base p ≡ oneMore (rowHere s t base p) (againFrom s t ed old base q)
       again-more q n h = ap (untilKept ed old) (more-rows s t base p ready x is q n h) ∙ go-on (rowsFrom s t base q)

@@ -1,6 +1,6 @@
 -- A lent part of a text stands behind so many bytes of it: what is laid in the part is moved by them.
 -- Assumes nothing.
-use Prim.Native.Nat.{ℕ, _+_, _≤_}
+use Prim.Native.Nat.{ℕ, _+_, _-_, _≤_}
 use native.Mathlib.Omega.{arith}
 use mathlib.Core.Path.{_≡_, sym, ap, _∙_}
 use mathlib.Core.List.{List}
@@ -13,9 +13,10 @@ use Rattle.unicode.specs.Encoding.{size}
 use Rattle.meaning.specs.LineIter.{Held}
 use Rattle.meaning.specs.Line.{Line, layLine, restOf, entryAt}
 use Rattle.meaning.specs.Layout.{rowAt}
-use Rattle.meaning.specs.Edit.{moved, movedEntry}
+use Rattle.meaning.specs.Edit.{moved}
 use Rattle.meaning.specs.declared.settings.Settings.{Settings}
-use Rattle.meaning.specs.declared.edit.Edit.{Edit}
+use Rattle.table.specs.Moving.{movedBy}
+use Rattle.table.specs.declared.edited.Shift.{Shift}
 use Rattle.meaning.specs.declared.line.Rest.{Rest}
 use Rattle.laws.specs.Moved.{entry-moved}
 use Rattle.laws.specs.Rests.{rest-none, rest-some}
@@ -28,28 +29,35 @@ use Rattle.rows.specs.RowsFrom.{rowHere}
 use Rattle.rows.specs.declared.stand.Stand.{Stand}
 use Rattle.rows.specs.declared.stand.LaidRow.{LaidRow}
 
--- Bytes put in front of everything.
-abbrev pub behind : ℕ → Edit
-behind base = record { from = record { 0 = 0 }; to = record { 0 = 0 }; inserted = record { 0 = base } }
+-- Bytes put in front of everything, and no characters counted: the stand counts them.
+abbrev pub behind : ℕ → Shift
+behind base =
+    record {
+      edit = record { from = record { 0 = 0 }; to = record { 0 = 0 }; inserted = record { 0 = base } };
+      from = record { 0 = 0 };
+      to = record { 0 = 0 };
+    }
 
-moved-behind : (base at : ℕ) → moved (behind base) at ≡ base + at
+moved-behind : (base at : ℕ) → moved (behind base .edit) at ≡ base + at
 unfolding moved
 moved-behind base at = omega arith
 
 -- The line that is laid at an offset of the part, as a line of the whole.
-entry-behind : (base at : ℕ) (h : Held) (cs : List ℕ) (l : Line) → h .chars ≤ length cs
-    → entryAt (base + at) h cs l ≡ movedEntry (behind base) (entryAt at h cs l)
-entry-behind base at h cs l k = rw (moved-behind base at) at (entry-moved (behind base) at h cs l (omega arith) k)
+entry-behind : (base at before : ℕ) (h : Held) (cs : List ℕ) (l : Line) → h .chars ≤ length cs
+    → entryAt (base + at) before h cs l ≡ movedBy (behind base) (entryAt at before h cs l)
+entry-behind base at before h cs l k =
+    let same : 0 + (before - 0) ≡ before = omega arith in
+    rw (moved-behind base at, same) at (entry-moved (behind base .edit) 0 0 at before h cs l (omega arith) k)
 
 -- Such a line is the first of those from its stand on.
 pub row-behind : (s : Settings) (t : List ℕ) (base : ℕ) (p : Stand) → StandReady s t p → (x : LaidRow) → x ≡ laidRow s t p
-    → movedEntry (behind base) (x .entry) ≡ rowHere s t base p .entry
+    → movedBy (behind base) (x .entry) ≡ rowHere s t base p .entry
 unfolding rowHere rowAt lineFrom lineAtOf
 row-behind s t base p c x is =
     let h = heldIn (p .rest) in
     let cs = charsFrom t (p .at .0) in
-    ap (movedEntry (behind base)) (entry-is s t p c x is)
-    ∙ sym (entry-behind base (p .at .0) h cs (layLine s h cs) (c .line .rest .within))
+    ap (movedBy (behind base)) (entry-is s t p c x is)
+    ∙ sym (entry-behind base (p .at .0) (p .before .0) h cs (layLine s h cs) (c .line .rest .within))
 
 -- What is held before such a line, as an entry of the whole says it.
 unfoldable pub restBehind : (base : ℕ) → Resumed → Rest

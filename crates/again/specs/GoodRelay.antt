@@ -29,7 +29,7 @@ use Rattle.parser.specs.Lexing.{charsFrom}
 use Rattle.table.specs.LinesFrom.{linesFrom, lines-more}
 use Rattle.table.specs.GoodTable.{table-room, table-text, table-lines}
 use Rattle.table.specs.Moving.{AllMovable}
-use Rattle.table.specs.MovableLines.{table-movable}
+use Rattle.table.specs.MovableLines.{table-movable, table-few}
 use Rattle.rows.specs.Standing.{StandsAt, textFront, StandReady, stand-ready}
 use Rattle.rows.specs.GoodInput.{fine-settings}
 use Rattle.rows.specs.declared.stand.Stand.{Stand}
@@ -133,8 +133,12 @@ module _ (s : Settings) (part table : List ℕ) (lines : ℕ) (ed : Edit) (g : A
       pub start-low : e .start .0 ≤ 65536
       unfolding linesFrom
       start-low =
-          let a = table-movable table lines k (behind 0) (g .table-is) is-affected (omega arith) in
+          let a = table-movable table lines k (behind 0) (g .table-is) is-affected (omega arith) (omega arith) in
           rw e-is (subst (AllMovable (behind 0)) (lines-more table lines k is-affected) a .0 .start .1)
+
+      -- And has no more characters before it.
+      count-low : e .before .0 ≤ textLimit
+      count-low = rw e-is (table-few table lines k (g .table-is) is-affected)
 
       -- Old lines before it are passed.
       passed : PassedBy ed old (e .start .0) k
@@ -146,17 +150,17 @@ module _ (s : Settings) (part table : List ℕ) (lines : ℕ) (ed : Edit) (g : A
           ∙ ap (keptFrom ed later rest) (affected-drop a old ∙ ap (λ (n : ℕ). drop n old) (sym k-is))
 
       -- Laying starts with it, at the part's front.
-      module _ (p : Stand) (p-is : StandsAt part textFront (resumedOf e cs) p) where
+      module _ (p : Stand) (p-is : StandsAt part textFront (e .before .0) (resumedOf e cs) p) where
         pub front-ready : StandReady s part p
         front-ready =
-            stand-ready s part textFront (resumedOf e cs) p
+            stand-ready s part textFront (e .before .0) (resumedOf e cs) p
             (record {
               settings = fine-settings s (g .settings);
               short = short-part;
               inside = omega arith;
               rest = resumed-fits part e (g .utf8) rest-good;
             })
-            p-is
+            (omega (arith, count-low)) p-is
 
         pub find-ready : FindReady s part table lines k (e .start .0) ed p
         find-ready =
@@ -176,4 +180,4 @@ module _ (s : Settings) (part table : List ℕ) (lines : ℕ) (ed : Edit) (g : A
               first-affected table lines ed k k-is is-affected ∙ ap (λ (x : Entry). x ∷ linesFrom table lines (k + 1)) (sym e-is),
               ← resumed-held e cs,
             )
-            (again-front s part ed old (e .start .0) (resumedOf e cs) p p-is)
+            (again-front s part ed old (e .start .0) (e .before .0) (resumedOf e cs) p p-is)

@@ -1,6 +1,6 @@
 -- The old lines that laying again keeps are the last ones, and the first of them starts behind the replaced bytes.
 -- Assumes nothing.
-use Prim.Native.Nat.{ℕ, suc, _-_, _≤_}
+use Prim.Native.Nat.{ℕ, suc, _+_, _-_, _≤_}
 use native.Mathlib.Omega.{arith}
 use mathlib.Core.Path.{_≡_, refl, sym, ap, subst, _∙_}
 use mathlib.Core.Bool.{true, _&&_}
@@ -15,6 +15,7 @@ use Rattle.meaning.specs.declared.settings.Settings.{Settings}
 use Rattle.meaning.specs.declared.edit.Edit.{Edit}
 use Rattle.meaning.specs.declared.line.Rest.{Rest}
 use Rattle.meaning.specs.declared.line.Entry.{Entry}
+use Rattle.laws.specs.Relaid.{countOf}
 use Rattle.rows.specs.RowsFrom.{rowsFrom}
 use Rattle.rows.specs.declared.stand.Stand.{Stand}
 use Rattle.again.specs.AgainFrom.{untilKept, againFrom}
@@ -55,23 +56,27 @@ module _ (ed : Edit) where
       (λ t. rw t (record { from = 0; within = omega arith; is = refl; behind = met-behind start rest e t }))
       (λ t. rw t (record { from = suc (more .from); within = omega (arith, more .within); is = more .is; behind = more .behind }))
 
-  -- What is kept are such lines, moved.
+  -- What is kept are such lines, moved: from the count before the first of them to the one that it has then.
   pub record KeptLast (old : List Entry) (a : Again) : Type 0 where
     pub lines : List Entry
     pub last : Last ed old lines
-    pub is : a .kept ≡ map (movedEntry ed) lines
+    pub is : a .kept ≡ map (movedEntry ed (countOf lines) (countOf (a .kept))) lines
 
-  stopped-last : (old : List Entry) (es : List Entry) (a : Again) → Last ed old es → KeptLast old a → KeptLast old (unlessKept ed es a)
-  unfolding unlessKept
-  stopped-last old [] a l k = k
-  stopped-last old (e ∷ es) a l k = record { lines = e ∷ es; last = l; is = refl }
+  stopped-last : (old : List Entry) (before : ℕ) (es : List Entry) (a : Again) → Last ed old es → KeptLast old a
+      → KeptLast old (unlessKept ed before es a)
+  unfolding unlessKept movedEntry
+  stopped-last old before [] a l k = k
+  stopped-last old before (e ∷ es) a l k =
+      let from = e .before .0 in
+      let same : before ≡ before + (from - from) = omega arith in
+      record { lines = e ∷ es; last = l; is = ap (λ (n : ℕ). map (movedEntry ed from n) (e ∷ es)) same }
 
   keeps-last : (old : List Entry) (rs : List Row) → KeptLast old (untilKept ed old rs)
   unfolding untilKept
   keeps-last old [] = record { lines = []; last = no-lines old; is = refl }
   keeps-last old (r ∷ rs) =
       let k = keeps-last old rs in
-      stopped-last old (keptFrom ed (r .entry .start .0) (r .entry .rest) old) (oneMore r (untilKept ed old rs))
+      stopped-last old (r .entry .before .0) (keptFrom ed (r .entry .start .0) (r .entry .rest) old) (oneMore r (untilKept ed old rs))
       (kept-last (r .entry .start .0) (r .entry .rest) old) (record { lines = k .lines; last = k .last; is = k .is })
 
 -- ---- by their count
@@ -89,16 +94,18 @@ module _ (s : Settings) (t : List ℕ) (ed : Edit) (old : List Entry) (base : �
   counted : lasts .last .from ≡ first
   counted =
       let l = lasts .last in
-      let n = ap length (lasts .is) ∙ length-map (lasts .lines) (movedEntry ed) ∙ ap length (l .is) ∙ length-drop (l .from) old in
+      let n = ap length (lasts .is) ∙ length-map (lasts .lines) (movedEntry ed (countOf (lasts .lines)) (countOf (a .kept))) ∙ ap length (l .is) ∙ length-drop (l .from) old in
       omega (arith, n, l .within)
 
   pub kept-few : length (a .kept) ≤ length old
   kept-few =
       let l = lasts .last in
-      omega (arith, ap length (lasts .is) ∙ length-map (lasts .lines) (movedEntry ed) ∙ ap length (l .is) ∙ length-drop (l .from) old)
+      omega (arith, ap length (lasts .is) ∙ length-map (lasts .lines) (movedEntry ed (countOf (lasts .lines)) (countOf (a .kept))) ∙ ap length (l .is) ∙ length-drop (l .from) old)
 
-  pub kept-are : a .kept ≡ map (movedEntry ed) (drop first old)
-  kept-are = lasts .is ∙ ap (map (movedEntry ed)) (lasts .last .is ∙ ap (λ (n : ℕ). drop n old) counted)
+  pub kept-are : a .kept ≡ map (movedEntry ed (countOf (drop first old)) (countOf (a .kept))) (drop first old)
+  kept-are =
+      lasts .is
+      ∙ ap (λ (es : List Entry). map (movedEntry ed (countOf es) (countOf (a .kept))) es) (lasts .last .is ∙ ap (λ (n : ℕ). drop n old) counted)
 
   pub kept-behind : StartsBehind ed (drop first old)
   kept-behind = subst (StartsBehind ed) (lasts .last .is ∙ ap (λ (n : ℕ). drop n old) counted) (lasts .last .behind)

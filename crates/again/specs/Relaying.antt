@@ -17,11 +17,14 @@ use Rattle.meaning.specs.declared.line.Entry.{Entry}
 use Rattle.meaning.specs.declared.refusals.Refusal.the-variants.{TooSmall}
 use Rattle.meaning.specs.declared.refusals.Checked.the-variants.{Good}
 use Rattle.meaning.specs.declared.answers.Relaid.the-variants as relaid
+use Rattle.meaning.specs.declared.counts.Chars.{Chars}
 use Rattle.laws.specs.Affected.{unaffected-old}
+use Rattle.laws.specs.Relaid.{countOf}
 use Rattle.laws.specs.TableLaws.{entries-length, entries-first}
 use Rattle.table.specs.LinesFrom.{linesFrom, lines-more, lines-end}
 use Rattle.table.specs.GoodTable.{table-room, table-count}
-use Rattle.table.specs.Moving.{linesMoved, AllMovable, Movable}
+use Rattle.table.specs.declared.edited.Shift.{Shift}
+use Rattle.table.specs.Moving.{movedBy, linesMoved, AllMovable, Movable}
 use Rattle.table.specs.MovableLines.{table-movable}
 use Rattle.rows.specs.Standing.{StandsAt, textFront}
 use Rattle.rows.specs.RowsFrom.{entriesFrom}
@@ -45,8 +48,9 @@ pub record Sought (s : Settings) (part table : List ℕ) (lines : ℕ) (ed : Edi
   pub good : checkBefore s part table lines ed ≡ Good
   pub first : k ≡ length (unaffected (ed .from .0) (entriesIn lines table))
   pub entry : e ≡ entryIn (drop (entryNumbers * k) table)
-  pub stand : StandsAt part textFront (resumedOf e (decodeAll part)) p
+  pub stand : StandsAt part textFront (e .before .0) (resumedOf e (decodeAll part)) p
   pub finds : found ≡ foundIn lines (againFrom s part ed (entriesIn lines table) (e .start .0) p)
+  pub few : found .before .0 ≤ 131071
 
 module _ (s : Settings) (part table : List ℕ) (lines : ℕ) (ed : Edit) (k : ℕ) (e : Entry) (p : Stand) (found : Found)
     (q : Sought s part table lines ed k e p found)
@@ -69,6 +73,10 @@ module _ (s : Settings) (part table : List ℕ) (lines : ℕ) (ed : Edit) (k : �
     kept-is : found .kept ≡ lines - length (a .kept)
     unfolding foundIn
     kept-is = ap (λ (f : Found). f .kept) (q .finds)
+
+    count-is : found .before .0 ≡ countOf (a .kept)
+    unfolding foundIn
+    count-is = ap (λ (f : Found). f .before .0) (q .finds)
 
     kept-left : length (a .kept) ≡ lines - found .kept
     kept-left = omega (arith, kept-is, kept-few s part ed old (e .start .0) p, entries-length lines table)
@@ -131,73 +139,85 @@ module _ (s : Settings) (part table : List ℕ) (lines : ℕ) (ed : Edit) (k : �
           subst (StartsBehind ed) (sym left-is)
           (subst (λ (m : ℕ). StartsBehind ed (drop (m - length (a .kept)) old)) n (kept-behind s part ed old (e .start .0) p))
 
-      kept-lines : map (movedEntry ed) left ≡ a .kept
-      kept-lines =
-          let n = entries-length lines table in
-          ap (map (movedEntry ed)) left-is
-          ∙ sym (subst (λ (m : ℕ). a .kept ≡ map (movedEntry ed) (drop (m - length (a .kept)) old)) n (kept-are s part ed old (e .start .0) p))
+      -- They are moved from the count before the first of them.
+      module _ (from : Chars) (from-is : from .0 ≡ countOf left) where
+        abbrev shift : Shift
+        shift = record { edit = ed; from = from; to = found .before }
 
-      all-movable : AllMovable ed left
-      unfolding linesFrom
-      all-movable =
-          by-lt (found .kept) lines
-          (λ h.
-          table-movable table lines (found .kept) ed (g .table-is) h
-          (subst (StartsBehind ed) (lines-more table lines (found .kept) h) left-behind))
-          (λ h. subst (AllMovable ed) (sym (lines-end table lines (found .kept) h)) tt)
+        kept-lines : map (movedBy shift) left ≡ a .kept
+        kept-lines =
+            let n = entries-length lines table in
+            let by : List Entry → List Entry = λ es. map (movedEntry ed (countOf es) (countOf (a .kept))) es in
+            (λ i. map (movedEntry ed (from-is i) (count-is i)) left)
+            ∙ ap by left-is
+            ∙ sym (subst (λ (m : ℕ). a .kept ≡ by (drop (m - length (a .kept)) old)) n (kept-are s part ed old (e .start .0) p))
 
-      pub movable : Movable table (found .kept) (k + found .laid) (lines - found .kept) ed
-      unfolding linesFrom
-      movable =
-          record {
-            from-room = omega (arith, kept-within, table-room lines table (g .table-is));
-            to-room = omega arith;
-            edit =
-                record {
-                  order = order s part table lines ed g k (q .first) e (q .entry) .0;
-                  few = few-inserted s part table lines ed g k (q .first) e (q .entry);
-                };
-            each = all-movable;
-          }
+        all-movable : AllMovable shift left
+        unfolding linesFrom
+        all-movable =
+            by-lt (found .kept) lines
+            (λ h.
+            let here = lines-more table lines (found .kept) h in
+            table-movable table lines (found .kept) shift (g .table-is) h (subst (StartsBehind ed) here left-behind)
+            (omega (arith, from-is ∙ ap countOf here)))
+            (λ h. subst (AllMovable shift) (sym (lines-end table lines (found .kept) h)) tt)
 
-      -- ---- the lines laid
-
-      module _ (u : List ℕ) (u-is : u ≡ linesMoved table (found .kept) (k + found .laid) (lines - found .kept) ed) (same : length u ≡ length table) where
-        pub write-ready : WriteReady s part u (e .start .0) k (found .laid) p
-        write-ready =
+        pub movable : Movable table (found .kept) (k + found .laid) (lines - found .kept) shift
+        unfolding linesFrom
+        movable =
             record {
-              stand = front-ready s part table lines ed g k (q .first) e (q .entry) p (q .stand);
-              low = start-low s part table lines ed g k (q .first) e (q .entry);
-              enough = omega (arith, laid-is, laid-within s part ed old (e .start .0) p);
-              room = omega arith;
+              from-room = omega (arith, kept-within, table-room lines table (g .table-is));
+              to-room = omega arith;
+              shift =
+                  record {
+                    edit =
+                        record {
+                          order = order s part table lines ed g k (q .first) e (q .entry) .0;
+                          few = few-inserted s part table lines ed g k (q .first) e (q .entry);
+                        };
+                    counted = q .few;
+                  };
+              each = all-movable;
             }
 
-        module _ (v : List ℕ) (v-is : v ≡ linesPut u k (take (found .laid) (entriesFrom s part (e .start .0) p))) where
-          laid-lines : take (found .laid) (entriesFrom s part (e .start .0) p) ≡ map entryOfRow (a .laid)
-          laid-lines =
-              ap (λ (n : ℕ). take n (entriesFrom s part (e .start .0) p)) laid-is ∙ sym (laid-first s part ed old (e .start .0) p)
+        -- ---- the lines laid
 
-          first-lines : entriesIn k table ≡ unaffected (ed .from .0) old
-          first-lines =
-              sym (entries-first k lines table (few-before table lines ed k (q .first)))
-              ∙ ap (λ (n : ℕ). take n old) (q .first)
-              ∙ unaffected-old (ed .from .0) old
+        module _ (u : List ℕ) (u-is : u ≡ linesMoved table (found .kept) (k + found .laid) (lines - found .kept) shift) (same : length u ≡ length table) where
+          pub write-ready : WriteReady s part u (e .start .0) k (found .laid) p
+          write-ready =
+              record {
+                stand = front-ready s part table lines ed g k (q .first) e (q .entry) p (q .stand);
+                low = start-low s part table lines ed g k (q .first) e (q .entry);
+                enough = omega (arith, laid-is, laid-within s part ed old (e .start .0) p);
+                room = omega arith;
+              }
 
-          table-is : v ≡ written table (ofAll ofEntry (linesAfter s part table lines ed))
-          unfolding linesFrom
-          table-is =
-              let es = map entryOfRow (a .laid) in
-              let moved : u ≡ linesPut table (k + found .laid) (a .kept) = u-is ∙ ap (linesPut table (k + found .laid)) kept-lines in
-              v-is
-              ∙ (λ i. linesPut (moved i) k (laid-lines i))
-              ∙ put-both table k (k + found .laid) es (a .kept) (omega (arith, laid-is, length-map (a .laid) entryOfRow)) (omega arith)
-              ∙ put-written table k (unaffected (ed .from .0) old) first-lines (omega arith) (es ++ a .kept)
-              ∙ ap (λ (x : List Entry). written table (ofAll ofEntry x)) (sym after-is)
+          module _ (v : List ℕ) (v-is : v ≡ linesPut u k (take (found .laid) (entriesFrom s part (e .start .0) p))) where
+            laid-lines : take (found .laid) (entriesFrom s part (e .start .0) p) ≡ map entryOfRow (a .laid)
+            laid-lines =
+                ap (λ (n : ℕ). take n (entriesFrom s part (e .start .0) p)) laid-is ∙ sym (laid-first s part ed old (e .start .0) p)
 
-          pub relaid-whole : Answers s part table lines ed (relaid.Lines (k + found .laid + (lines - found .kept)) (found .laid)) v
-          unfolding capacityOf
-          relaid-whole =
-              let b =
-              laid-again s part table lines ed (q .good) (k + found .laid + (lines - found .kept)) needed-is (found .laid)
-              (laid-is ∙ ap length (sym rows-are)) room in
-              (b .0, table-is ∙ b .1)
+            first-lines : entriesIn k table ≡ unaffected (ed .from .0) old
+            first-lines =
+                sym (entries-first k lines table (few-before table lines ed k (q .first)))
+                ∙ ap (λ (n : ℕ). take n old) (q .first)
+                ∙ unaffected-old (ed .from .0) old
+
+            table-is : v ≡ written table (ofAll ofEntry (linesAfter s part table lines ed))
+            unfolding linesFrom
+            table-is =
+                let es = map entryOfRow (a .laid) in
+                let moved : u ≡ linesPut table (k + found .laid) (a .kept) = u-is ∙ ap (linesPut table (k + found .laid)) kept-lines in
+                v-is
+                ∙ (λ i. linesPut (moved i) k (laid-lines i))
+                ∙ put-both table k (k + found .laid) es (a .kept) (omega (arith, laid-is, length-map (a .laid) entryOfRow)) (omega arith)
+                ∙ put-written table k (unaffected (ed .from .0) old) first-lines (omega arith) (es ++ a .kept)
+                ∙ ap (λ (x : List Entry). written table (ofAll ofEntry x)) (sym after-is)
+
+            pub relaid-whole : Answers s part table lines ed (relaid.Lines (k + found .laid + (lines - found .kept)) (found .laid)) v
+            unfolding capacityOf
+            relaid-whole =
+                let b =
+                laid-again s part table lines ed (q .good) (k + found .laid + (lines - found .kept)) needed-is (found .laid)
+                (laid-is ∙ ap length (sym rows-are)) room in
+                (b .0, table-is ∙ b .1)

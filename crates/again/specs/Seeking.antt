@@ -15,6 +15,7 @@ use Rattle.meaning.specs.declared.line.Rest.{Rest}
 use Rattle.meaning.specs.declared.line.Entry.{Entry}
 use Rattle.laws.specs.TableLaws.{entries-length}
 use Rattle.laws.specs.PassBounds.{size-take}
+use Rattle.laws.specs.Relaid.{countOf}
 use Rattle.parser.specs.Lexing.{charsFrom}
 use Rattle.steps.specs.Lexed.{chars-within}
 use Rattle.table.specs.LinesFrom.{linesFrom}
@@ -27,9 +28,9 @@ use Rattle.again.specs.AgainFrom.{againFrom, few-laid, again-stop, again
 use Rattle.edits.specs.OldLines.{lines-drop}
 use Rattle.again.specs.declared.stop.Found.{Found}
 
--- What laying again finds: how many lines are laid, and the first of so many old lines that is kept.
+-- What laying again finds: how many lines are laid, the first of so many old lines that is kept, and the characters before that.
 unfoldable pub foundIn : (lines : ℕ) → Again → Found
-foundIn lines a = record { laid = length (a .laid); kept = lines - length (a .kept) }
+foundIn lines a = record { laid = length (a .laid); kept = lines - length (a .kept); before = record { 0 = countOf (a .kept) } }
 
 -- No old line before line k is met from a start on.
 abbrev pub PassedBy : Edit → (old : List Entry) → (start k : ℕ) → Type 0
@@ -97,23 +98,37 @@ module _ (s : Settings) (part table : List ℕ) (lines base : ℕ) (ed : Edit) (
 
       -- Old line i is met: laying stops there.
       stop-by : (es : List Entry) → drop i old ≡ es → meetsFirst ed (base + p .at .0) (restBehind base (p .rest)) es ≡ true
-          → againFrom s part ed old base p ≡ record { laid = []; kept = map (movedEntry ed) es }
+          → againFrom s part ed old base p ≡ record { laid = []; kept = map (movedEntry ed (countOf es) (p .before .0)) es }
       unfolding meetsFirst
       stop-by [] e m = absurd (false≢true m)
       stop-by (x ∷ es) e m =
           again-stop s part ed old base p (c .ready) x es
           (passed-on (base + p .at .0) (restBehind base (p .rest)) (omega arith) ∙ rw e (met-first ed (base + p .at .0) (restBehind base (p .rest)) (x ∷ es) m))
 
+      -- With as many characters before it as the stand has.
+      stop-count : (es : List Entry) → meetsFirst ed (base + p .at .0) (restBehind base (p .rest)) es ≡ true
+          → countOf (map (movedEntry ed (countOf es) (p .before .0)) es) ≡ p .before .0
+      unfolding meetsFirst movedEntry
+      stop-count [] m = absurd (false≢true m)
+      stop-count (x ∷ es) m = omega arith
+
+      -- Which is no large number.
+      pub stop-few : p .before .0 ≤ 131071
+      stop-few = let l = c .ready in omega (arith, l .few, l .line .inside, l .line .short)
+
       module _ (rest : Rest) (rest-is : rest ≡ restBehind base (p .rest)) where
-        pub stops : meetsFirst ed (base + p .at .0) rest (linesFrom table lines i) ≡ true → record { laid = n; kept = i } ≡ foundIn lines whole
+        pub stops : meetsFirst ed (base + p .at .0) rest (linesFrom table lines i) ≡ true → record { laid = n; kept = i; before = p .before } ≡ foundIn lines whole
         unfolding foundIn
         stops m =
-            let a = stop-by (drop i old) refl (rw (rest-is, lines-drop i lines table) at m) in
+            let met = rw (rest-is, lines-drop i lines table) at m in
+            let a = stop-by (drop i old) refl met in
+            let there = sym (c .kept) ∙ ap (λ (x : Again). x .kept) a in
+            let count : p .before .0 ≡ countOf (whole .kept) = sym (ap countOf there ∙ stop-count (drop i old) met) in
             let laid : n ≡ length (whole .laid) = omega (arith, c .count, ap (λ (x : Again). length (x .laid)) a) in
-            let left = ap length (sym (c .kept) ∙ ap (λ (x : Again). x .kept) a) ∙ length-map (drop i old) (movedEntry ed) in
+            let left = ap length there ∙ length-map (drop i old) (movedEntry ed (countOf (drop i old)) (p .before .0)) in
             let kept : i ≡ lines - length (whole .kept) =
             omega (arith, left, length-drop i old, entries-length lines table, still-inside) in
-            λ k. record { laid = laid k; kept = kept k }
+            λ k. record { laid = laid k; kept = kept k; before = record { 0 = count k } }
 
         -- It is not: nothing is kept yet, and a line is laid.
         module _ (m : meetsFirst ed (base + p .at .0) rest (linesFrom table lines i) ≡ false) (rising : Rising old) (x : LaidRow) (is : x ≡ laidRow s part p) where
@@ -124,17 +139,19 @@ module _ (s : Settings) (part table : List ℕ) (lines base : ℕ) (ed : Edit) (
               (rw (rest-is, lines-drop i lines table) at m)
 
           -- The line that ends the text.
-          pub finds-last : x .last ≡ true → record { laid = n + 1; kept = lines } ≡ foundIn lines whole
+          pub finds-last : x .last ≡ true → record { laid = n + 1; kept = lines; before = record { 0 = 0 } } ≡ foundIn lines whole
           unfolding foundIn
           finds-last h =
               let a = again-last s part ed old base p (c .ready) none x is h in
               let laid : n + 1 ≡ length (whole .laid) = omega (arith, c .count, ap (λ (y : Again). length (y .laid)) a) in
-              let left = ap length (sym (c .kept) ∙ ap (λ (y : Again). y .kept) a) in
+              let none-kept = sym (c .kept) ∙ ap (λ (y : Again). y .kept) a in
+              let left = ap length none-kept in
+              let count : 0 ≡ countOf (whole .kept) = sym (ap countOf none-kept) in
               let kept : lines ≡ lines - length (whole .kept) = omega (arith, left) in
-              λ k. record { laid = laid k; kept = kept k }
+              λ k. record { laid = laid k; kept = kept k; before = record { 0 = count k } }
 
           -- Any other.
-          pub seeks-on : (q : Stand) → StandsAt part (x .next) (x .rest) q → x .last ≡ false → Seeking s part table lines base ed p₀ (n + 1) i q
+          pub seeks-on : (q : Stand) → StandsAt part (x .next) (p .before .0 + x .chars .0) (x .rest) q → x .last ≡ false → Seeking s part table lines base ed p₀ (n + 1) i q
           seeks-on q on h =
               let a = again-more s part ed old base p (c .ready) none x is q on h in
               let f = further s part p (c .ready) x is q on h in

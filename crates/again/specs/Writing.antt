@@ -7,12 +7,13 @@ use mathlib.Core.List.{List, _∷_}
 use lib.ListN.{length, take}
 use Rattle.basis.specs.Choice.{by-test}
 use Rattle.meaning.specs.Table.{entryNumbers, ofEntry}
-use Rattle.meaning.specs.Edit.{movedEntry}
+use Rattle.meaning.specs.Line.{entryAt}
 use Rattle.meaning.specs.declared.settings.Settings.{Settings}
 use Rattle.meaning.specs.declared.line.Entry.{Entry}
+use Rattle.placing.specs.LineFrom.{lineAtOf, lineFrom}
 use Rattle.placing.specs.LineLaws.{entry-small}
 use Rattle.table.specs.Numbers.{putNumbers}
-use Rattle.table.specs.Moving.{MovableEntry}
+use Rattle.table.specs.Moving.{MovableEntry, movedBy}
 use Rattle.rows.specs.Standing.{StandsAt, StandReady, laidRow, entry-is, ready-next}
 use Rattle.rows.specs.RowsFrom.{rowHere, entriesFrom, last-entry, more-entries}
 use Rattle.rows.specs.Writing.{linesPut, none-put, first-put}
@@ -50,20 +51,26 @@ module _ (s : Settings) (part t : List ℕ) (base k laid : ℕ) (p₀ : Stand) w
         sym (none-put u (k + n)) ∙ rw e at (c .left)
 
     module _ (x : LaidRow) (is : x ≡ laidRow s part p) where
+      -- The characters before the line are few.
+      count-low : lineFrom s part (p .at .0) (p .before .0) (p .rest) .entry .before .0 ≤ 131071
+      unfolding lineFrom lineAtOf entryAt
+      count-low = let l = c .ready in omega (arith, l .few, l .line .inside, l .line .short)
+
       -- No number of the line's entry is large, so that it can be moved.
       pub line-movable : MovableEntry (behind base) (x .entry)
       line-movable =
           let r = c .ready .line in
-          let a = entry-small s part (p .at .0) (p .rest) (r .rest) (r .settings) (r .short) (r .inside) in
+          let a = entry-small s part (p .at .0) (p .rest) (r .rest) (r .settings) (r .short) (r .inside) (p .before .0) in
           rw (entry-is s part p (c .ready) x is)
           (record {
             start = (omega arith, omega (arith, a .start, r .short));
             rest = λ some. (omega arith, omega (arith, a .end, r .short));
             reach = (omega arith, omega (arith, a .reach, r .short));
+            before = (omega arith, count-low);
           })
 
       -- One more is written.
-      module _ (more : n < laid) (room : entryNumbers * (k + n) + entryNumbers ≤ length u) (e : Entry) (e-is : e ≡ movedEntry (behind base) (x .entry)) (v : List ℕ)
+      module _ (more : n < laid) (room : entryNumbers * (k + n) + entryNumbers ≤ length u) (e : Entry) (e-is : e ≡ movedBy (behind base) (x .entry)) (v : List ℕ)
           (put : v ≡ putNumbers u (entryNumbers * (k + n)) (ofEntry e)) (kept : length v ≡ length u)
         where
           abbrev onward : ℕ
@@ -72,7 +79,7 @@ module _ (s : Settings) (part t : List ℕ) (base k laid : ℕ) (p₀ : Stand) w
           here : e ≡ rowHere s part base p .entry
           here = e-is ∙ row-behind s part base p (c .ready) x is
 
-          module _ (q : Stand) (on : StandsAt part (x .next) (x .rest) q) where
+          module _ (q : Stand) (on : StandsAt part (x .next) (p .before .0 + x .chars .0) (x .rest) q) where
             -- The line, and those that are still to be written: none if it ends the text.
             record Rest (m : ℕ) : Type 0 where
               pub taken : take (suc m) (entriesFrom s part base p) ≡ e ∷ take m (entriesFrom s part base q)

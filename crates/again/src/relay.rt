@@ -1,5 +1,6 @@
 // Laying a text again after an edit: a public call.
 use crate::rest::held_of;
+use crate::stop::count_before;
 use crate::stop::find_stop;
 use crate::writing::write_again;
 use edits::checking::check_before;
@@ -10,6 +11,7 @@ use meaning::refusals::Refusal;
 use meaning::settings::Settings;
 use meaning::sizes::ENTRY_NUMBERS;
 use rows::stand::at_front;
+use table::edited::Shift;
 use table::entries::read_entry;
 use table::moving::move_lines;
 ghost use mathlib.Core.Path.{_≡_};
@@ -35,7 +37,8 @@ fn lay_lines(
     ensures { λ r. ⌜ now (table .exit) ≡ relayTable s (now (part .entry)) (now (table .entry)) lines edit ⌝ }
 {
     let e = read_entry(table, k);
-    let front = at_front(part, held_of(part, e));
+    let first = e.before;
+    let front = at_front(part, first, held_of(part, e));
     let base = e.start;
     let found = find_stop(part, s, table, lines, k, base, edit, front);
     let kept = found.kept;
@@ -45,7 +48,14 @@ fn lay_lines(
     if table.len() / ENTRY_NUMBERS < after {
         return Relaid::Refused(Refusal::TooSmall(after as u64));
     }
-    move_lines(table, kept, to, left, edit);
+    let from = count_before(table, lines, kept);
+    let now = found.before;
+    let shift = Shift {
+        edit,
+        from,
+        to: now,
+    };
+    move_lines(table, kept, to, left, shift);
     write_again(part, s, table, base, k, found.laid, front);
     Relaid::Lines(after as u64, found.laid as u64)
 }

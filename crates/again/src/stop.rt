@@ -6,6 +6,7 @@ use meaning::counts::Offset;
 use meaning::edit::Edit;
 use meaning::line::Rest;
 use meaning::settings::Settings;
+use meaning::sizes::BEFORE;
 use meaning::sizes::ENTRY_NUMBERS;
 use rows::stand::Stand;
 use rows::stand::lay_row;
@@ -16,16 +17,19 @@ ghost use Prim.Native.Nat.{_+_, _*_, _≤_};
 ghost use mathlib.Core.Path.{_≡_};
 ghost use lib.ListN.{length};
 ghost use Rattle.meaning.specs.Table.{entryNumbers, entriesIn};
+ghost use Rattle.laws.specs.Relaid.{countOf};
 ghost use Rattle.table.specs.LinesFrom.{linesFrom};
 ghost use Rattle.again.specs.Behind.{restBehind, RestLow};
 ghost use Rattle.edits.specs.Pointer.{passing, meetsFirst};
 ghost use Rattle.again.specs.AgainFrom.{againFrom};
 ghost use Rattle.again.specs.Seeking.{FindReady, foundIn};
 
-// How many lines are laid, and the first old line that is kept; the count of old lines if none is.
+// How many lines are laid, the first old line that is kept, and the characters that stand before it now; the count of old lines
+// and 0 if none is.
 pub struct Found {
     pub laid: usize,
     pub kept: usize,
+    pub before: Chars,
 }
 
 // What is held before a line of a part that stands behind so many bytes, as an entry of the whole says it.
@@ -70,6 +74,19 @@ fn meets_first(table: &[u32], lines: usize, j: usize, edit: Edit, start: Offset,
     meets_line(edit, start, rest, read_entry(table, j))
 }
 
+// The characters that stood before old line j, 0 if there is none.
+pub fn count_before(table: &[u32], lines: usize, j: usize) -> Chars
+    requires { ⌜ entryNumbers * lines ≤ length (now table) ⌝ }
+    ensures { λ r. ⌜ r .0 ≡ countOf (linesFrom (now (table .entry)) lines j) ⌝ }
+{
+    if lines <= j {
+        return Chars(0);
+    }
+    let at = ENTRY_NUMBERS * j;
+    let count = table[at + BEFORE];
+    Chars(count)
+}
+
 // Lays lines from a stand on, before each of which the old lines from line k on are looked at.
 pub fn find_stop(
     part: &[u8],
@@ -83,6 +100,7 @@ pub fn find_stop(
 ) -> Found
     requires { ⌜ FindReady s (now part) (now table) lines k (base .0) edit front ⌝ }
     ensures { λ r. ⌜ r ≡ foundIn lines (againFrom s (now (part .entry)) edit (entriesIn lines (now (table .entry))) (base .0) front) ⌝ }
+    ensures { λ r. ⌜ r .before .0 ≤ 131071 ⌝ }
 {
     let mut n: usize = 0;
     let mut j: usize = k;
@@ -94,7 +112,12 @@ pub fn find_stop(
         let held = stand.rest;
         let rest = rest_behind(base, held);
         if meets_first(table, lines, j, edit, start, rest) {
-            return Found { laid: n, kept: j };
+            let before = stand.before;
+            return Found {
+                laid: n,
+                kept: j,
+                before,
+            };
         }
         let row = lay_row(part, s, stand);
         n += 1;
@@ -102,6 +125,7 @@ pub fn find_stop(
             return Found {
                 laid: n,
                 kept: lines,
+                before: Chars(0),
             };
         }
         stand = next_stand(part, stand, row);

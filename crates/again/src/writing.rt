@@ -1,4 +1,5 @@
 // The lines laid again, written to the table (laying again).
+use meaning::counts::Chars;
 use meaning::counts::Offset;
 use meaning::edit::Edit;
 use meaning::line::Entry;
@@ -6,13 +7,13 @@ use meaning::settings::Settings;
 use rows::stand::Stand;
 use rows::stand::lay_row;
 use rows::stand::next_stand;
+use table::edited::Shift;
 use table::entries::write_entry;
 use table::moving::moved_entry;
 ghost use Prim.Native.Nat.{_≤_};
 ghost use mathlib.Core.Path.{_≡_};
 ghost use lib.ListN.{take};
-ghost use Rattle.meaning.specs.Edit.{movedEntry};
-ghost use Rattle.table.specs.Moving.{MovableEntry};
+ghost use Rattle.table.specs.Moving.{MovableEntry, movedBy};
 ghost use Rattle.rows.specs.RowsFrom.{entriesFrom};
 ghost use Rattle.rows.specs.Writing.{linesPut};
 ghost use Rattle.again.specs.Behind.{behind};
@@ -21,14 +22,19 @@ ghost use Rattle.again.specs.Writing.{WriteReady};
 // A line of a part that stands behind so many bytes, as a line of the whole.
 fn entry_behind(base: Offset, e: Entry) -> Entry
     requires { ⌜ (base .0 ≤ 65536) × MovableEntry (behind (base .0)) e ⌝ }
-    ensures { λ r. ⌜ r ≡ movedEntry (behind (base .0)) e ⌝ }
+    ensures { λ r. ⌜ r ≡ movedBy (behind (base .0)) e ⌝ }
 {
     let front = Edit {
         from: Offset(0),
         to: Offset(0),
         inserted: base,
     };
-    moved_entry(e, front)
+    let shift = Shift {
+        edit: front,
+        from: Chars(0),
+        to: Chars(0),
+    };
+    moved_entry(e, shift)
 }
 
 // Lays so many lines from a stand on once more, and writes them from line k on.

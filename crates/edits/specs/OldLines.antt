@@ -30,16 +30,16 @@ lines-drop k lines t = sym (entries-from k lines t)
 
 -- ---- they rise
 
-rises-above : (n k start reach : ℕ) (es : List Entry) → checkLines n k (line start reach) es ≡ Good → Above start es
-rises-above n k start reach [] h = tt
-rises-above n k start reach (e ∷ es) h = (
-  start-after n start reach e (good-start n k (line start reach) e es h) .0,
-  rises-above n (suc k) (e .start .0) (e .reach .0) es (good-more n k (line start reach) e es h),
+rises-above : (n k start reach before : ℕ) (es : List Entry) → checkLines n k (line start reach before) es ≡ Good → Above start es
+rises-above n k start reach before [] h = tt
+rises-above n k start reach before (e ∷ es) h = (
+  start-after n start reach before e (good-start n k (line start reach before) e es h) .0,
+  rises-above n (suc k) (e .start .0) (e .reach .0) (e .before .0) es (good-more n k (line start reach before) e es h),
 )
 
 pub rises : (n k : ℕ) (b : Before) (es : List Entry) → checkLines n k b es ≡ Good → Rising es
 rises n k b [] h = tt
-rises n k b (e ∷ es) h = rises-above n (suc k) (e .start .0) (e .reach .0) es (good-more n k b e es h)
+rises n k b (e ∷ es) h = rises-above n (suc k) (e .start .0) (e .reach .0) (e .before .0) es (good-more n k b e es h)
 
 -- ---- the first affected line
 
@@ -61,9 +61,10 @@ module _ (ed : Edit) (start : ℕ) (rest : Rest) where
   kept-affected a n k b (e ∷ []) h g d = by-test (leb (e .reach .0) a) (λ t. absurd (d (rw t))) (λ t. rw t)
   kept-affected a n k b (e ∷ f ∷ es) h g d =
       let more = good-more n k b e (f ∷ es) g in
-      let s = start-after n (e .start .0) (e .reach .0) f (good-start n (suc k) (line (e .start .0) (e .reach .0)) f es more) in
+      let c = line (e .start .0) (e .reach .0) (e .before .0) in
+      let s = start-after n (e .start .0) (e .reach .0) (e .before .0) f (good-start n (suc k) c f es more) in
       by-test (leb (e .reach .0) a)
       (λ t.
       let r = leb-true (e .reach .0) a t in
-      rw (t, starts-before e (omega arith)) (kept-affected a n (suc k) (line (e .start .0) (e .reach .0)) (f ∷ es) h more (rw t at d)))
+      rw (t, starts-before e (omega arith)) (kept-affected a n (suc k) c (f ∷ es) h more (rw t at d)))
       (λ t. rw t)

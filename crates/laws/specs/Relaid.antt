@@ -36,8 +36,8 @@ one-more NewLine r a rs f = ap (_∷_ (r .entry)) (f (λ e. let z : _≡_ {A = �
 one-more CarriageReturn r a rs f = ap (_∷_ (r .entry)) (f (λ e. let z : _≡_ {A = ℕ} 0 1 = cc in omega arith))
 one-more LineBreak r a rs f = ap (_∷_ (r .entry)) (f (λ e. let z : _≡_ {A = ℕ} 0 1 = cc in omega arith))
 
--- The characters before the first of some lines.
-abbrev countOf : List Entry → ℕ
+-- The characters before the first of some lines; 0 if there is none.
+abbrev pub countOf : List Entry → ℕ
 countOf [] = 0
 countOf (e ∷ es) = e .before .0
 

@@ -104,6 +104,16 @@ module _ (n : ℕ) (sh : Shift) (short : n ≤ textLimit) where
   lines-movable (suc j) k b (x ∷ f ∷ es) h r e more q s p =
       lines-movable j (suc k) (line (x .start .0) (x .reach .0) (x .before .0)) (f ∷ es) (good-more n k b x (f ∷ es) h) r e more q s p
 
+-- No more characters than bytes stand before any of them.
+lines-few : (n j k : ℕ) (b : Before) (es : List Entry) → checkLines n k b es ≡ Good → (e : Entry) (more : List Entry) → drop j es ≡ e ∷ more
+    → e .before .0 ≤ n
+lines-few n zero k b es h e more q =
+    let g = ap (checkLines n k b) (sym q) ∙ h in
+    omega (arith, count-within n e b (good-count n k b e more g), start-within n e b (good-start n k b e more g))
+lines-few n (suc j) k b [] h e more q = absurd (omega (arith, ap length q))
+lines-few n (suc j) k b (x ∷ es) h e more q =
+    lines-few n j (suc k) (line (x .start .0) (x .reach .0) (x .before .0)) es (good-more n k b x es h) e more q
+
 -- ---- of a table
 
 module _ (t : List ℕ) (lines j : ℕ) (sh : Shift) where
@@ -117,3 +127,15 @@ module _ (t : List ℕ) (lines j : ℕ) (sh : Shift) where
       let here = lines-more t lines j k in
       subst (AllMovable sh) (sym here)
       (lines-movable (textLength old) sh (table-text lines t h) j 0 nothing old (table-lines lines t h) reach _ _ (entries-from j lines t ∙ here) s p)
+
+module _ (t : List ℕ) (lines j : ℕ) where
+  -- No more characters than the text has bytes stand before a line.
+  pub table-few : checkTable lines t ≡ Good → j < lines → entryIn (drop (entryNumbers * j) t) .before .0 ≤ textLimit
+  unfolding linesFrom
+  table-few h k =
+      let old = entriesIn lines t in
+      omega (
+        arith,
+        lines-few (textLength old) j 0 nothing old (table-lines lines t h) _ _ (entries-from j lines t ∙ lines-more t lines j k),
+        table-text lines t h,
+      )

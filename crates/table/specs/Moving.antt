@@ -48,7 +48,7 @@ abbrev pub MovableOffset : Edit → ℕ → Type 0
 MovableOffset ed x = (ed .to .0 - ed .from .0 ≤ x) × (x ≤ 65536)
 
 abbrev pub MovableCount : Shift → ℕ → Type 0
-MovableCount sh x = (sh .from .0 ≤ x) × (x ≤ 65536)
+MovableCount sh x = (sh .from .0 ≤ x) × (x ≤ 131071)
 
 pub record MovableEntry (sh : Shift) (e : Entry) : Type 0 where
   pub start : MovableOffset (sh .edit) (e .start .0)

@@ -5,7 +5,7 @@ use native.Mathlib.Omega.{arith}
 use mathlib.Core.Path.{sym, _∙_}
 use lib.ListN.{length}
 use Rattle.rows.specs.Standing.{next-ready, further, stays}
-use Rattle.again.specs.Seeking.{Seeking, rest-low, seek-start, seek-low, stops, finds-last, seeks-on}
+use Rattle.again.specs.Seeking.{Seeking, rest-low, seek-start, seek-low, stops, stop-few, finds-last, seeks-on}
 use Rattle.again.proofs.stop.find_stop.Statement.{statement}
 use Rattle.again.proofs.stop.find_stop.Tie as tie
 
@@ -42,10 +42,13 @@ meets-first-requires c κs = turn (c .before .before) .before .before .before .p
 
 returns : tie.Need-returns Inv-loop μ-loop
 returns c =
-    let m = c .before in
+    let t = c .before in
+    let m = t .before in
     let k = passed m in
-    stops _ _ _ _ _ _ _ _ _ _ _ (turn k .loop .inv) (k .skip-before .ensures) _ (m .before .rest-behind .ensures)
-    (sym (m .meets-first .ensures) ∙ c .if1 .taken)
+    let i = turn k .loop .inv in (
+      stops _ _ _ _ _ _ _ _ _ _ _ i (k .skip-before .ensures) _ (m .before .rest-behind .ensures) (sym (m .meets-first .ensures) ∙ t .if1 .taken),
+      stop-few _ _ _ _ _ _ _ _ _ _ _ i (k .skip-before .ensures),
+    )
 
 lay-row-requires : tie.Need-lay-row-requires Inv-loop μ-loop
 lay-row-requires c κs = turn (passed (c .before)) .loop .inv .ready
@@ -59,9 +62,11 @@ returns-2 c =
     let e = r .before in
     let m = e .before in
     let k = passed m in
-    let l = turn k in
-    finds-last _ _ _ _ _ _ _ _ _ _ _ (l .loop .inv) (k .skip-before .ensures) _ (m .before .rest-behind .ensures)
-    (sym (m .meets-first .ensures) ∙ e .if1 .left) (l .before .before .before .pre .rising) _ (r .lay-row .ensures) (c .if2 .taken)
+    let l = turn k in (
+      finds-last _ _ _ _ _ _ _ _ _ _ _ (l .loop .inv) (k .skip-before .ensures) _ (m .before .rest-behind .ensures)
+          (sym (m .meets-first .ensures) ∙ e .if1 .left) (l .before .before .before .pre .rising) _ (r .lay-row .ensures) (c .if2 .taken),
+      omega arith,
+    )
 
 next-stand-requires : tie.Need-next-stand-requires Inv-loop μ-loop
 next-stand-requires c κs =
