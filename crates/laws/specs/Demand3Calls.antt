@@ -54,7 +54,7 @@ pub record EditOf (s : Settings) (ed : Edit) (old new table : List ℕ) (lines :
   -- The first lines of the table are the layout of the old text, all of it.
   pub holds : entryNumbers * lines ≤ length table
   pub held : entriesIn lines table ≡ layout s old
-  -- The table has room for the layout of the new text, ten numbers a line.
+  -- The table has room for the layout of the new text, eleven numbers a line.
   pub room : entryNumbers * length (layout s new) ≤ length table
   -- The part is the bytes of the new text from the first affected line's start on.
   pub lent : part ≡ drop (startOf (affected (ed .from .0) (layout s old))) (encodeAll new)

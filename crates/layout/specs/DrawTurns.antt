@@ -33,7 +33,7 @@ pub record Drew (s : Settings) (t ev₀ ev : List ℕ) (k : ℕ) (p : Stand) : T
   pub same : length ev ≡ length ev₀
   pub puts : putEvents ev k (eventsAfter s t p) ≡ putEvents ev₀ 0 (eventsOf s t)
 
-pub draw-start : (s : Settings) (t ev₀ : List ℕ) (p : Stand) → TextReady s t → StandsAt t textFront nothingResumed p → Drew s t ev₀ ev₀ 0 p
+pub draw-start : (s : Settings) (t ev₀ : List ℕ) (p : Stand) → TextReady s t → StandsAt t textFront 0 nothingResumed p → Drew s t ev₀ ev₀ 0 p
 draw-start s t ev₀ p h f =
     record {
       ready = start-ready s t p h f;
@@ -84,7 +84,7 @@ module _ (s : Settings) (t ev₀ ev : List ℕ) (k : ℕ) (p : Stand) (d : Drew 
           let f = one-drawn s t p c x is h in
           (omega (arith, count, d .left, ap length f), put ∙ ap (putEvents ev k) (sym f) ∙ d .puts)
 
-      pub draw-next : (q : Stand) → StandsAt t (x .next) (x .rest) q → x .last ≡ false → Drew s t ev₀ v n q
+      pub draw-next : (q : Stand) → StandsAt t (x .next) (p .before .0 + x .chars .0) (x .rest) q → x .last ≡ false → Drew s t ev₀ v n q
       draw-next q on h =
           let f = more-drawn s t p c x is q on h in
           let es = lineEvents s t p (x .entry) in

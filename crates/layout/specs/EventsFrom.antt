@@ -46,9 +46,9 @@ pub events-are : (s : Settings) (t : List ℕ) → eventsOf s t ≡ textEvents s
 unfolding eventsOf textEvents textRows charsFrom
 events-are s t = refl
 
-pub all-events : (s : Settings) (t : List ℕ) (p : Stand) → StandsAt t textFront nothingResumed p → eventsAfter s t p ≡ eventsOf s t
+pub all-events : (s : Settings) (t : List ℕ) (p : Stand) → StandsAt t textFront 0 nothingResumed p → eventsAfter s t p ≡ eventsOf s t
 unfolding eventsOf eventsAfter rows
-all-events s t p f = ap allEvents (front-rows s t 0 nothingResumed p f)
+all-events s t p f = ap allEvents (front-rows s t 0 0 nothingResumed p f)
 
 -- ---- one line, from its entry
 
@@ -115,7 +115,7 @@ module _ (s : Settings) (t : List ℕ) (p : Stand) (c : StandReady s t p) (x : L
   one-drawn h = ap allEvents (last-row s t 0 p c x is h) ∙ append-nil _ ∙ sym row-events
 
   -- A line's events, and those of the lines from the next stand on.
-  pub more-drawn : (q : Stand) → StandsAt t (x .next) (x .rest) q → x .last ≡ false
+  pub more-drawn : (q : Stand) → StandsAt t (x .next) (p .before .0 + x .chars .0) (x .rest) q → x .last ≡ false
       → eventsAfter s t p ≡ lineEvents s t p (x .entry) ++ eventsAfter s t q
   unfolding eventsAfter allEvents
   more-drawn q n h =
@@ -124,10 +124,10 @@ module _ (s : Settings) (t : List ℕ) (p : Stand) (c : StandReady s t p) (x : L
 -- ---- all lines
 
 -- A row has no more events than its line has bytes.
-row-few : (s : Settings) (start : ℕ) (h : Held) (cs : List ℕ) → FitsIn cs h
-    → length (rowAt start h cs (layLine s h cs) .events) ≤ size (take (layLine s h cs .chars) cs)
+row-few : (s : Settings) (start before : ℕ) (h : Held) (cs : List ℕ) → FitsIn cs h
+    → length (rowAt start before h cs (layLine s h cs) .events) ≤ size (take (layLine s h cs .chars) cs)
 unfolding rowAt
-row-few s start h cs f =
+row-few s start before h cs f =
     let l = layLine s h cs in
     omega (arith, events-length start (l .placed .left .0) (l .drawn), line-few s h cs (f .0) (f .1))
 
@@ -142,22 +142,22 @@ none-length = refl
 rows-few : (s : Settings) (cs : List ℕ) → length (allEvents (rows s cs)) ≤ size cs
 unfolding rows
 rows-few s cs =
-    each-row s (λ start h cs rs. length (allEvents rs) ≤ size cs)
-    (λ start h cs f e.
+    each-row s (λ start before h cs rs. length (allEvents rs) ≤ size cs)
+    (λ start before h cs f e.
     let l = layLine s h cs in
-    omega (arith, all-length (rowAt start h cs l) [], none-length, row-few s start h cs f, size-take (l .chars) cs))
-    (λ start h cs f d r rs less.
+    omega (arith, all-length (rowAt start before h cs l) [], none-length, row-few s start before h cs f, size-take (l .chars) cs))
+    (λ start before h cs f d r rs less.
     let l = layLine s h cs in
     let k = l .chars in
     omega (
       arith,
-      all-length (rowAt start h cs l) (r ∷ rs),
-      row-few s start h cs f,
+      all-length (rowAt start before h cs l) (r ∷ rs),
+      row-few s start before h cs f,
       less,
       size-append (take k cs) (drop k cs),
       ap size (take-append-drop k cs),
     ))
-    (suc (length cs)) 0 nothingHeld cs (omega arith) (omega arith, omega arith)
+    (suc (length cs)) 0 0 nothingHeld cs (omega arith) (omega arith, omega arith)
 
 -- A text has no more events than bytes.
 pub few-events : (s : Settings) (t : List ℕ) → length (eventsOf s t) ≤ length t

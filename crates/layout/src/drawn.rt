@@ -8,7 +8,7 @@ use meaning::settings::Settings;
 ghost use mathlib.Core.Path.{_≡_};
 ghost use Rattle.meaning.specs.Calls.{drawingAnswer, drawingTable, drawingEvents};
 
-// Each line's ten numbers and each event's six; or refusal 1, 2, 3, 4 or 8, of the table before the event buffer. A refusal writes
+// Each line's eleven numbers and each event's six; or refusal 1, 2, 3, 4 or 8, of the table before the event buffer. A refusal writes
 // nothing.
 pub fn layout_with_events(
     s: Settings,

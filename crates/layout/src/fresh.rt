@@ -7,7 +7,7 @@ use rows::lines::write_lines;
 ghost use mathlib.Core.Path.{_≡_};
 ghost use Rattle.meaning.specs.Calls.{layoutAnswer, layoutTable};
 
-// Each line's ten numbers; or refusal 1, 2, 3, 4 or 8, of which none writes anything.
+// Each line's eleven numbers; or refusal 1, 2, 3, 4 or 8, of which none writes anything.
 pub fn layout(s: Settings, text: &[u8], table: &mut [u32]) -> Laid
     ensures { λ r. ⌜ r ≡ layoutAnswer s (now (text .entry)) (now (table .entry)) ⌝ }
     ensures { λ r. ⌜ now (table .exit) ≡ layoutTable s (now (text .entry)) (now (table .entry)) ⌝ }

@@ -19,7 +19,7 @@ use Rattle.steps.specs.Running.{PassReady, none-fits}
 use Rattle.laws.specs.LineBounds.{line-chars}
 use Rattle.parser.specs.Lexing.{charsFrom}
 use Rattle.meaning.specs.declared.counts.Offset.{Offset}
-use Rattle.placing.specs.LineFrom.{heldIn, lineAtOf, lineFrom}
+use Rattle.placing.specs.LineFrom.{heldIn, lineFrom}
 use Rattle.placing.specs.Taken.{Taken, taken-is}
 use Rattle.placing.specs.Laying.{LineReady, passedFrom, plainly, asMeasured, placedBy, laidAt, line-passes, passes-next, measured-plainly}
 use Rattle.placing.specs.LineLaws.{placed-count}

@@ -16,7 +16,6 @@ use Rattle.parser.specs.Lexing.{charsFrom, lexemeAt, lexedAt}
 use Rattle.parser.specs.NextLaws.{chars-after}
 use Rattle.parser.specs.declared.lexeme.Lexeme.{Lexeme}
 use Rattle.parser.specs.declared.lexeme.Lexed.the-variants.{Token}
-use Rattle.steps.specs.Ready.{Standing}
 use Rattle.steps.specs.Lexed.{chars-within}
 use Rattle.steps.specs.Stepping.{tokOf}
 use Rattle.strides.specs.OnwardLaws.{read-pending}

@@ -12,4 +12,5 @@ pub mod AsFresh
 pub mod OtherSettings
 pub mod TableHolds
 pub mod LinesRise
+pub mod CharsBefore
 pub mod WordsKept

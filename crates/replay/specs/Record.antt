@@ -34,7 +34,7 @@ settingsIn ns =
       wrap = 0;
     }
 
--- A line's numbers but for the last two, which the crate does not have.
+-- A line's numbers but for the last three, which the crate does not have.
 unfoldable pub firstEight : Entry → List ℕ
 firstEight e = take 8 (ofEntry e)
 

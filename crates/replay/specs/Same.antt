@@ -28,7 +28,7 @@ equal-true (x ∷ xs) (y ∷ ys) e =
     let more = equal-true xs ys (both .1) in
     λ i. first i ∷ more i
 
--- The first eight of each ten numbers.
+-- The first eight of each eleven numbers.
 unfoldable pub eights : (lines : ℕ) → List ℕ → List ℕ
 eights zero t = []
 eights (suc n) t = take 8 t ++ eights n (drop entryNumbers t)

@@ -1,14 +1,16 @@
 -- Lines that are skipped: the tests of one line by plain numbers, and one turn of the loop over them.
 -- Assumes nothing.
-use Prim.Native.Nat.{ℕ, suc, _+_, _-_, _*_, _/_, _≤_, _<_}
+use Prim.Native.Nat.{ℕ, zero, suc, _+_, _-_, _*_, _/_, _≤_, _<_}
 use mathlib.Core.Path.{_≡_, refl, sym, ap, subst, _∙_}
 use mathlib.Core.Bool.{Bool, true, false, _&&_}
 use mathlib.Core.List.{List}
+use native.Mathlib.Nat.{add-zero}
 use native.Mathlib.Omega.{arith}
-use borrow.Author.Tests.{le-leb, ne-eqb, leb-true}
-use lib.Dec.{leb, eqb}
+use borrow.Author.Tests.{lt-ltb, le-leb, ne-eqb, ltb-true, ltb-false, leb-true}
+use lib.Dec.{leb, ltb, eqb}
 use lib.ListN.{length, getD, drop}
-use Rattle.basis.specs.Choice.{and-true}
+use Rattle.basis.specs.Choice.{pick, pick-cases, and-true}
+use Rattle.basis.specs.Order.{by-lt}
 use Rattle.meaning.specs.Table.{entryNumbers, entryIn, entriesIn}
 use Rattle.meaning.specs.WellFormed.{Before, nothing, line, startGood, noRest, restGood, countGood, checkLines}
 use Rattle.meaning.specs.Edit.{unaffected}
@@ -17,7 +19,7 @@ use Rattle.meaning.specs.declared.refusals.Refusal.the-variants.{BadLine}
 use Rattle.meaning.specs.declared.refusals.Checked.the-variants.{Refused}
 use Rattle.table.specs.LinesFrom.{linesFrom, lines-all, start-at, reach-at, before-at}
 use Rattle.table.specs.OneLine.{startFits, restStands, countFits, endingAt, lineGood}
-use Rattle.table.specs.Skipping.{before, GoodLine, checkFrom, Skipped}
+use Rattle.table.specs.Skipping.{before, GoodLine, PlainLine, PlainLines, checkFrom, Skipped}
 use Rattle.table.proofs.Reading.{entryFrom, entry-from}
 use Rattle.table.proofs.LineByLine.{line-checked, line-bad}
 use Rattle.table.proofs.EditLaws.{search-past, search-met}
@@ -43,7 +45,24 @@ module _ (t : List ℕ) (at n most : ℕ) where
       let low = leb-true (getD t (at + 9) 0) most (f .1) in
       let high : leb (getD t (at + 9) 0) (suc n) ≡ true = le-leb (getD t (at + 9) 0) (suc n) (omega arith) in
       let all : lineGood n (before t at) (entryFrom t at) false ≡ true = λ i. s i && r i && f .0 i && high i && c i in
-      record { good = subst (λ (x : Entry). lineGood n (before t at) x false ≡ true) (entry-from t at) all; low = low }
+      let from = getD t (at - entryNumbers) 0 in
+      let start = getD t at 0 in
+      let a = and-true (ltb from start && leb start (getD t (at - entryNumbers + 9) 0)) (leb start n) s in
+      record {
+        good = subst (λ (x : Entry). lineGood n (before t at) x false ≡ true) (entry-from t at) all;
+        past = ltb-true from start (and-true (ltb from start) (leb start (getD t (at - entryNumbers + 9) 0)) (a .0) .0);
+        inside = leb-true start n (a .1);
+        low = low;
+      }
+
+  -- A plain line is good if it starts within the text.
+  pub plain-good : most ≤ n + 1 → getD t at 0 ≤ n → PlainLine t at most → GoodLine t at n most
+  unfolding startFits restStands
+  plain-good m h p =
+      let fits : startFits n (getD t (at - entryNumbers) 0) (getD t (at - entryNumbers + 9) 0) (getD t at 0) ≡ true
+      = rw (lt-ltb _ _ (p .past), le-leb _ _ (p .within), le-leb _ _ h) in
+      let ends : endingAt false (getD t (at + 3) 0) && leb (getD t (at + 9) 0) most ≡ true = rw (p .ending, le-leb _ _ (p .low)) in
+      all-good m fits (rw (p .restless)) (p .counted) ends
 
 -- ---- line after line
 
@@ -88,13 +107,117 @@ module _ (t : List ℕ) (lines n most j : ℕ) where
         search = λ a l. let low = p .low in omega (arith, c .search a l, search-past t lines k a (omega arith) (omega arith));
       }
 
-  -- The loop goes by the number at which a line stands.
-  pub skip-next : (at : ℕ) → at ≡ entryNumbers * (at / entryNumbers) → at + entryNumbers < entryNumbers * lines → GoodLine t at n most → Skipped t lines n most j (at / entryNumbers)
-      → Skipped t lines n most j ((at + entryNumbers) / entryNumbers)
-  skip-next at q h p c =
-      let e : at / entryNumbers + 1 ≡ (at + entryNumbers) / entryNumbers = omega arith in
-      subst (Skipped t lines n most j) e
-      (skip-one (at / entryNumbers) (omega arith) (subst (λ (x : ℕ). GoodLine t x n most) q p) c)
+-- ---- plain lines, and others
+
+-- What the tests of a plain line say, on each way through the code.
+module _ (t : List ℕ) (at most : ℕ) where
+  pub plain-line : ltb (getD t (at - entryNumbers) 0) (getD t at 0) && leb (getD t at 0) (getD t (at - entryNumbers + 9) 0) ≡ true
+      → countFits (getD t (at - entryNumbers + 10) 0) (getD t at 0) (getD t (at + 10) 0) ≡ true
+      → eqb (getD t (at + 1) 0) 0 && eqb (getD t (at + 2) 0) 0 ≡ true
+      → endingAt false (getD t (at + 3) 0) ≡ true → leb (getD t (at + 9) 0) most ≡ true
+      → PlainLine t at most
+  plain-line f c n e l =
+      let both = and-true (ltb (getD t (at - entryNumbers) 0) (getD t at 0)) (leb (getD t at 0) (getD t (at - entryNumbers + 9) 0)) f in
+      record { past = ltb-true _ _ (both .0); within = leb-true _ _ (both .1); counted = c; restless = n; ending = e; low = leb-true _ _ l }
+
+pub breaks-good : (n : ℕ) → n ≡ 3 → endingAt false n ≡ true
+unfolding endingAt
+breaks-good n e = rw e
+
+pub below-good : (n : ℕ) → n < 2 → endingAt false n ≡ true
+unfolding endingAt
+below-good n h = rw (le-leb n 3 (omega arith), ne-eqb n 2 (λ e. omega arith))
+
+-- One plain line after others.
+module _ (t : List ℕ) (last most from : ℕ) where
+  pub plain-none : PlainLines t last most from from
+  plain-none = record { count = 0; ends = omega arith; each = λ i h. absurd (omega arith); inside = λ i h. absurd (omega arith) }
+
+  pub plain-more : (at : ℕ) → at < last → PlainLine t at most → PlainLines t last most from at → PlainLines t last most from (at + entryNumbers)
+  plain-more at h p c =
+      let here : (i : ℕ) → i < suc (c .count) → c .count ≤ i → at ≡ from + entryNumbers * i = λ i a b. omega (arith, c .ends) in
+      record {
+        count = suc (c .count);
+        ends = omega (arith, c .ends);
+        each = λ i a. by-lt i (c .count) (c .each i) (λ b. subst (λ (x : ℕ). PlainLine t x most) (here i a b) p);
+        inside = λ i a. by-lt i (c .count) (c .inside i) (λ b. omega (arith, here i a b));
+      }
+
+-- The lines from line j up to line k are skipped if the last of them starts within the text.
+pub record Skimmed (t : List ℕ) (lines n most j k : ℕ) : Type 0 where
+  pub some : 1 ≤ k
+  pub inside : k ≤ lines
+  pub reached : getD t (entryNumbers * k - entryNumbers + 9) 0 ≤ most
+  pub skipped : getD t (entryNumbers * k - entryNumbers) 0 ≤ n → Skipped t lines n most j k
+
+-- The loops go by the number at which a line stands.
+abbrev pub SkimmedTo : List ℕ → (lines n most j at : ℕ) → Type 0
+SkimmedTo t lines n most j at = Skimmed t lines n most j (at / entryNumbers) × (at ≡ entryNumbers * (at / entryNumbers))
+
+module _ (t : List ℕ) (lines n most j : ℕ) (m : most ≤ n + 1) where
+  pub skim-start : 1 ≤ j → j ≤ lines → getD t (entryNumbers * j - entryNumbers + 9) 0 ≤ most → Skimmed t lines n most j j
+  skim-start a b c = record { some = a; inside = b; reached = c; skipped = λ _. skip-none t lines n most j b }
+
+  -- The line before line k + 1 is line k.
+  module _ (k : ℕ) (h : k + 1 < lines) (c : Skimmed t lines n most j k) where
+    abbrev at : ℕ
+    at = entryNumbers * k
+
+    here : entryNumbers * (k + 1) - entryNumbers ≡ entryNumbers * k
+    here = omega arith
+
+    skim-on : (getD t (entryNumbers * k) 0 ≤ n → Skipped t lines n most j (k + 1)) → getD t (entryNumbers * k + 9) 0 ≤ most
+        → Skimmed t lines n most j (k + 1)
+    skim-on f low = record { some = omega arith; inside = omega arith; reached = rw here low; skipped = rw here f }
+
+    pub skim-plain : PlainLine t (entryNumbers * k) most → Skimmed t lines n most j (k + 1)
+    skim-plain p =
+        skim-on (λ b. skip-one t lines n most j k h (plain-good t at n most m b p) (c .skipped (omega (arith, p .past, p .within, c .reached)))) (p .low)
+
+    pub skim-good : GoodLine t (entryNumbers * k) n most → Skimmed t lines n most j (k + 1)
+    skim-good p = skim-on (λ b. skip-one t lines n most j k h p (c .skipped (omega (arith, p .past, p .inside)))) (p .low)
+
+  -- So many plain lines.
+  plain-by : (count k : ℕ) → ((i : ℕ) → i < count → PlainLine t (entryNumbers * k + entryNumbers * i) most)
+      → ((i : ℕ) → i < count → entryNumbers * k + entryNumbers * i < entryNumbers * (lines - 1)) → Skimmed t lines n most j k → Skimmed t lines n most j (k + count)
+  plain-by zero k p b c = subst (Skimmed t lines n most j) (sym (add-zero k)) c
+  plain-by (suc count) k p b c =
+      let first : entryNumbers * k + entryNumbers * 0 ≡ entryNumbers * k = omega arith in
+      let on : k + 1 + count ≡ k + suc count = omega arith in
+      let next : (i : ℕ) → entryNumbers * k + entryNumbers * suc i ≡ entryNumbers * (k + 1) + entryNumbers * i = λ i. omega arith in
+      let one = skim-plain k (omega (arith, b 0 (omega arith))) c (subst (λ (x : ℕ). PlainLine t x most) first (p 0 (omega arith))) in
+      subst (Skimmed t lines n most j) on
+      (plain-by count (k + 1) (λ i h. subst (λ (x : ℕ). PlainLine t x most) (next i) (p (suc i) (omega arith)))
+      (λ i h. omega (arith, b (suc i) (omega arith))) one)
+
+  pub plain-to : (from to : ℕ) → PlainLines t (entryNumbers * (lines - 1)) most from to → SkimmedTo t lines n most j from → SkimmedTo t lines n most j to
+  plain-to from to p c =
+      let k = from / entryNumbers in
+      let same : from ≡ entryNumbers * k = c .1 in
+      let there : to / entryNumbers ≡ k + p .count = omega (arith, p .ends) in (
+        subst (Skimmed t lines n most j) (sym there)
+            (plain-by (p .count) k (λ i h. subst (λ (x : ℕ). PlainLine t (x + entryNumbers * i) most) same (p .each i h))
+            (λ i h. omega (arith, p .inside i h)) (c .0)),
+        omega (arith, p .ends),
+      )
+
+  pub good-to : (at : ℕ) → at < entryNumbers * (lines - 1) → GoodLine t at n most → SkimmedTo t lines n most j at → SkimmedTo t lines n most j (at + entryNumbers)
+  good-to at h p c =
+      let k = at / entryNumbers in
+      let there : (at + entryNumbers) / entryNumbers ≡ k + 1 = omega (arith, c .1) in (
+        subst (Skimmed t lines n most j) (sym there)
+            (skim-good k (omega (arith, c .1)) (c .0) (subst (λ (x : ℕ). GoodLine t x n most) (c .1) p)),
+        omega (arith, c .1),
+      )
+
+  -- What is skipped in the end.
+  pub skims-to : (at : ℕ) → j ≤ lines → SkimmedTo t lines n most j at → (r : ℕ) → r ≡ pick (ltb n (getD t (at - entryNumbers) 0)) j (at / entryNumbers)
+      → Skipped t lines n most j r
+  skims-to at h c r e =
+      let start = getD t (at - entryNumbers) 0 in
+      subst (Skipped t lines n most j) (sym e)
+      (pick-cases (Skipped t lines n most j) (ltb n start) (λ _. skip-none t lines n most j h)
+      (λ f. c .0 .skipped (subst (λ (x : ℕ). getD t (x - entryNumbers) 0 ≤ n) (c .1) (ltb-false n start f))))
 
 -- ---- the search, when the lines behind the first are skipped up to line j
 

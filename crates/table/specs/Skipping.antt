@@ -1,25 +1,44 @@
 -- Good lines that are not the last, skipped one after the other by plain numbers.
 -- Assumes nothing.
-use Prim.Native.Nat.{ℕ, _+_, _-_, _*_, _≤_}
+use Prim.Native.Nat.{ℕ, _+_, _-_, _*_, _≤_, _<_}
 use mathlib.Core.Path.{_≡_}
-use mathlib.Core.Bool.{true, false}
+use mathlib.Core.Bool.{true, false, _&&_}
 use mathlib.Core.List.{List}
+use lib.Dec.{eqb}
 use lib.ListN.{length, getD, drop}
 use Rattle.meaning.specs.Table.{entryNumbers, entryIn}
 use Rattle.meaning.specs.WellFormed.{Before, line, checkLines}
 use Rattle.meaning.specs.Edit.{unaffected}
 use Rattle.meaning.specs.declared.refusals.Checked.{Checked}
-use Rattle.table.specs.OneLine.{lineGood}
+use Rattle.table.specs.OneLine.{countFits, endingAt, lineGood}
 use Rattle.table.specs.LinesFrom.{linesFrom}
 
 -- The line before the one at a number of the table.
 abbrev pub before : List ℕ → (at : ℕ) → Before
 before t at = line (getD t (at - entryNumbers) 0) (getD t (at - entryNumbers + 9) 0) (getD t (at - entryNumbers + 10) 0)
 
--- The line at a number is good, not the last, and its reach at most this.
+-- The line at a number is good, not the last, and its reach at most this: it starts past the line before it and within the text.
 pub record GoodLine (t : List ℕ) (at n most : ℕ) : Type 0 where
   pub good : lineGood n (before t at) (entryIn (drop at t)) false ≡ true
+  pub past : getD t (at - entryNumbers) 0 < getD t at 0
+  pub inside : getD t at 0 ≤ n
   pub low : getD t (at + 9) 0 ≤ most
+
+-- It is so if it starts within the text: it has no rest.
+pub record PlainLine (t : List ℕ) (at most : ℕ) : Type 0 where
+  pub past : getD t (at - entryNumbers) 0 < getD t at 0
+  pub within : getD t at 0 ≤ getD t (at - entryNumbers + 9) 0
+  pub counted : countFits (getD t (at - entryNumbers + 10) 0) (getD t at 0) (getD t (at + 10) 0) ≡ true
+  pub restless : eqb (getD t (at + 1) 0) 0 && eqb (getD t (at + 2) 0) 0 ≡ true
+  pub ending : endingAt false (getD t (at + 3) 0) ≡ true
+  pub low : getD t (at + 9) 0 ≤ most
+
+-- All lines from one number of the table up to another are, and none of them is the one at `last`.
+pub record PlainLines (t : List ℕ) (last most from to : ℕ) : Type 0 where
+  pub count : ℕ
+  pub ends : to ≡ from + entryNumbers * count
+  pub each : (i : ℕ) → i < count → PlainLine t (from + entryNumbers * i) most
+  pub inside : (i : ℕ) → i < count → from + entryNumbers * i < last
 
 -- The check of the lines from line k on.
 abbrev pub checkFrom : List ℕ → (lines n k : ℕ) → Checked

@@ -1,4 +1,4 @@
-// Good lines that are not the last, skipped in one loop over plain numbers (refusal 5).
+// Good lines that are not the last, skipped by plain numbers (refusal 5).
 use crate::one_line::count_fits;
 use crate::one_line::ending_good;
 use crate::one_line::rest_stands;
@@ -9,12 +9,14 @@ use meaning::sizes::ENTRY_NUMBERS;
 use meaning::sizes::REACH;
 use meaning::sizes::REST_COUNT;
 use meaning::sizes::REST_END;
-ghost use Prim.Native.Nat.{_+_, _*_, _≤_};
+ghost use Prim.Native.Nat.{_+_, _-_, _*_, _/_, _≤_};
 ghost use mathlib.Core.Path.{_≡_};
 ghost use mathlib.Core.Bool.{true};
-ghost use lib.ListN.{length};
+ghost use lib.Dec.{ltb};
+ghost use lib.ListN.{length, getD};
+ghost use Rattle.basis.specs.Choice.{pick};
 ghost use Rattle.meaning.specs.Table.{entryNumbers};
-ghost use Rattle.table.specs.Skipping.{GoodLine, Skipped};
+ghost use Rattle.table.specs.Skipping.{GoodLine, PlainLine, PlainLines, Skipped};
 
 // Is the line at a number of the table good, behind the line before it and not the last, and its reach at most `most`.
 fn line_is_good(table: &[u32], at: usize, bytes: u32, most: u32) -> bool
@@ -42,18 +44,88 @@ fn line_is_good(table: &[u32], at: usize, bytes: u32, most: u32) -> bool
     ending_good(false, ending) & (reach <= most)
 }
 
-// The first line from line j on that is not such a line; the last is none.
+// Is it a line as most are: good, without a rest, and not the last. Whether it starts within the text is not asked: it does if the
+// line after it starts within what it reached.
+fn line_is_plain(table: &[u32], at: usize, most: u32) -> bool
+    requires { ⌜ (entryNumbers ≤ at) × (at + entryNumbers ≤ length (now table)) ⌝ }
+    ensures { λ r. ⌜ (r ≡ true → PlainLine (now (table .entry)) at most) ⌝ }
+{
+    let start = table[at];
+    let before = at - ENTRY_NUMBERS;
+    let from = table[before];
+    let reached = table[before + REACH];
+    let follows = (from < start) & (start <= reached);
+    if !follows {
+        return false;
+    }
+    let counted = table[before + BEFORE];
+    let chars = table[at + BEFORE];
+    if !count_fits(counted, start, chars) {
+        return false;
+    }
+    let end = table[at + REST_END];
+    let count = table[at + REST_COUNT];
+    let none = (end == 0) & (count == 0);
+    if !none {
+        return false;
+    }
+    let ending = table[at + ENDING];
+    let reach = table[at + REACH];
+    if ending == 3 {
+        return reach <= most;
+    }
+    (ending < 2) & (reach <= most)
+}
+
+// The first line from a number of the table on that is not such a line; the line at `last` is none.
+fn skip_plain(table: &[u32], last: usize, from: usize, most: u32) -> usize
+    requires { ⌜ (entryNumbers ≤ from) × (last + entryNumbers ≤ length (now table)) ⌝ }
+    ensures { λ r. ⌜ PlainLines (now (table .entry)) last most from r ⌝ }
+{
+    let mut at = from;
+    while at < last {
+        if !line_is_plain(table, at, most) {
+            return at;
+        }
+        at += ENTRY_NUMBERS;
+    }
+    at
+}
+
+// The lines from line j on are good up to the one at a number of the table, if the one before that starts within the text. Else
+// none is skipped.
+fn skipped_to(table: &[u32], j: usize, at: usize, bytes: u32) -> usize
+    requires { ⌜ (entryNumbers ≤ at) × (at ≤ length (now table)) ⌝ }
+    ensures { λ r. ⌜ r ≡ pick (ltb bytes (getD (now (table .entry)) (at - entryNumbers) 0)) j (at / entryNumbers) ⌝ }
+{
+    let start = table[at - ENTRY_NUMBERS];
+    if bytes < start {
+        return j;
+    }
+    at / ENTRY_NUMBERS
+}
+
+// The first line from line j on that is not good; the last is none, nor is one whose reach is above `most`. Lines as most are go by
+// themselves, since the others take longer.
 pub fn skip_good(table: &[u32], lines: usize, j: usize, bytes: u32, most: u32) -> usize
     requires { ⌜ (1 ≤ j) × (j ≤ lines) × (entryNumbers * lines ≤ length (now table)) × (most ≤ bytes + 1) ⌝ }
     ensures { λ r. ⌜ Skipped (now (table .entry)) lines bytes most j r ⌝ }
 {
     let last = ENTRY_NUMBERS * (lines - 1);
-    let mut at = ENTRY_NUMBERS * j;
-    while at < last {
+    let first = ENTRY_NUMBERS * j;
+    let reached = table[first - ENTRY_NUMBERS + REACH];
+    if most < reached {
+        return j;
+    }
+    let mut at = first;
+    loop {
+        at = skip_plain(table, last, at, most);
+        if last <= at {
+            return skipped_to(table, j, at, bytes);
+        }
         if !line_is_good(table, at, bytes, most) {
-            return at / ENTRY_NUMBERS;
+            return skipped_to(table, j, at, bytes);
         }
         at += ENTRY_NUMBERS;
     }
-    at / ENTRY_NUMBERS
 }
