@@ -11,6 +11,7 @@ use Rattle.meaning.specs.Table.{entryNumbers, entriesIn}
 use Rattle.meaning.specs.Edit.{movedEntry, keptFrom, Again}
 use Rattle.meaning.specs.declared.settings.Settings.{Settings}
 use Rattle.meaning.specs.declared.edit.Edit.{Edit}
+use Rattle.meaning.specs.declared.counts.Chars.{Chars}
 use Rattle.meaning.specs.declared.line.Rest.{Rest}
 use Rattle.meaning.specs.declared.line.Entry.{Entry}
 use Rattle.laws.specs.TableLaws.{entries-length}
@@ -28,9 +29,12 @@ use Rattle.again.specs.AgainFrom.{againFrom, few-laid, again-stop, again
 use Rattle.edits.specs.OldLines.{lines-drop}
 use Rattle.again.specs.declared.stop.Found.{Found}
 
+abbrev pub foundAt : (laid kept : ℕ) → Chars → Found
+foundAt laid kept before = record { laid = laid; kept = kept; before = before }
+
 -- What laying again finds: how many lines are laid, the first of so many old lines that is kept, and the characters before that.
 unfoldable pub foundIn : (lines : ℕ) → Again → Found
-foundIn lines a = record { laid = length (a .laid); kept = lines - length (a .kept); before = record { 0 = countOf (a .kept) } }
+foundIn lines a = foundAt (length (a .laid)) (lines - length (a .kept)) (record { 0 = countOf (a .kept) })
 
 -- No old line before line k is met from a start on.
 abbrev pub PassedBy : Edit → (old : List Entry) → (start k : ℕ) → Type 0
@@ -117,7 +121,7 @@ module _ (s : Settings) (part table : List ℕ) (lines base : ℕ) (ed : Edit) (
       stop-few = let l = c .ready in omega (arith, l .few, l .line .inside, l .line .short)
 
       module _ (rest : Rest) (rest-is : rest ≡ restBehind base (p .rest)) where
-        pub stops : meetsFirst ed (base + p .at .0) rest (linesFrom table lines i) ≡ true → record { laid = n; kept = i; before = p .before } ≡ foundIn lines whole
+        pub stops : meetsFirst ed (base + p .at .0) rest (linesFrom table lines i) ≡ true → foundAt n i (p .before) ≡ foundIn lines whole
         unfolding foundIn
         stops m =
             let met = rw (rest-is, lines-drop i lines table) at m in
@@ -128,7 +132,7 @@ module _ (s : Settings) (part table : List ℕ) (lines base : ℕ) (ed : Edit) (
             let left = ap length there ∙ length-map (drop i old) (movedEntry ed (countOf (drop i old)) (p .before .0)) in
             let kept : i ≡ lines - length (whole .kept) =
             omega (arith, left, length-drop i old, entries-length lines table, still-inside) in
-            λ k. record { laid = laid k; kept = kept k; before = record { 0 = count k } }
+            λ k. foundAt (laid k) (kept k) (record { 0 = count k })
 
         -- It is not: nothing is kept yet, and a line is laid.
         module _ (m : meetsFirst ed (base + p .at .0) rest (linesFrom table lines i) ≡ false) (rising : Rising old) (x : LaidRow) (is : x ≡ laidRow s part p) where
@@ -139,7 +143,7 @@ module _ (s : Settings) (part table : List ℕ) (lines base : ℕ) (ed : Edit) (
               (rw (rest-is, lines-drop i lines table) at m)
 
           -- The line that ends the text.
-          pub finds-last : x .last ≡ true → record { laid = n + 1; kept = lines; before = record { 0 = 0 } } ≡ foundIn lines whole
+          pub finds-last : x .last ≡ true → foundAt (n + 1) lines (record { 0 = 0 }) ≡ foundIn lines whole
           unfolding foundIn
           finds-last h =
               let a = again-last s part ed old base p (c .ready) none x is h in
@@ -148,7 +152,7 @@ module _ (s : Settings) (part table : List ℕ) (lines base : ℕ) (ed : Edit) (
               let left = ap length none-kept in
               let count : 0 ≡ countOf (whole .kept) = sym (ap countOf none-kept) in
               let kept : lines ≡ lines - length (whole .kept) = omega (arith, left) in
-              λ k. record { laid = laid k; kept = kept k; before = record { 0 = count k } }
+              λ k. foundAt (laid k) (kept k) (record { 0 = count k })
 
           -- Any other.
           pub seeks-on : (q : Stand) → StandsAt part (x .next) (p .before .0 + x .chars .0) (x .rest) q → x .last ≡ false → Seeking s part table lines base ed p₀ (n + 1) i q

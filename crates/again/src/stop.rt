@@ -22,7 +22,7 @@ ghost use Rattle.table.specs.LinesFrom.{linesFrom};
 ghost use Rattle.again.specs.Behind.{restBehind, RestLow};
 ghost use Rattle.edits.specs.Pointer.{passing, meetsFirst};
 ghost use Rattle.again.specs.AgainFrom.{againFrom};
-ghost use Rattle.again.specs.Seeking.{FindReady, foundIn};
+ghost use Rattle.again.specs.Seeking.{FindReady, foundAt, foundIn};
 
 // How many lines are laid, the first old line that is kept, and the characters that stand before it now; the count of old lines
 // and 0 if none is.
@@ -30,6 +30,12 @@ pub struct Found {
     pub laid: usize,
     pub kept: usize,
     pub before: Chars,
+}
+
+fn found_at(laid: usize, kept: usize, before: Chars) -> Found
+    ensures { λ r. ⌜ r ≡ foundAt laid kept before ⌝ }
+{
+    Found { laid, kept, before }
 }
 
 // What is held before a line of a part that stands behind so many bytes, as an entry of the whole says it.
@@ -113,20 +119,12 @@ pub fn find_stop(
         let rest = rest_behind(base, held);
         if meets_first(table, lines, j, edit, start, rest) {
             let before = stand.before;
-            return Found {
-                laid: n,
-                kept: j,
-                before,
-            };
+            return found_at(n, j, before);
         }
         let row = lay_row(part, s, stand);
         n += 1;
         if row.last {
-            return Found {
-                laid: n,
-                kept: lines,
-                before: Chars(0),
-            };
+            return found_at(n, lines, Chars(0));
         }
         stand = next_stand(part, stand, row);
     }

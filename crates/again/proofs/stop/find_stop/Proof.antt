@@ -2,10 +2,12 @@
 -- Assumes nothing.
 use Prim.Native.Nat.{_-_}
 use native.Mathlib.Omega.{arith}
-use mathlib.Core.Path.{sym, _∙_}
+use mathlib.Core.Path.{sym, ap, _∙_}
 use lib.ListN.{length}
 use Rattle.rows.specs.Standing.{next-ready, further, stays}
 use Rattle.again.specs.Seeking.{Seeking, rest-low, seek-start, seek-low, stops, stop-few, finds-last, seeks-on}
+use Rattle.again.specs.declared.stop.Found.{Found}
+use borrow.Author.Needs.{needs}
 use Rattle.again.proofs.stop.find_stop.Statement.{statement}
 use Rattle.again.proofs.stop.find_stop.Tie as tie
 
@@ -40,14 +42,18 @@ rest-behind-requires c κs = let l = turn (c .before) in rest-low _ _ _ _ (l .lo
 meets-first-requires : tie.Need-meets-first-requires Inv-loop μ-loop
 meets-first-requires c κs = turn (c .before .before) .before .before .before .pre .room
 
+found-at-requires : tie.Need-found-at-requires Inv-loop μ-loop
+found-at-requires c κs = search needs
+
 returns : tie.Need-returns Inv-loop μ-loop
 returns c =
-    let t = c .before in
+    let t = c .before .before in
     let m = t .before in
     let k = passed m in
     let i = turn k .loop .inv in (
-      stops _ _ _ _ _ _ _ _ _ _ _ i (k .skip-before .ensures) _ (m .before .rest-behind .ensures) (sym (m .meets-first .ensures) ∙ t .if1 .taken),
-      stop-few _ _ _ _ _ _ _ _ _ _ _ i (k .skip-before .ensures),
+      c .found-at .ensures
+          ∙ stops _ _ _ _ _ _ _ _ _ _ _ i (k .skip-before .ensures) _ (m .before .rest-behind .ensures) (sym (m .meets-first .ensures) ∙ t .if1 .taken),
+      omega (arith, ap (λ (f : Found). f .before .0) (c .found-at .ensures), stop-few _ _ _ _ _ _ _ _ _ _ _ i (k .skip-before .ensures)),
     )
 
 lay-row-requires : tie.Need-lay-row-requires Inv-loop μ-loop
@@ -56,16 +62,21 @@ lay-row-requires c κs = turn (passed (c .before)) .loop .inv .ready
 add-n : tie.Need-add-n Inv-loop μ-loop
 add-n c = omega (arith, seek-low _ _ _ _ _ _ _ _ _ _ (turn (passed (c .before .before)) .loop .inv))
 
+found-at-requires-2 : tie.Need-found-at-requires-2 Inv-loop μ-loop
+found-at-requires-2 c κs = search needs
+
 returns-2 : tie.Need-returns-2 Inv-loop μ-loop
 returns-2 c =
-    let r = c .before in
+    let t = c .before in
+    let r = t .before in
     let e = r .before in
     let m = e .before in
     let k = passed m in
     let l = turn k in (
-      finds-last _ _ _ _ _ _ _ _ _ _ _ (l .loop .inv) (k .skip-before .ensures) _ (m .before .rest-behind .ensures)
-          (sym (m .meets-first .ensures) ∙ e .if1 .left) (l .before .before .before .pre .rising) _ (r .lay-row .ensures) (c .if2 .taken),
-      omega arith,
+      c .found-at2 .ensures
+          ∙ finds-last _ _ _ _ _ _ _ _ _ _ _ (l .loop .inv) (k .skip-before .ensures) _ (m .before .rest-behind .ensures)
+          (sym (m .meets-first .ensures) ∙ e .if1 .left) (l .before .before .before .pre .rising) _ (r .lay-row .ensures) (t .if2 .taken),
+      omega (arith, ap (λ (f : Found). f .before .0) (c .found-at2 .ensures)),
     )
 
 next-stand-requires : tie.Need-next-stand-requires Inv-loop μ-loop
@@ -103,9 +114,11 @@ find-stop-spec =
     skip-before-requires
     rest-behind-requires
     meets-first-requires
+    found-at-requires
     returns
     lay-row-requires
     add-n
+    found-at-requires-2
     returns-2
     next-stand-requires
     loop-less
