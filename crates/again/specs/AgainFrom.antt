@@ -23,7 +23,7 @@ use Rattle.steps.specs.declared.step.Resumed.{Resumed}
 use Rattle.rows.specs.Standing.{StandsAt, textFront, StandReady, laidRow}
 use Rattle.rows.specs.RowsFrom.{rowsFrom, rowHere, front-rows, first-row, few-rows, last-row, more-rows, entriesFrom}
 use Rattle.rows.specs.declared.stand.Stand.{Stand}
-use Rattle.rows.specs.declared.stand.LaidRow.{LaidRow}
+use Rattle.rows.specs.declared.line.LaidRow.{LaidRow}
 use Rattle.again.specs.Behind.{restBehind, rest-behind}
 
 -- Before each line the old lines are looked at.

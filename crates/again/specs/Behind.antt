@@ -27,7 +27,7 @@ use Rattle.steps.specs.declared.step.Resumed.{Resumed}
 use Rattle.rows.specs.Standing.{StandReady, laidRow, entry-is}
 use Rattle.rows.specs.RowsFrom.{rowHere}
 use Rattle.rows.specs.declared.stand.Stand.{Stand}
-use Rattle.rows.specs.declared.stand.LaidRow.{LaidRow}
+use Rattle.rows.specs.declared.line.LaidRow.{LaidRow}
 
 -- Bytes put in front of everything, and no characters counted: the stand counts them.
 abbrev pub behind : ℕ → Shift

@@ -18,7 +18,7 @@ use Rattle.rows.specs.Standing.{StandsAt, StandReady, laidRow, entry-is, ready-
 use Rattle.rows.specs.RowsFrom.{rowHere, entriesFrom, last-entry, more-entries}
 use Rattle.rows.specs.Writing.{linesPut, none-put, first-put}
 use Rattle.rows.specs.declared.stand.Stand.{Stand}
-use Rattle.rows.specs.declared.stand.LaidRow.{LaidRow}
+use Rattle.rows.specs.declared.line.LaidRow.{LaidRow}
 use Rattle.again.specs.Behind.{behind, row-behind}
 
 -- There are so many lines from a stand on, and the table has room for them from line k on.

@@ -23,7 +23,7 @@ use Rattle.rows.specs.Standing.{StandsAt, textFront, StandReady, lineAt, laidRo
 use Rattle.rows.specs.RowsFrom.{TextReady}
 use Rattle.rows.specs.Turns.{start-ready}
 use Rattle.rows.specs.declared.stand.Stand.{Stand}
-use Rattle.rows.specs.declared.stand.LaidRow.{LaidRow}
+use Rattle.rows.specs.declared.line.LaidRow.{LaidRow}
 use Rattle.layout.specs.EventsFrom.{eventsOf, eventsAfter, placeIn, lineEvents, DrawReady, all-events, few-events, one-drawn, more-drawn}
 
 -- So far k events are put into the buffer ev₀, which is ev now: what is put when those that are left are put stays the same.

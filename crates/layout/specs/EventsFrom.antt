@@ -32,7 +32,7 @@ use Rattle.drawing.specs.DrawnBounds.{line-few}
 use Rattle.rows.specs.Standing.{StandsAt, textFront, StandReady, laidRow, entry-is}
 use Rattle.rows.specs.RowsFrom.{rowsFrom, rowHere, front-rows, last-row, more-rows}
 use Rattle.rows.specs.declared.stand.Stand.{Stand}
-use Rattle.rows.specs.declared.stand.LaidRow.{LaidRow}
+use Rattle.rows.specs.declared.line.LaidRow.{LaidRow}
 
 -- The events of a text, and those of its lines from a stand on.
 unfoldable pub eventsOf : Settings → List ℕ → List Event

@@ -19,14 +19,13 @@ use Rattle.steps.specs.Running.{PassReady, none-fits}
 use Rattle.laws.specs.LineBounds.{line-chars}
 use Rattle.parser.specs.Lexing.{charsFrom}
 use Rattle.meaning.specs.declared.counts.Offset.{Offset}
-use Rattle.placing.specs.LineFrom.{heldIn, lineFrom}
+use Rattle.placing.specs.LineFrom.{LineAt, heldIn, lineFrom}
 use Rattle.placing.specs.Taken.{Taken, taken-is}
 use Rattle.placing.specs.Laying.{LineReady, passedFrom, plainly, asMeasured, placedBy, laidAt, line-passes, passes-next, measured-plainly}
 use Rattle.placing.specs.LineLaws.{placed-count}
 use Rattle.placing.specs.Quick.{DrawnAlike}
 use Rattle.steps.specs.declared.step.Resumed.{Resumed}
 use Rattle.steps.specs.declared.step.Ended.{Ended}
-use Rattle.placing.specs.declared.entry.LineAt.{LineAt}
 use Rattle.placing.specs.FairLaws.{laid-same}
 
 module _ {s : Settings} {t : List ℕ} {at : ℕ} {r : Resumed} (h : LineReady s t at r) where

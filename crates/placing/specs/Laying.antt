@@ -22,12 +22,11 @@ use Rattle.laws.specs.Shift.{process-from, shifted-measured}
 use Rattle.parser.specs.Lexing.{charsFrom}
 use Rattle.moves.specs.Fine.{FineSettings}
 use Rattle.steps.specs.Stepping.{resumedAt, endedAt, ranFrom}
-use Rattle.placing.specs.LineFrom.{heldIn, lineAtOf, lineFrom}
+use Rattle.placing.specs.LineFrom.{LineAt, heldIn, lineAtOf, lineFrom}
 use Rattle.steps.specs.Pending.{RestFits}
 use Rattle.placing.specs.Taken.{Stretch, front-stretch}
 use Rattle.steps.specs.declared.step.Resumed.{Resumed}
 use Rattle.steps.specs.declared.step.Ended.{Ended}
-use Rattle.placing.specs.declared.entry.LineAt.{LineAt}
 
 -- What laying a line takes for granted: the settings are in range, and the rest stands in the text.
 pub record LineReady (s : Settings) (t : List ℕ) (at : ℕ) (r : Resumed) : Type 0 where

@@ -7,10 +7,22 @@ use Rattle.unicode.specs.Encoding.{size}
 use Rattle.meaning.specs.LineIter.{Held}
 use Rattle.meaning.specs.Line.{Line, layLine, entryAt}
 use Rattle.meaning.specs.declared.settings.Settings.{Settings}
+use Rattle.meaning.specs.declared.counts.Chars.{Chars}
+use Rattle.meaning.specs.declared.counts.Offset.{Offset}
+use Rattle.meaning.specs.declared.line.LineEnd.{LineEnd}
+use Rattle.meaning.specs.declared.line.Entry.{Entry}
 use Rattle.parser.specs.Lexing.{charsFrom}
 use Rattle.steps.specs.Stepping.{resumedAt}
 use Rattle.steps.specs.declared.step.Resumed.{Resumed}
-use Rattle.placing.specs.declared.entry.LineAt.{LineAt}
+
+-- A laid line: its entry, how it ended, where the next line starts, how many characters it took up to there and what the next line
+-- resumes.
+pub record LineAt : Type 0 where
+  pub entry : Entry
+  pub ended : LineEnd
+  pub next : Offset
+  pub chars : Chars
+  pub rest : Resumed
 
 -- What a rest that a line resumes stands for.
 abbrev pub heldIn : Resumed → Held

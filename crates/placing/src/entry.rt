@@ -13,16 +13,6 @@ ghost use mathlib.Core.Path.{_≡_};
 ghost use Rattle.meaning.specs.Line.{endNumber};
 ghost use Rattle.placing.specs.Laying.{restIn, laidAt};
 
-// A laid line: its entry, how it ended, where the next line starts, how many characters it took up to there and what the next
-// line resumes.
-pub struct LineAt {
-    pub entry: Entry,
-    pub ended: LineEnd,
-    pub next: Offset,
-    pub chars: Chars,
-    pub rest: Resumed,
-}
-
 // The number of a line's end.
 fn end_number(e: LineEnd) -> u32
     ensures { λ r. ⌜ r ≡ endNumber e ⌝ }

@@ -31,7 +31,7 @@ use Rattle.placing.specs.LineFrom.{heldIn, lineAtOf, lineFrom}
 use Rattle.placing.specs.LineLaws.{next-start, next-count, next-held, next-chars}
 use Rattle.rows.specs.Standing.{StandsAt, textFront, StandReady, laidRow, ends, goes-on, entry-is, next-at, next-before, next-rest-is}
 use Rattle.rows.specs.declared.stand.Stand.{Stand}
-use Rattle.rows.specs.declared.stand.LaidRow.{LaidRow}
+use Rattle.rows.specs.declared.line.LaidRow.{LaidRow}
 
 -- The lines from a stand on, in a text that stands behind so many bytes of a whole.
 unfoldable pub rowsFrom : Settings → List ℕ → (base : ℕ) → Stand → List Row

@@ -13,12 +13,11 @@ use Rattle.meaning.specs.declared.line.LineEnd.{LineEnd}
 use Rattle.meaning.specs.declared.line.LineEnd.the-variants.{NewLine, CarriageReturn, EndOfText, LineBreak}
 use Rattle.steps.specs.Knowing.{KnownFits}
 use Rattle.placing.specs.Laying.{LineReady}
-use Rattle.placing.specs.LineFrom.{lineFrom}
+use Rattle.placing.specs.LineFrom.{LineAt, lineFrom}
 use Rattle.placing.specs.LineLaws.{next-within, next-fewer, next-further, next-rest}
 use Rattle.steps.specs.declared.step.Resumed.{Resumed}
-use Rattle.placing.specs.declared.entry.LineAt.{LineAt}
 use Rattle.rows.specs.declared.stand.Stand.{Stand}
-use Rattle.rows.specs.declared.stand.LaidRow.{LaidRow}
+use Rattle.rows.specs.declared.line.LaidRow.{LaidRow}
 
 abbrev pub isLast : LineEnd → Bool
 isLast EndOfText = true
@@ -64,19 +63,13 @@ stand-ready s t at before r p c f q = record { line = rw (q .at-is, q .rest-is) 
 abbrev pub lineAt : Settings → List ℕ → Stand → LineAt
 lineAt s t p = lineFrom s t (p .at .0) (p .before .0) (p .rest)
 
--- The step: that line, whether it ends the text, and where the next one starts.
-unfoldable pub laidRow : Settings → List ℕ → Stand → LaidRow
-laidRow s t p =
-    let l = lineAt s t p in
-    record { entry = l .entry; last = isLast (l .ended); next = l .next; chars = l .chars; rest = l .rest }
+-- What the loops over lines take of a line: its entry, whether it ends the text, and where the next one starts.
+abbrev pub rowOf : LineAt → LaidRow
+rowOf l = record { entry = l .entry; last = isLast (l .ended); next = l .next; chars = l .chars; rest = l .rest }
 
--- It is taken by laying the line.
-pub row-is : (s : Settings) (t : List ℕ) (p : Stand) (l : LineAt) (b : Bool) → l ≡ lineAt s t p → b ≡ isLast (l .ended)
-    → record { entry = l .entry; last = b; next = l .next; chars = l .chars; rest = l .rest } ≡ laidRow s t p
-unfolding laidRow
-row-is s t p l b e h =
-    let g = h ∙ ap (λ (x : LineAt). isLast (x .ended)) e in
-    λ i. record { entry = e i .entry; last = g i; next = e i .next; chars = e i .chars; rest = e i .rest }
+-- The step: that of the line at a stand.
+unfoldable pub laidRow : Settings → List ℕ → Stand → LaidRow
+laidRow s t p = rowOf (lineAt s t p)
 
 -- What standing on the next line takes for granted.
 pub record NextReady (t : List ℕ) (p : Stand) (x : LaidRow) : Type 0 where

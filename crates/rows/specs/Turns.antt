@@ -17,7 +17,7 @@ use Rattle.rows.specs.Standing.{StandsAt, textFront, StandReady, stand-r
 use Rattle.rows.specs.RowsFrom.{rowHere, TextReady, entriesOf, entriesFrom, all-entries, entry-here, some-entries, few-entries, last-entry, more-entries}
 use Rattle.rows.specs.Writing.{linesPut, none-put, first-put, all-put}
 use Rattle.rows.specs.declared.stand.Stand.{Stand}
-use Rattle.rows.specs.declared.stand.LaidRow.{LaidRow}
+use Rattle.rows.specs.declared.line.LaidRow.{LaidRow}
 
 -- ---- counting
 

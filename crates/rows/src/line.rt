@@ -3,6 +3,8 @@ use crate::pass::run_pass;
 use meaning::counts::Chars;
 use meaning::counts::Offset;
 use meaning::counts::Pixels;
+use meaning::line::Entry;
+use meaning::line::LineEnd;
 use meaning::line::Placed;
 use meaning::settings::Settings;
 use moves::measure::nothing_measured;
@@ -10,7 +12,6 @@ use moves::place::start_place;
 use placing::alignment::place_line;
 use placing::alignment::plain_spaces;
 use placing::cut::cut_line;
-use placing::entry::LineAt;
 use placing::entry::entry_at;
 use placing::quick::Quick;
 use placing::quick::quick_line;
@@ -24,7 +25,30 @@ ghost use mathlib.Core.Path.{_≡_};
 ghost use Rattle.moves.specs.Fine.{FineSettings, FineSpaces};
 ghost use Rattle.steps.specs.Knowing.{KnownFits};
 ghost use Rattle.placing.specs.LineFrom.{lineFrom};
+ghost use Rattle.rows.specs.Standing.{isLast, rowOf};
 ghost use Rattle.placing.specs.Laying.{LineReady, passedFrom, plainly, asMeasured, placedBy, laidAt};
+
+// A line that is laid: its entry, whether it ends the text, where the next line starts, how many characters it took up to there
+// and what the next one resumes.
+pub struct LaidRow {
+    pub entry: Entry,
+    pub last: bool,
+    pub next: Offset,
+    pub chars: Chars,
+    pub rest: Resumed,
+}
+
+// Nothing follows the line that ends the text.
+fn is_last(ended: LineEnd) -> bool
+    ensures { λ r. ⌜ r ≡ isLast ended ⌝ }
+{
+    match ended {
+        LineEnd::EndOfText => true,
+        LineEnd::NewLine => false,
+        LineEnd::CarriageReturn => false,
+        LineEnd::LineBreak => false,
+    }
+}
 
 // How a line is placed to be measured: at the box's left, with plain spaces.
 fn placed_plainly(s: Settings) -> Placed
@@ -83,16 +107,17 @@ fn laid_at(
     looked: Offset,
     e: Ended,
     chars: Chars,
-) -> LineAt
-    ensures { λ r. ⌜ r ≡ laidAt (at .0) (before .0) rest p (width .0) (looked .0) e (chars .0) ⌝ }
+) -> LaidRow
+    ensures { λ r. ⌜ r ≡ rowOf (laidAt (at .0) (before .0) rest p (width .0) (looked .0) e (chars .0)) ⌝ }
 {
     let entry = entry_at(at, before, rest, p, width, looked, e);
     let ended = e.ended;
+    let last = is_last(ended);
     let next = e.next;
     let held = e.rest;
-    LineAt {
+    LaidRow {
         entry,
-        ended,
+        last,
         next,
         chars,
         rest: held,
@@ -107,9 +132,9 @@ fn laid_alike(
     rest: Resumed,
     e: Ended,
     chars: Chars,
-) -> LineAt
+) -> LaidRow
     requires { ⌜ FineSettings s × (e .measure .count .0 ≤ 65535) ⌝ }
-    ensures { λ r. ⌜ r ≡ laidAt (at .0) (before .0) rest (placedBy s e) (e .measure .width .0) (e .reach .0) e (chars .0) ⌝ }
+    ensures { λ r. ⌜ r ≡ rowOf (laidAt (at .0) (before .0) rest (placedBy s e) (e .measure .width .0) (e .reach .0) e (chars .0)) ⌝ }
 {
     let m = e.measure;
     let width = m.width;
@@ -126,9 +151,9 @@ fn lay_twice(
     before: Chars,
     rest: Resumed,
     known: Known,
-) -> LineAt
+) -> LaidRow
     requires { ⌜ LineReady s (now text) at rest × KnownFits (now text) known ⌝ }
-    ensures { λ r. ⌜ r ≡ lineFrom s (now (text .entry)) at (before .0) rest ⌝ }
+    ensures { λ r. ⌜ r ≡ rowOf (lineFrom s (now (text .entry)) at (before .0) rest) ⌝ }
 {
     let first = pass_over(text, s, at, rest, placed_plainly(s), known);
     let m = first.measure;
@@ -155,9 +180,9 @@ pub fn lay_line(
     before: Chars,
     rest: Resumed,
     known: Known,
-) -> LineAt
+) -> LaidRow
     requires { ⌜ LineReady s (now text) at rest × KnownFits (now text) known ⌝ }
-    ensures { λ r. ⌜ r ≡ lineFrom s (now (text .entry)) at (before .0) rest ⌝ }
+    ensures { λ r. ⌜ r ≡ rowOf (lineFrom s (now (text .entry)) at (before .0) rest) ⌝ }
 {
     let start = at as u32;
     if rest.chars.0 == 0 {

@@ -1,9 +1,8 @@
 // The one step that every loop over lines takes: the line where it stands is laid, and it stands on the next (rule 10).
+use crate::line::LaidRow;
 use crate::line::lay_line;
 use meaning::counts::Chars;
 use meaning::counts::Offset;
-use meaning::line::Entry;
-use meaning::line::LineEnd;
 use meaning::settings::Settings;
 use steps::ending::nothing_left;
 use steps::first::Known;
@@ -16,7 +15,7 @@ ghost use lib.ListN.{length};
 ghost use Rattle.meaning.specs.Checks.{textLimit};
 ghost use Rattle.steps.specs.Knowing.{KnownFits};
 ghost use Rattle.steps.specs.Unrolled.{nothingResumed};
-ghost use Rattle.rows.specs.Standing.{isLast, textFront, StandsAt, StandReady, laidRow, NextReady};
+ghost use Rattle.rows.specs.Standing.{textFront, StandsAt, StandReady, laidRow, NextReady};
 
 // Where a line is to be laid: its offset, the characters before it, the rest that it resumes, and a word that may be known there.
 pub struct Stand {
@@ -24,16 +23,6 @@ pub struct Stand {
     pub before: Chars,
     pub rest: Resumed,
     pub known: Known,
-}
-
-// A line that is laid: its entry, whether it ends the text, where the next line starts, how many characters it took up to there
-// and what the next one resumes.
-pub struct LaidRow {
-    pub entry: Entry,
-    pub last: bool,
-    pub next: Offset,
-    pub chars: Chars,
-    pub rest: Resumed,
 }
 
 // Before the line at an offset, behind so many characters, which resumes a rest, where a word may be known from the line before.
@@ -66,18 +55,6 @@ pub fn at_start(text: &[u8]) -> Stand
     at_front(text, Chars(0), nothing_left())
 }
 
-// Nothing follows the line that ends the text.
-fn is_last(ended: LineEnd) -> bool
-    ensures { λ r. ⌜ r ≡ isLast ended ⌝ }
-{
-    match ended {
-        LineEnd::EndOfText => true,
-        LineEnd::NewLine => false,
-        LineEnd::CarriageReturn => false,
-        LineEnd::LineBreak => false,
-    }
-}
-
 // The line at a stand.
 pub fn lay_row(text: &[u8], s: Settings, stand: Stand) -> LaidRow
     requires { ⌜ StandReady s (now text) stand ⌝ }
@@ -87,20 +64,7 @@ pub fn lay_row(text: &[u8], s: Settings, stand: Stand) -> LaidRow
     let before = stand.before;
     let held = stand.rest;
     let known = stand.known;
-    let line = lay_line(text, s, at, before, held, known);
-    let entry = line.entry;
-    let ended = line.ended;
-    let last = is_last(ended);
-    let next = line.next;
-    let chars = line.chars;
-    let rest = line.rest;
-    LaidRow {
-        entry,
-        last,
-        next,
-        chars,
-        rest,
-    }
+    lay_line(text, s, at, before, held, known)
 }
 
 // Where the line after it is to be laid. Two functions and not one: an answer with the known word in it would go through memory twice.

@@ -114,11 +114,11 @@ module _ (t : List ℕ) (at most : ℕ) where
   pub plain-line : ltb (getD t (at - entryNumbers) 0) (getD t at 0) && leb (getD t at 0) (getD t (at - entryNumbers + 9) 0) ≡ true
       → countFits (getD t (at - entryNumbers + 10) 0) (getD t at 0) (getD t (at + 10) 0) ≡ true
       → eqb (getD t (at + 1) 0) 0 && eqb (getD t (at + 2) 0) 0 ≡ true
-      → endingAt false (getD t (at + 3) 0) ≡ true → leb (getD t (at + 9) 0) most ≡ true
+      → endingAt false (getD t (at + 3) 0) ≡ true → getD t (at + 9) 0 ≤ most
       → PlainLine t at most
   plain-line f c n e l =
       let both = and-true (ltb (getD t (at - entryNumbers) 0) (getD t at 0)) (leb (getD t at 0) (getD t (at - entryNumbers + 9) 0)) f in
-      record { past = ltb-true _ _ (both .0); within = leb-true _ _ (both .1); counted = c; restless = n; ending = e; low = leb-true _ _ l }
+      record { past = ltb-true _ _ (both .0); within = leb-true _ _ (both .1); counted = c; restless = n; ending = e; low = l }
 
 pub breaks-good : (n : ℕ) → n ≡ 3 → endingAt false n ≡ true
 unfolding endingAt

@@ -63,18 +63,24 @@ fn line_is_plain(table: &[u32], at: usize, most: u32) -> bool
     if !count_fits(counted, start, chars) {
         return false;
     }
-    let end = table[at + REST_END];
-    let count = table[at + REST_COUNT];
-    let none = (end == 0) & (count == 0);
-    if !none {
+    let reach = table[at + REACH];
+    if most < reach {
         return false;
     }
     let ending = table[at + ENDING];
-    let reach = table[at + REACH];
     if ending == 3 {
-        return reach <= most;
+        let none = (table[at + REST_END] == 0) & (table[at + REST_COUNT] == 0);
+        return none;
     }
-    (ending < 2) & (reach <= most)
+    if 2 <= ending {
+        return false;
+    }
+    let end = table[at + REST_END];
+    if end != 0 {
+        return false;
+    }
+    let count = table[at + REST_COUNT];
+    count == 0
 }
 
 // The first line from a number of the table on that is not such a line; the line at `last` is none.

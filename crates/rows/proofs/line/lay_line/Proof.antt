@@ -1,10 +1,11 @@
 -- `rows::line::lay_line` meets its contract (rule 10).
 -- Assumes nothing.
-use mathlib.Core.Path.{subst}
+use mathlib.Core.Path.{refl, ap, subst, _∙_}
 use borrow.Author.Needs.{needs}
 use Rattle.placing.specs.Taken.{Taken}
 use Rattle.placing.specs.Quick.{DrawnAlike, QuickLine}
 use Rattle.placing.specs.LayLaws.{rested, alike-few, laid-alike}
+use Rattle.rows.specs.Standing.{rowOf}
 use Rattle.rows.proofs.line.lay_line.Statement.{statement}
 use Rattle.rows.proofs.line.lay_line.Tie as tie
 
@@ -40,7 +41,7 @@ returns : tie.Need-returns
 returns c =
     let e = c .before .before in
     let i = e .before .before .before in
-    laid-alike (begin i .pre .0) (i .if1 .taken) _ (alike e .0) _ _ (alike e .1) _ (c .laid-alike .ensures)
+    c .laid-alike .ensures ∙ ap rowOf (laid-alike (begin i .pre .0) (i .if1 .taken) _ (alike e .0) _ _ (alike e .1) _ refl)
 
 enum-told : tie.Need-enum-told
 enum-told c = search needs
@@ -78,7 +79,7 @@ returns-2 : tie.Need-returns-2
 returns-2 c =
     let e = c .before .before in
     let i = unquick (e .before .before .before) in
-    laid-alike (begin i .pre .0) (i .if1 .taken) _ (cut-alike e .0) _ _ (cut-alike e .1) _ (c .laid-alike2 .ensures)
+    c .laid-alike2 .ensures ∙ ap rowOf (laid-alike (begin i .pre .0) (i .if1 .taken) _ (cut-alike e .0) _ _ (cut-alike e .1) _ refl)
 
 enum-told-2 : tie.Need-enum-told-2
 enum-told-2 c = search needs

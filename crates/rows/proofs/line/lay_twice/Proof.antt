@@ -6,8 +6,9 @@ use Rattle.placing.specs.Laying.{LineReady, passed-stretch}
 use Rattle.steps.specs.declared.step.Ended.{Ended}
 use Rattle.steps.specs.Knowing.{KnownFits}
 use native.Mathlib.Omega.{arith}
-use mathlib.Core.Path.{refl, sym, subst, _∙_}
+use mathlib.Core.Path.{refl, sym, ap, subst, _∙_}
 use borrow.Author.Needs.{needs}
+use Rattle.rows.specs.Standing.{rowOf}
 use Rattle.rows.proofs.line.lay_twice.Statement.{statement}
 use Rattle.rows.proofs.line.lay_twice.Tie as tie
 
@@ -62,8 +63,10 @@ returns c =
     let i = t .before in
     let p = i .before .before in
     let f = p .before .before .before in
-    laid-once (ready (f .before)) _ _ (f .before .placed-plainly .ensures) (f .pass-over .ensures) _ _ _ refl (p .placed-by .ensures)
-    _ _ (sym (i .as-measured .ensures) ∙ t .if1 .taken) (n .chars-to .ensures) (c .laid-at .ensures)
+    c .laid-at .ensures
+    ∙ ap rowOf
+    (laid-once (ready (f .before)) _ _ (f .before .placed-plainly .ensures) (f .pass-over .ensures) _ _ _ refl (p .placed-by .ensures)
+    _ _ (sym (i .as-measured .ensures) ∙ t .if1 .taken) (n .chars-to .ensures) refl)
 
 pass-over-requires-2 : tie.Need-pass-over-requires-2
 pass-over-requires-2 c κs =
@@ -89,8 +92,10 @@ returns-2 c =
     let d = n .before .before in
     let p = d .before .before .before .before in
     let f = p .before .before .before in
-    laid-twice (ready (f .before)) _ _ (f .before .placed-plainly .ensures) (f .pass-over .ensures) _ _ _ refl (p .placed-by .ensures)
-    _ _ _ (d .pass-over2 .ensures) (n .chars-to2 .ensures) (c .laid-at2 .ensures)
+    c .laid-at2 .ensures
+    ∙ ap rowOf
+    (laid-twice (ready (f .before)) _ _ (f .before .placed-plainly .ensures) (f .pass-over .ensures) _ _ _ refl (p .placed-by .ensures)
+    _ _ _ (d .pass-over2 .ensures) (n .chars-to2 .ensures) refl)
 
 pub lay-twice-spec : {M : Type 1} → statement M
 lay-twice-spec =

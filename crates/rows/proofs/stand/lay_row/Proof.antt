@@ -1,6 +1,6 @@
 -- `rows::stand::lay_row` meets its contract (rule 10).
 -- Assumes nothing.
-use Rattle.rows.specs.Standing.{row-is}
+use Rattle.rows.specs.Standing.{laidRow}
 use borrow.Author.Needs.{needs}
 use Rattle.rows.proofs.stand.lay_row.Statement.{statement}
 use Rattle.rows.proofs.stand.lay_row.Tie as tie
@@ -11,13 +11,9 @@ cast-at c = search needs
 lay-line-requires : tie.Need-lay-line-requires
 lay-line-requires c κs = search needs
 
-is-last-requires : tie.Need-is-last-requires
-is-last-requires c κs = search needs
-
 returns : tie.Need-returns
-returns c =
-    let last = c .before .before .before in
-    row-is _ _ _ _ _ (last .before .before .lay-line .ensures) (last .is-last .ensures)
+unfolding laidRow
+returns c = c .lay-line .ensures
 
 pub lay-row-spec : {M : Type 1} → statement M
-lay-row-spec = tie.close (tie.spec cast-at lay-line-requires is-last-requires returns)
+lay-row-spec = tie.close (tie.spec cast-at lay-line-requires returns)

@@ -1,11 +1,9 @@
 -- `table::skipping::line_is_plain` meets its contract (refusal 5).
 -- Assumes nothing.
-use mathlib.Core.Path.{sym, _∙_}
-use borrow.Author.Tests.{not-false, ltb-true}
-use Rattle.basis.specs.Choice.{and-true}
-use lib.Dec.{leb, ltb}
-use lib.ListN.{getD}
 use Prim.Native.Nat.{_+_}
+use mathlib.Core.Path.{sym, _∙_}
+use borrow.Author.Tests.{eq-eqb, not-false}
+use lib.ListN.{getD}
 use Rattle.table.proofs.SkipTurns.{not-good, plain-line, breaks-good, below-good}
 use borrow.Author.Needs.{needs}
 use Rattle.table.proofs.skipping.line_is_plain.Statement.{statement}
@@ -62,23 +60,14 @@ count-fits-requires c κs = search needs
 returns-2 : tie.Need-returns-2
 returns-2 c = not-good
 
-add-end : tie.Need-add-end
-add-end c = search needs
+add-reach : tie.Need-add-reach
+add-reach c = search needs
 
-mul-end : tie.Need-mul-end
-mul-end c = search needs
+mul-reach : tie.Need-mul-reach
+mul-reach c = search needs
 
-shared-slice-read-end : tie.Need-shared-slice-read-end
-shared-slice-read-end c = search needs
-
-add-count : tie.Need-add-count
-add-count c = search needs
-
-mul-count : tie.Need-mul-count
-mul-count c = search needs
-
-shared-slice-read-count : tie.Need-shared-slice-read-count
-shared-slice-read-count c = search needs
+shared-slice-read-reach : tie.Need-shared-slice-read-reach
+shared-slice-read-reach c = search needs
 
 returns-3 : tie.Need-returns-3
 returns-3 c = not-good
@@ -92,38 +81,72 @@ mul-ending c = search needs
 shared-slice-read-ending : tie.Need-shared-slice-read-ending
 shared-slice-read-ending c = search needs
 
-add-reach : tie.Need-add-reach
-add-reach c = search needs
+add-none : tie.Need-add-none
+add-none c = search needs
 
-mul-reach : tie.Need-mul-reach
-mul-reach c = search needs
+mul-none : tie.Need-mul-none
+mul-none c = search needs
 
-shared-slice-read-reach : tie.Need-shared-slice-read-reach
-shared-slice-read-reach c = search needs
+shared-slice-read-none : tie.Need-shared-slice-read-none
+shared-slice-read-none c = search needs
+
+add-none-2 : tie.Need-add-none-2
+add-none-2 c = search needs
+
+mul-none-2 : tie.Need-mul-none-2
+mul-none-2 c = search needs
+
+shared-slice-read-none-2 : tie.Need-shared-slice-read-none-2
+shared-slice-read-none-2 c = search needs
 
 returns-4 : tie.Need-returns-4
 returns-4 c =
-    let n = c .before .before .before in
-    let k = n .before .before .before in
+    let i = c .before .before in
+    let l = i .before .before in
+    let k = l .before .before in
     let f = k .before .before .before .before in
     let s = f .before .before .before .before .before in
-    λ low.
+    λ none.
     plain-line (s .args .table .now) (s .args .at) (s .args .most) (not-false _ (f .if1 .left))
-    (sym (k .before .count-fits .ensures) ∙ not-false _ (k .if2 .left)) (not-false _ (n .if3 .left))
-    (breaks-good (getD (s .args .table .now) (s .args .at + 3) 0) (c .if4 .taken)) low
+    (sym (k .before .count-fits .ensures) ∙ not-false _ (k .if2 .left)) none
+    (breaks-good (getD (s .args .table .now) (s .args .at + 3) 0) (i .if4 .taken)) (l .if3 .left)
 
 returns-5 : tie.Need-returns-5
-returns-5 c =
-    let n = c .before .before .before in
-    let k = n .before .before .before in
+returns-5 c = not-good
+
+add-end : tie.Need-add-end
+add-end c = search needs
+
+mul-end : tie.Need-mul-end
+mul-end c = search needs
+
+shared-slice-read-end : tie.Need-shared-slice-read-end
+shared-slice-read-end c = search needs
+
+returns-6 : tie.Need-returns-6
+returns-6 c = not-good
+
+add-count : tie.Need-add-count
+add-count c = search needs
+
+mul-count : tie.Need-mul-count
+mul-count c = search needs
+
+shared-slice-read-count : tie.Need-shared-slice-read-count
+shared-slice-read-count c = search needs
+
+returns-7 : tie.Need-returns-7
+returns-7 c =
+    let n = c .before in
+    let i = n .before .before in
+    let l = i .before .before .before in
+    let k = l .before .before in
     let f = k .before .before .before .before in
     let s = f .before .before .before .before .before in
-    λ e.
-    let ending = getD (s .args .table .now) (s .args .at + 3) 0 in
-    let both = and-true (ltb ending 2) (leb (getD (s .args .table .now) (s .args .at + 9) 0) (s .args .most)) e in
+    λ none.
     plain-line (s .args .table .now) (s .args .at) (s .args .most) (not-false _ (f .if1 .left))
-    (sym (k .before .count-fits .ensures) ∙ not-false _ (k .if2 .left)) (not-false _ (n .if3 .left))
-    (below-good ending (ltb-true ending 2 (both .0))) (both .1)
+    (sym (k .before .count-fits .ensures) ∙ not-false _ (k .if2 .left)) (rw (eq-eqb _ _ (n .if6 .left), none))
+    (below-good (getD (s .args .table .now) (s .args .at + 3) 0) (i .if5 .left)) (l .if3 .left)
 
 pub line-is-plain-spec : {M : Type 1} → statement M
 line-is-plain-spec =
@@ -146,18 +169,26 @@ line-is-plain-spec =
     shared-slice-read-chars
     count-fits-requires
     returns-2
-    add-end
-    mul-end
-    shared-slice-read-end
-    add-count
-    mul-count
-    shared-slice-read-count
+    add-reach
+    mul-reach
+    shared-slice-read-reach
     returns-3
     add-ending
     mul-ending
     shared-slice-read-ending
-    add-reach
-    mul-reach
-    shared-slice-read-reach
+    add-none
+    mul-none
+    shared-slice-read-none
+    add-none-2
+    mul-none-2
+    shared-slice-read-none-2
     returns-4
-    returns-5)
+    returns-5
+    add-end
+    mul-end
+    shared-slice-read-end
+    returns-6
+    add-count
+    mul-count
+    shared-slice-read-count
+    returns-7)
