@@ -18,7 +18,7 @@ use Rattle.laws.specs.LinesTake.{chars-within}
 use Rattle.laws.specs.TokenLaws.{length-size}
 use Rattle.steps.specs.Unrolled.{nothingResumed}
 use Rattle.steps.specs.declared.step.Resumed.{Resumed}
-use Rattle.edits.specs.PartChars.{part-size}
+use Rattle.laws.specs.PartChars.{part-size}
 use Rattle.edits.specs.RestFits.{restEnd, fits-ends}
 use Rattle.again.specs.HeldRest.{resumedOf}
 

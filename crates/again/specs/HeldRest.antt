@@ -22,7 +22,7 @@ use Rattle.steps.specs.Running.{none-fits}
 use Rattle.placing.specs.LineFrom.{heldIn}
 use Rattle.steps.specs.Pending.{RestFits}
 use Rattle.steps.specs.declared.step.Resumed.{Resumed}
-use Rattle.edits.specs.PartChars.{cut-size}
+use Rattle.laws.specs.PartChars.{cut-size}
 use Rattle.edits.specs.RestFits.{restEnd}
 
 unfoldable pub resumedOf : Entry → List ℕ → Resumed

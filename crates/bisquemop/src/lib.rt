@@ -4,23 +4,33 @@ use checks::refusals::checked_number;
 use checks::refusals::checked_value;
 use checks::settings::check_settings;
 use checks::text::check_text;
+use frames::frame::one_line;
+use frames::opening::open_text;
 use heights::height::line_y;
 use heights::height::text_height;
 use layout::drawn::layout_with_events;
 use layout::fresh::layout;
+use meaning::counts::Chars;
 use meaning::counts::Offset;
 use meaning::counts::Pixels;
 use meaning::edit::Edit;
+use meaning::line::Rest;
 use meaning::settings::Settings;
 use replies::affected_number;
 use replies::affected_value;
 use replies::drawing_count;
 use replies::drawing_number;
 use replies::drawing_value;
+use replies::frame_number;
+use replies::frame_rest_count;
+use replies::frame_rest_end;
+use replies::frame_value;
 use replies::height_number;
 use replies::height_value;
 use replies::layout_number;
 use replies::layout_value;
+use replies::open_number;
+use replies::open_value;
 use replies::put_y;
 use replies::relay_count;
 use replies::relay_number;
@@ -35,9 +45,9 @@ ghost use mathlib.Core.Path.{_≡_};
 ghost use Rattle.meaning.specs.Settings.{settingsOf};
 ghost use Rattle.meaning.specs.Refusals.{checkedNumber, checkedValue};
 ghost use Rattle.meaning.specs.Checks.{checkSettings, checkText};
-ghost use Rattle.meaning.specs.Answers.{tokensNumber, tokensValue, layoutNumber, layoutValue, drawingNumber, drawingValue, drawingCount, affectedNumber, affectedValue, relayNumber, relayValue, relayCount, heightNumber, heightValue, yNumber, yValue, yPlace};
-ghost use Rattle.meaning.specs.Calls.{tokensAnswer, tokensBuffer, layoutAnswer, layoutTable, drawingAnswer, drawingTable, drawingEvents, affectedAnswer, relayAnswer, relayTable, heightAnswer, yAnswer};
-ghost use Rattle.bisquemop.specs.Edits.{editOf};
+ghost use Rattle.meaning.specs.Answers.{tokensNumber, tokensValue, layoutNumber, layoutValue, drawingNumber, drawingValue, drawingCount, openNumber, openValue, frameNumber, frameValue, frameRestEnd, frameRestCount, affectedNumber, affectedValue, relayNumber, relayValue, relayCount, heightNumber, heightValue, yNumber, yValue, yPlace};
+ghost use Rattle.meaning.specs.Calls.{tokensAnswer, tokensBuffer, layoutAnswer, layoutTable, drawingAnswer, drawingTable, drawingEvents, openAnswer, frameAnswer, frameEntry, affectedAnswer, relayAnswer, relayTable, heightAnswer, yAnswer};
+ghost use Rattle.bisquemop.specs.Edits.{editOf, restFrom};
 
 // The settings from the thirteen numbers that C passes.
 fn settings_from(
@@ -224,6 +234,103 @@ pub extern "C" fn bisquemop_layout_events(
     *value = drawing_value(answer);
     *count = drawing_count(answer, *count);
     drawing_number(answer)
+}
+
+#[no_mangle]
+pub extern "C" fn bisquemop_open(
+    glyph: u32,
+    width: u32,
+    tab: u32,
+    spacing: u32,
+    paragraph: u32,
+    base: u32,
+    height: u32,
+    top: i32,
+    alignment: u32,
+    vertical: u32,
+    leading: u32,
+    trailing: u32,
+    wrap: u32,
+    text: &[u8],
+    value: &mut u64,
+) -> u32
+    ensures { λ r. ⌜ r ≡ openNumber (openAnswer (settingsOf glyph width tab spacing paragraph base height top alignment vertical leading trailing wrap) (now (text .entry))) ⌝ }
+    ensures { λ r. ⌜ now (value .exit) ≡ openValue (openAnswer (settingsOf glyph width tab spacing paragraph base height top alignment vertical leading trailing wrap) (now (text .entry))) ⌝ }
+{
+    let s = settings_from(
+        glyph,
+        width,
+        tab,
+        spacing,
+        paragraph,
+        base,
+        height,
+        top,
+        alignment,
+        vertical,
+        leading,
+        trailing,
+        wrap,
+    );
+    let answer = open_text(s, text);
+    *value = open_value(answer);
+    open_number(answer)
+}
+
+#[no_mangle]
+pub extern "C" fn bisquemop_one_line(
+    glyph: u32,
+    width: u32,
+    tab: u32,
+    spacing: u32,
+    paragraph: u32,
+    base: u32,
+    height: u32,
+    top: i32,
+    alignment: u32,
+    vertical: u32,
+    leading: u32,
+    trailing: u32,
+    wrap: u32,
+    text: &[u8],
+    start: u32,
+    end: u32,
+    count: u32,
+    entry: &mut [u32],
+    value: &mut u64,
+    stops: &mut u32,
+    counts: &mut u32,
+) -> u32
+    ensures { λ r. ⌜ r ≡ frameNumber (frameAnswer (settingsOf glyph width tab spacing paragraph base height top alignment vertical leading trailing wrap) (now (text .entry)) start (restFrom end count) (now (entry .entry))) ⌝ }
+    ensures { λ r. ⌜ now (entry .exit) ≡ frameEntry (settingsOf glyph width tab spacing paragraph base height top alignment vertical leading trailing wrap) (now (text .entry)) start (restFrom end count) (now (entry .entry)) ⌝ }
+    ensures { λ r. ⌜ now (value .exit) ≡ frameValue (frameAnswer (settingsOf glyph width tab spacing paragraph base height top alignment vertical leading trailing wrap) (now (text .entry)) start (restFrom end count) (now (entry .entry))) ⌝ }
+    ensures { λ r. ⌜ now (stops .exit) ≡ frameRestEnd (frameAnswer (settingsOf glyph width tab spacing paragraph base height top alignment vertical leading trailing wrap) (now (text .entry)) start (restFrom end count) (now (entry .entry))) (now (stops .entry)) ⌝ }
+    ensures { λ r. ⌜ now (counts .exit) ≡ frameRestCount (frameAnswer (settingsOf glyph width tab spacing paragraph base height top alignment vertical leading trailing wrap) (now (text .entry)) start (restFrom end count) (now (entry .entry))) (now (counts .entry)) ⌝ }
+{
+    let s = settings_from(
+        glyph,
+        width,
+        tab,
+        spacing,
+        paragraph,
+        base,
+        height,
+        top,
+        alignment,
+        vertical,
+        leading,
+        trailing,
+        wrap,
+    );
+    let rest = Rest {
+        end: Offset(end),
+        count: Chars(count),
+    };
+    let answer = one_line(s, text, start, rest, entry);
+    *value = frame_value(answer);
+    *stops = frame_rest_end(answer, *stops);
+    *counts = frame_rest_count(answer, *counts);
+    frame_number(answer)
 }
 
 #[no_mangle]

@@ -17,7 +17,7 @@ use Rattle.meaning.specs.declared.refusals.Refusal.{Refusal}
 use Rattle.meaning.specs.declared.refusals.Refusal.the-variants.{BadEdit}
 use Rattle.meaning.specs.declared.refusals.Checked.{Checked}
 use Rattle.meaning.specs.declared.refusals.Checked.the-variants.{Good, Refused}
-use Rattle.edits.specs.PartChars.{part-boundary}
+use Rattle.laws.specs.PartChars.{part-boundary}
 use Rattle.edits.specs.Checking.{wholeOf, whole-is, endsFit, lengthFits, part-fits, checkFirst, bad-edit, good-edit}
 
 -- ---- by the table's check

@@ -12,7 +12,7 @@ use Rattle.meaning.specs.WellFormed.{noRest}
 use Rattle.meaning.specs.Edit.{charsIn, restFits}
 use Rattle.meaning.specs.declared.line.Entry.{Entry}
 use Rattle.meaning.specs.declared.refusals.Checked.the-variants.{Good}
-use Rattle.edits.specs.PartChars.{part-boundary}
+use Rattle.laws.specs.PartChars.{part-boundary}
 use Rattle.edits.specs.RestFits.{restEnd, fits-not, fits-by}
 
 module _ (t : List ℕ) (e : Entry) where

@@ -22,15 +22,15 @@ abbrev pub CountsBefore : List ℕ → Entry → Type 0
 CountsBefore text e = charsIn text (e .start .0) ≡ e .before .0
 
 -- What stands before a place in a text, by its bytes and by its characters.
-record Front (text : List ℕ) (start before : ℕ) (cs : List ℕ) : Type 0 where
-  front : List ℕ
-  is : text ≡ front ++ cs
-  at : start ≡ size front
-  counted : before ≡ length front
+pub record Front (text : List ℕ) (start before : ℕ) (cs : List ℕ) : Type 0 where
+  pub front : List ℕ
+  pub is : text ≡ front ++ cs
+  pub at : start ≡ size front
+  pub counted : before ≡ length front
 
 module _ (s : Settings) (text : List ℕ) where
   -- A line further on, whose characters are all of the text.
-  next-front : (start before : ℕ) (h : Held) (cs : List ℕ) → FitsIn cs h → Front text start before cs
+  pub next-front : (start before : ℕ) (h : Held) (cs : List ℕ) → FitsIn cs h → Front text start before cs
       → Front text (start + size (take (layLine s h cs .chars) cs)) (before + layLine s h cs .chars) (drop (layLine s h cs .chars) cs)
   next-front start before h cs f p =
       let k = layLine s h cs .chars in
@@ -41,7 +41,7 @@ module _ (s : Settings) (text : List ℕ) where
         counted = rw length-append (omega (arith, p .counted, length-take k cs, line-chars s h cs (f .0) (f .1)));
       }
 
-  count-here : (start before : ℕ) (cs : List ℕ) → Front text start before cs → charsIn text start ≡ before
+  pub count-here : (start before : ℕ) (cs : List ℕ) → Front text start before cs → charsIn text start ≡ before
   count-here start before cs p = rw (p .is, p .at, p .counted) (chars-in-front (p .front) cs)
 
   counts-by : (n start before : ℕ) (h : Held) (cs : List ℕ) → FitsIn cs h → Front text start before cs

@@ -1,6 +1,9 @@
 pub mod Affected
 pub mod Agree
 pub mod CharsBefore
+pub mod FirstLines
+pub mod PartChars
+pub mod Between
 pub mod Classes
 pub mod Cuts
 pub mod Demand3

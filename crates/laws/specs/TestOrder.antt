@@ -1,7 +1,7 @@
 -- Tests that are made one after the other (`firstOf`): one refuses, or what follows decides.
 -- Assumes nothing.
 use mathlib.Core.Path.{_≡_, refl}
-use mathlib.Core.List.{List, [], _∷_}
+use mathlib.Core.List.{List, [], _∷_, _++_}
 use Rattle.meaning.specs.Checks.{firstOf}
 use Rattle.meaning.specs.declared.refusals.Refusal.{Refusal}
 use Rattle.meaning.specs.declared.refusals.Checked.{Checked}
@@ -26,3 +26,16 @@ unfolding firstOf
 first-good Good Good more e = refl
 first-good Good (Refused q) more e = cc
 first-good (Refused q) b more e = cc
+
+-- The same of any tests before others.
+pub before-refused : (xs more : List Checked) (r : Refusal) → firstOf xs ≡ Refused r → firstOf (xs ++ more) ≡ Refused r
+unfolding firstOf
+before-refused [] more r e = cc
+before-refused (Good ∷ xs) more r e = before-refused xs more r e
+before-refused (Refused q ∷ xs) more r e = e
+
+pub before-good : (xs more : List Checked) → firstOf xs ≡ Good → firstOf (xs ++ more) ≡ firstOf more
+unfolding firstOf
+before-good [] more e = refl
+before-good (Good ∷ xs) more e = before-good xs more e
+before-good (Refused q ∷ xs) more e = cc

@@ -10,6 +10,10 @@ use Rattle.meaning.specs.declared.answers.Laid.{Laid}
 use Rattle.meaning.specs.declared.answers.Laid.the-variants as laid
 use Rattle.meaning.specs.declared.answers.LaidWithEvents.{LaidWithEvents}
 use Rattle.meaning.specs.declared.answers.LaidWithEvents.the-variants as drawing
+use Rattle.meaning.specs.declared.answers.Opened.{Opened}
+use Rattle.meaning.specs.declared.answers.Opened.the-variants as opened
+use Rattle.meaning.specs.declared.answers.Framed.{Framed}
+use Rattle.meaning.specs.declared.answers.Framed.the-variants as framed
 use Rattle.meaning.specs.declared.answers.Affected.{Affected}
 use Rattle.meaning.specs.declared.answers.Affected.the-variants as affecting
 use Rattle.meaning.specs.declared.answers.Relaid.{Relaid}
@@ -47,6 +51,31 @@ drawingValue (drawing.Refused r) = besides r
 abbrev pub drawingCount : LaidWithEvents → (old : ℕ) → ℕ
 drawingCount (drawing.Lines n m) old = m
 drawingCount (drawing.Refused r) old = old
+
+abbrev pub openNumber : Opened → ℕ
+openNumber (opened.At n) = 0
+openNumber (opened.Refused r) = numberOf r
+
+abbrev pub openValue : Opened → ℕ
+openValue (opened.At n) = n
+openValue (opened.Refused r) = besides r
+
+abbrev pub frameNumber : Framed → ℕ
+frameNumber (framed.Line n r) = 0
+frameNumber (framed.Refused r) = numberOf r
+
+abbrev pub frameValue : Framed → ℕ
+frameValue (framed.Line n r) = n .0
+frameValue (framed.Refused r) = besides r
+
+-- The next line's rest is written only where the call was done.
+abbrev pub frameRestEnd : Framed → (old : ℕ) → ℕ
+frameRestEnd (framed.Line n r) old = r .end .0
+frameRestEnd (framed.Refused r) old = old
+
+abbrev pub frameRestCount : Framed → (old : ℕ) → ℕ
+frameRestCount (framed.Line n r) old = r .count .0
+frameRestCount (framed.Refused r) old = old
 
 abbrev pub affectedNumber : Affected → ℕ
 affectedNumber (affecting.Line k) = 0

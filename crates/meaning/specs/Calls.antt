@@ -3,23 +3,27 @@
 -- Refusal 1, refusal 2, refusal 3, refusal 4, refusal 5, refusal 6, refusal 8, laying again.
 -- Assumes nothing.
 use Prim.Native.Nat.{ℕ}
+use mathlib.Core.Bool.{not}
 use mathlib.Core.List.{List, [], _∷_, map}
 use lib.Dec.{ltb}
 use lib.ListN.{length}
 use Rattle.basis.specs.Choice.{pick}
 use Rattle.unicode.specs.Decoding.{decodeAll}
-use Rattle.meaning.specs.Checks.{firstOf, answered, afterwards, checkSettings, checkLength, checkUtf8, checkRoom}
+use Rattle.meaning.specs.Checks.{refuseIf, firstOf, answered, afterwards, checkSettings, checkLength, checkUtf8, checkRoom}
 use Rattle.meaning.specs.Tokens.{tokens, ranged}
 use Rattle.meaning.specs.Layout.{Row, rows, entryOfRow, allEvents}
 use Rattle.meaning.specs.Table.{entryNumbers, eventNumbers, tokenNumbers, ofEntry, ofEvent, ofToken, ofAll, capacityOf, written, entriesIn}
 use Rattle.meaning.specs.WellFormed.{checkTable}
 use Rattle.meaning.specs.Edit.{unaffected, affected, checkWhole, checkRest, checkOrder, checkEdit, again, linesAgain}
+use Rattle.meaning.specs.Frames.{standGood, oneLine}
 use Rattle.meaning.specs.Height.{heightOf, yOf, showsAt}
 use Rattle.meaning.specs.declared.settings.Settings.{Settings}
 use Rattle.meaning.specs.declared.tokens.Token.{Token}
 use Rattle.meaning.specs.declared.edit.Edit.{Edit}
+use Rattle.meaning.specs.declared.line.Rest.{Rest}
 use Rattle.meaning.specs.declared.line.Entry.{Entry}
 use Rattle.meaning.specs.declared.line.Event.{Event}
+use Rattle.meaning.specs.declared.refusals.Refusal.the-variants.{BadLine}
 use Rattle.meaning.specs.declared.refusals.Checked.{Checked}
 use Rattle.meaning.specs.declared.refusals.Checked.the-variants.{Good, Refused}
 use Rattle.meaning.specs.declared.answers.Tokenized.{Tokenized}
@@ -28,6 +32,10 @@ use Rattle.meaning.specs.declared.answers.Laid.{Laid}
 use Rattle.meaning.specs.declared.answers.Laid.the-variants as laid
 use Rattle.meaning.specs.declared.answers.LaidWithEvents.{LaidWithEvents}
 use Rattle.meaning.specs.declared.answers.LaidWithEvents.the-variants as drawing
+use Rattle.meaning.specs.declared.answers.Opened.{Opened}
+use Rattle.meaning.specs.declared.answers.Opened.the-variants as opened
+use Rattle.meaning.specs.declared.answers.Framed.{Framed}
+use Rattle.meaning.specs.declared.answers.Framed.the-variants as framed
 use Rattle.meaning.specs.declared.answers.Affected.{Affected}
 use Rattle.meaning.specs.declared.answers.Affected.the-variants as affecting
 use Rattle.meaning.specs.declared.answers.Relaid.{Relaid}
@@ -89,6 +97,32 @@ drawingTable s t table events = afterwards (checkDrawing s t table events) (writ
 
 unfoldable pub drawingEvents : Settings → List ℕ → (table events : List ℕ) → List ℕ
 drawingEvents s t table events = afterwards (checkDrawing s t table events) (written events (ofAll ofEvent (textEvents s t))) events
+
+-- ---- a line for each frame: the opening, and one line at a start
+
+unfoldable pub checkOpen : Settings → List ℕ → Checked
+checkOpen s t = firstOf (checkSettings s ∷ checkLength (length t) ∷ checkUtf8 t ∷ [])
+
+unfoldable pub openAnswer : Settings → List ℕ → Opened
+openAnswer s t = answered (checkOpen s t) (opened.At 0) opened.Refused
+
+-- 5, with line 0: a start or a rest that a line cannot have.
+unfoldable pub checkStand : List ℕ → (start : ℕ) → Rest → Checked
+checkStand t start r = refuseIf (not (standGood (decodeAll t) start r)) (BadLine 0)
+
+unfoldable pub checkFrame : Settings → List ℕ → (start : ℕ) → Rest → (entry : List ℕ) → Checked
+checkFrame s t start r entry =
+    firstOf
+    (checkSettings s ∷ checkLength (length t) ∷ checkUtf8 t ∷ checkStand t start r ∷ checkRoom (capacityOf entryNumbers entry) 1 ∷ [])
+
+unfoldable pub frameAnswer : Settings → List ℕ → (start : ℕ) → Rest → (entry : List ℕ) → Framed
+frameAnswer s t start r entry =
+    let o = oneLine s (decodeAll t) start r in
+    answered (checkFrame s t start r entry) (framed.Line (record { 0 = o .next }) (o .rest)) framed.Refused
+
+unfoldable pub frameEntry : Settings → List ℕ → (start : ℕ) → Rest → (entry : List ℕ) → List ℕ
+frameEntry s t start r entry =
+    afterwards (checkFrame s t start r entry) (written entry (ofEntry (oneLine s (decodeAll t) start r .entry))) entry
 
 -- ---- the first affected line, from a table of so many lines and an edit: 3, 5, 6
 

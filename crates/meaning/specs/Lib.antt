@@ -14,10 +14,12 @@ pub mod Layout
 pub mod Table
 pub mod WellFormed
 pub mod Edit
+pub mod Frames
 pub mod Height
 pub mod Calls
 pub mod Answers
 pub mod Examples
 pub mod EditExamples
+pub mod FrameExamples
 pub mod SmallExamples
 pub mod StarredExamples

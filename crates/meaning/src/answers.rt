@@ -1,4 +1,6 @@
 // What each public call answers. specs/Answers.antt gives the scope's number and values of each case.
+use crate::counts::Offset;
+use crate::line::Rest;
 use crate::refusals::Refusal;
 
 // How many tokens were written.
@@ -28,6 +30,18 @@ pub enum Affected {
 // How many lines the table now holds, and how many of them were laid.
 pub enum Relaid {
     Lines(u64, u64),
+    Refused(Refusal),
+}
+
+// A text that can be laid line by line, and where its first line starts.
+pub enum Opened {
+    At(u64),
+    Refused(Refusal),
+}
+
+// One line was laid: where the next one starts, and what that one resumes.
+pub enum Framed {
+    Line(Offset, Rest),
     Refused(Refusal),
 }
 

@@ -114,7 +114,7 @@ passed-stretch s t at r p =
 
 -- ---- the line
 
-rest-in : (t : List ℕ) (at : ℕ) (r : Resumed) → RestFits t at r → restOf at (heldIn r) (charsFrom t at) ≡ restIn r
+pub rest-in : (t : List ℕ) (at : ℕ) (r : Resumed) → RestFits t at r → restOf at (heldIn r) (charsFrom t at) ≡ restIn r
 unfolding restOf restIn pick
 rest-in t at r f =
     by-eq (r .chars .0) 0 (λ e. rw (eq-eqb (r .chars .0) 0 e)) (λ d. rw (ne-eqb (r .chars .0) 0 d, ← (f .ends d)))

@@ -26,7 +26,7 @@ fn end_number(e: LineEnd) -> u32
 }
 
 // What an entry says of the rest that its line resumes.
-fn rest_in(r: Resumed) -> Rest
+pub fn rest_in(r: Resumed) -> Rest
     ensures { λ o. ⌜ o ≡ restIn r ⌝ }
 {
     if r.chars.0 == 0 {

@@ -7,14 +7,16 @@ use lib.IntN.{ℤ}
 use contract.Lifetimes.{Lfts}
 use Rattle.meaning.specs.declared.settings.Settings.{Settings}
 use Rattle.meaning.specs.declared.edit.Edit.{Edit}
+use Rattle.meaning.specs.declared.line.Rest.{Rest}
 use Rattle.meaning.specs.declared.answers.Tokenized.{Tokenized}
 use Rattle.meaning.specs.declared.answers.Laid.{Laid}
 use Rattle.meaning.specs.declared.answers.LaidWithEvents.{LaidWithEvents}
+use Rattle.meaning.specs.declared.answers.Framed.{Framed}
 use Rattle.meaning.specs.declared.answers.Affected.{Affected}
 use Rattle.meaning.specs.declared.answers.Relaid.{Relaid}
 use Rattle.promises.specs.Call.{Meets}
-use Rattle.promises.specs.InsideCalls.{tokenize, layout, layout-with-events, first-affected, lay-again}
-use Rattle.promises.specs.ForCCalls.{c-tokens, c-layout, c-layout-events, c-first-affected, c-lay-again, c-line-y}
+use Rattle.promises.specs.InsideCalls.{tokenize, layout, layout-with-events, one-line, first-affected, lay-again}
+use Rattle.promises.specs.ForCCalls.{c-tokens, c-layout, c-layout-events, c-one-line, c-first-affected, c-lay-again, c-line-y}
 use Rattle.promises.specs.Passed.{Lent, LentNumber, LentSigned, passed, passedEdit, noneLeft, noEditLeft}
 
 -- ---- the calls in Rattle
@@ -28,6 +30,9 @@ Layout κs s text table z after = Meets layout κs (s, (text, (table, tt))) z (t
 abbrev pub LayoutWithEvents : (κs : Lfts 3) → Settings → (text table events : Lent) → LaidWithEvents → (after drawn : List ℕ) → Type 0
 LayoutWithEvents κs s text table events z after drawn =
     Meets layout-with-events κs (s, (text, (table, (events, tt)))) z (tt, (tt, (after, (drawn, tt))))
+
+abbrev pub OneLine : (κs : Lfts 2) → Settings → (text : Lent) → (start : ℕ) → Rest → (entry : Lent) → Framed → (after : List ℕ) → Type 0
+OneLine κs s text start r entry z after = Meets one-line κs (s, (text, (start, (r, (entry, tt))))) z (tt, (tt, (tt, (tt, (after, tt)))))
 
 abbrev pub FirstAffected : (κs : Lfts 1) → (table : Lent) → (lines : ℕ) → Edit → Affected → Type 0
 FirstAffected κs table lines ed z = Meets first-affected κs (table, (lines, (ed, tt))) z (tt, (tt, (tt, tt)))
@@ -50,6 +55,12 @@ abbrev pub CLayoutEvents : (κs : Lfts 5) → Settings → (text table events : 
 CLayoutEvents κs s text table events value count z after drawn value′ count′ =
     Meets c-layout-events κs (passed s (text, (table, (events, (value, (count, tt)))))) z
     (noneLeft (tt, (after, (drawn, (value′, (count′, tt))))))
+
+abbrev pub COneLine : (κs : Lfts 5) → Settings → (text : Lent) → (start end count : ℕ) → (entry : Lent) (value : LentNumber) (stops counts : LentNumber)
+    (z : ℕ) (after : List ℕ) (value′ stops′ counts′ : ℕ) → Type 0
+COneLine κs s text start end count entry value stops counts z after value′ stops′ counts′ =
+    Meets c-one-line κs (passed s (text, (start, (end, (count, (entry, (value, (stops, (counts, tt))))))))) z
+    (noneLeft (tt, (tt, (tt, (tt, (after, (value′, (stops′, (counts′, tt)))))))))
 
 abbrev pub CFirstAffected : (κs : Lfts 2) → (table : Lent) → (lines : ℕ) → Edit → (value : LentNumber) (z value′ : ℕ) → Type 0
 CFirstAffected κs table lines ed value z value′ =

@@ -3,7 +3,7 @@
 -- Assumes nothing.
 use Rattle.promises.specs.Call.{AsksNothing, Agrees, agree}
 use Rattle.promises.specs.Passed.{noneLeft}
-use Rattle.promises.specs.ForCCalls.{c-check-settings, c-check-text, c-tokens, c-layout, c-layout-events, c-first-affected, c-lay-again, c-height, c-line-y}
+use Rattle.promises.specs.ForCCalls.{c-check-settings, c-check-text, c-tokens, c-layout, c-layout-events, c-open, c-one-line, c-first-affected, c-lay-again, c-height, c-line-y}
 
 -- None of them has a `requires`.
 pub for-c-asks-nothing : AsksNothing c-check-settings
@@ -11,11 +11,13 @@ pub for-c-asks-nothing : AsksNothing c-check-settings
     × AsksNothing c-tokens
     × AsksNothing c-layout
     × AsksNothing c-layout-events
+    × AsksNothing c-open
+    × AsksNothing c-one-line
     × AsksNothing c-first-affected
     × AsksNothing c-lay-again
     × AsksNothing c-height
     × AsksNothing c-line-y
-for-c-asks-nothing = (λ κs a. tt, λ κs a. tt, λ κs a. tt, λ κs a. tt, λ κs a. tt, λ κs a. tt, λ κs a. tt, λ κs a. tt, λ κs a. tt)
+for-c-asks-nothing = (λ κs a. tt, λ κs a. tt, λ κs a. tt, λ κs a. tt, λ κs a. tt, λ κs a. tt, λ κs a. tt, λ κs a. tt, λ κs a. tt, λ κs a. tt, λ κs a. tt)
 
 pub c-check-settings-agrees : Agrees c-check-settings
 c-check-settings-agrees κs a z z′ ws ws′ p q = (agree (p .0) (q .0), λ i. noneLeft (agree (p .1) (q .1) i, tt))
@@ -36,6 +38,18 @@ pub c-layout-events-agrees : Agrees c-layout-events
 c-layout-events-agrees κs a z z′ ws ws′ p q = (
   agree (p .0) (q .0),
   λ i. noneLeft (tt, (agree (p .1 .0) (q .1 .0) i, (agree (p .1 .1 .0) (q .1 .1 .0) i, (agree (p .1 .1 .1 .0) (q .1 .1 .1 .0) i, (agree (p .1 .1 .1 .1) (q .1 .1 .1 .1) i, tt))))),
+)
+
+pub c-open-agrees : Agrees c-open
+c-open-agrees κs a z z′ ws ws′ p q = (agree (p .0) (q .0), λ i. noneLeft (tt, (agree (p .1) (q .1) i, tt)))
+
+pub c-one-line-agrees : Agrees c-one-line
+c-one-line-agrees κs a z z′ ws ws′ p q = (
+  agree (p .0) (q .0),
+  λ i.
+      noneLeft
+      (tt, (tt, (tt, (tt, (agree (p .1 .0) (q .1 .0) i,
+      (agree (p .1 .1 .0) (q .1 .1 .0) i, (agree (p .1 .1 .1 .0) (q .1 .1 .1 .0) i, (agree (p .1 .1 .1 .1) (q .1 .1 .1 .1) i, tt)))))))),
 )
 
 pub c-first-affected-agrees : Agrees c-first-affected

@@ -11,6 +11,10 @@ use Rattle.bisquemop.proofs.bisquemop_layout.Kinds as c-layout-kinds
 use Rattle.bisquemop.proofs.bisquemop_layout.Reads as c-layout-reads
 use Rattle.bisquemop.proofs.bisquemop_layout_events.Kinds as c-layout-events-kinds
 use Rattle.bisquemop.proofs.bisquemop_layout_events.Reads as c-layout-events-reads
+use Rattle.bisquemop.proofs.bisquemop_open.Kinds as c-open-kinds
+use Rattle.bisquemop.proofs.bisquemop_open.Reads as c-open-reads
+use Rattle.bisquemop.proofs.bisquemop_one_line.Kinds as c-one-line-kinds
+use Rattle.bisquemop.proofs.bisquemop_one_line.Reads as c-one-line-reads
 use Rattle.bisquemop.proofs.bisquemop_first_affected.Kinds as c-first-affected-kinds
 use Rattle.bisquemop.proofs.bisquemop_first_affected.Reads as c-first-affected-reads
 use Rattle.bisquemop.proofs.bisquemop_lay_again.Kinds as c-lay-again-kinds
@@ -39,6 +43,14 @@ c-layout = callOf 3 c-layout-kinds.ps c-layout-kinds.r c-layout-reads.Asked c-la
 -- bisquemop_layout_events
 abbrev pub c-layout-events : Call
 c-layout-events = callOf 5 c-layout-events-kinds.ps c-layout-events-kinds.r c-layout-events-reads.Asked c-layout-events-reads.Learnt
+
+-- bisquemop_open
+abbrev pub c-open : Call
+c-open = callOf 2 c-open-kinds.ps c-open-kinds.r c-open-reads.Asked c-open-reads.Learnt
+
+-- bisquemop_one_line
+abbrev pub c-one-line : Call
+c-one-line = callOf 5 c-one-line-kinds.ps c-one-line-kinds.r c-one-line-reads.Asked c-one-line-reads.Learnt
 
 -- bisquemop_first_affected
 abbrev pub c-first-affected : Call

@@ -2,7 +2,7 @@
 -- Assumes nothing.
 use mathlib.Core.Path.{refl}
 use Rattle.promises.specs.Call.{AsksNothing, Agrees, agree}
-use Rattle.promises.specs.InsideCalls.{check-settings, check-text, tokenize, layout, layout-with-events, first-affected, lay-again, text-height, line-y}
+use Rattle.promises.specs.InsideCalls.{check-settings, check-text, tokenize, layout, layout-with-events, open-text, one-line, first-affected, lay-again, text-height, line-y}
 
 -- None of them has a `requires`.
 pub inside-asks-nothing : AsksNothing check-settings
@@ -10,11 +10,13 @@ pub inside-asks-nothing : AsksNothing check-settings
     × AsksNothing tokenize
     × AsksNothing layout
     × AsksNothing layout-with-events
+    × AsksNothing open-text
+    × AsksNothing one-line
     × AsksNothing first-affected
     × AsksNothing lay-again
     × AsksNothing text-height
     × AsksNothing line-y
-inside-asks-nothing = (λ κs a. tt, λ κs a. tt, λ κs a. tt, λ κs a. tt, λ κs a. tt, λ κs a. tt, λ κs a. tt, λ κs a. tt, λ κs a. tt)
+inside-asks-nothing = (λ κs a. tt, λ κs a. tt, λ κs a. tt, λ κs a. tt, λ κs a. tt, λ κs a. tt, λ κs a. tt, λ κs a. tt, λ κs a. tt, λ κs a. tt, λ κs a. tt)
 
 pub check-settings-agrees : Agrees check-settings
 check-settings-agrees κs a z z′ ws ws′ p q = (agree p q, refl)
@@ -33,6 +35,12 @@ layout-with-events-agrees κs a z z′ ws ws′ p q = (
   agree (p .0) (q .0),
   λ i. (tt, (tt, (agree (p .1 .0) (q .1 .0) i, (agree (p .1 .1) (q .1 .1) i, tt)))),
 )
+
+pub open-text-agrees : Agrees open-text
+open-text-agrees κs a z z′ ws ws′ p q = (agree p q, refl)
+
+pub one-line-agrees : Agrees one-line
+one-line-agrees κs a z z′ ws ws′ p q = (agree (p .0) (q .0), λ i. (tt, (tt, (tt, (tt, (agree (p .1) (q .1) i, tt))))))
 
 pub first-affected-agrees : Agrees first-affected
 first-affected-agrees κs a z z′ ws ws′ p q = (agree p q, refl)

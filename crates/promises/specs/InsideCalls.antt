@@ -11,6 +11,10 @@ use Rattle.layout.proofs.fresh.layout.Kinds as layout-kinds
 use Rattle.layout.proofs.fresh.layout.Reads as layout-reads
 use Rattle.layout.proofs.drawn.layout_with_events.Kinds as layout-with-events-kinds
 use Rattle.layout.proofs.drawn.layout_with_events.Reads as layout-with-events-reads
+use Rattle.frames.proofs.opening.open_text.Kinds as open-text-kinds
+use Rattle.frames.proofs.opening.open_text.Reads as open-text-reads
+use Rattle.frames.proofs.frame.one_line.Kinds as one-line-kinds
+use Rattle.frames.proofs.frame.one_line.Reads as one-line-reads
 use Rattle.table.proofs.affected.first_affected.Kinds as first-affected-kinds
 use Rattle.table.proofs.affected.first_affected.Reads as first-affected-reads
 use Rattle.again.proofs.relay.lay_again.Kinds as lay-again-kinds
@@ -39,6 +43,14 @@ layout = callOf 2 layout-kinds.ps layout-kinds.r layout-reads.Asked layout-reads
 -- layout::drawn::layout_with_events
 abbrev pub layout-with-events : Call
 layout-with-events = callOf 3 layout-with-events-kinds.ps layout-with-events-kinds.r layout-with-events-reads.Asked layout-with-events-reads.Learnt
+
+-- frames::opening::open_text
+abbrev pub open-text : Call
+open-text = callOf 1 open-text-kinds.ps open-text-kinds.r open-text-reads.Asked open-text-reads.Learnt
+
+-- frames::frame::one_line
+abbrev pub one-line : Call
+one-line = callOf 2 one-line-kinds.ps one-line-kinds.r one-line-reads.Asked one-line-reads.Learnt
 
 -- table::affected::first_affected
 abbrev pub first-affected : Call

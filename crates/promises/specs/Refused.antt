@@ -8,18 +8,21 @@ use lib.IntN.{ℤ}
 use contract.Lifetimes.{Lfts}
 use denote.Ref.{now}
 use Rattle.meaning.specs.Settings.{settingsOf}
-use Rattle.meaning.specs.Calls.{drawingAnswer, relayAnswer, yAnswer}
-use Rattle.meaning.specs.Answers.{tokensNumber, layoutNumber, drawingNumber, relayNumber}
+use Rattle.meaning.specs.Calls.{drawingAnswer, frameAnswer, relayAnswer, yAnswer}
+use Rattle.meaning.specs.Answers.{tokensNumber, layoutNumber, drawingNumber, frameNumber, relayNumber}
 use Rattle.meaning.specs.declared.settings.Settings.{Settings}
 use Rattle.meaning.specs.declared.edit.Edit.{Edit}
 use Rattle.meaning.specs.declared.refusals.Refusal.{Refusal}
 use Rattle.meaning.specs.declared.answers.Tokenized.the-variants as tokenized
 use Rattle.meaning.specs.declared.answers.Laid.the-variants as laid
 use Rattle.meaning.specs.declared.answers.LaidWithEvents.the-variants as drawing
+use Rattle.meaning.specs.declared.line.Rest.{Rest}
+use Rattle.meaning.specs.declared.answers.Framed.the-variants as framed
 use Rattle.meaning.specs.declared.answers.Relaid.the-variants as relaid
+use Rattle.bisquemop.specs.Edits.{restFrom}
 use Rattle.promises.specs.Passed.{Lent, LentNumber, LentSigned}
-use Rattle.promises.specs.Contracts.{Tokenize, Layout, LayoutWithEvents, LayAgain, CTokens, CLayout, CLayoutEvents, CLayAgain, CLineY}
-use Rattle.promises.specs.Unwritten.{tokens-kept, layout-kept, drawing-kept, relay-kept, drawing-counted, relay-counted, y-kept}
+use Rattle.promises.specs.Contracts.{Tokenize, Layout, LayoutWithEvents, OneLine, LayAgain, CTokens, CLayout, CLayoutEvents, COneLine, CLayAgain, CLineY}
+use Rattle.promises.specs.Unwritten.{tokens-kept, layout-kept, drawing-kept, frame-kept, relay-kept, drawing-counted, frame-rested, relay-counted, y-kept}
 
 -- ---- the calls in Rattle
 
@@ -38,6 +41,11 @@ pub layout-with-events-refused : (κs : Lfts 3) (s : Settings) (text table event
 layout-with-events-refused κs s text table events r after drawn p =
     let k = drawing-kept s (now text) (now table) (now events) (λ n m e. let z : _≡_ {A = ℕ} 0 1 = cc in omega arith) in
     (p .1 .0 ∙ k .0, p .1 .1 ∙ k .1)
+
+pub one-line-refused : (κs : Lfts 2) (s : Settings) (text : Lent) (start : ℕ) (r : Rest) (entry : Lent) (q : Refusal) (after : List ℕ)
+    → OneLine κs s text start r entry (framed.Refused q) after → after ≡ now entry
+one-line-refused κs s text start r entry q after p =
+    p .1 ∙ frame-kept s (now text) start r (now entry) (λ n x e. let z : _≡_ {A = ℕ} 0 1 = cc in omega arith)
 
 pub lay-again-refused : (κs : Lfts 2) (s : Settings) (part table : Lent) (lines : ℕ) (ed : Edit) (r : Refusal) (after : List ℕ)
     → LayAgain κs s part table lines ed (relaid.Refused r) after → after ≡ now table
@@ -65,6 +73,16 @@ c-layout-events-refused κs s text table events value count z after drawn value�
     let k = drawing-kept s (now text) (now table) (now events) (λ n m e. omega (arith, p .0 ∙ ap drawingNumber e)) in
     let c = drawing-counted (drawingAnswer s (now text) (now table) (now events)) (now count) (omega (arith, p .0)) in
     (p .1 .0 ∙ k .0, p .1 .1 .0 ∙ k .1, p .1 .1 .1 .1 ∙ c)
+
+pub c-one-line-refused : (κs : Lfts 5) (s : Settings) (text : Lent) (start end count : ℕ) (entry : Lent) (value stops counts : LentNumber) (z : ℕ)
+    (after : List ℕ) (value′ stops′ counts′ : ℕ) → COneLine κs s text start end count entry value stops counts z after value′ stops′ counts′ → 0 < z
+    → (after ≡ now entry) × (stops′ ≡ now stops) × (counts′ ≡ now counts)
+unfolding settingsOf
+c-one-line-refused κs s text start end count entry value stops counts z after value′ stops′ counts′ p h =
+    let r = restFrom end count in
+    let k = frame-kept s (now text) start r (now entry) (λ n x e. omega (arith, p .0 ∙ ap frameNumber e)) in
+    let c = frame-rested (frameAnswer s (now text) start r (now entry)) (now stops) (now counts) (omega (arith, p .0)) in
+    (p .1 .0 ∙ k, p .1 .1 .1 .0 ∙ c .0, p .1 .1 .1 .1 ∙ c .1)
 
 pub c-lay-again-refused : (κs : Lfts 4) (s : Settings) (part table : Lent) (lines : ℕ) (ed : Edit) (value laid : LentNumber) (z : ℕ)
     (after : List ℕ) (value′ laid′ : ℕ) → CLayAgain κs s part table lines ed value laid z after value′ laid′ → 0 < z

@@ -6,9 +6,9 @@ use mathlib.Core.Path.{_≡_, refl}
 use mathlib.Core.List.{List}
 use lib.IntN.{ℤ}
 use Rattle.meaning.specs.Checks.{answered, afterwards}
-use Rattle.meaning.specs.Calls.{checkTokens, tokensAnswer, tokensBuffer, checkLayout, layoutAnswer, layoutTable, checkDrawing, drawingAnswer, drawingTable, drawingEvents, checkRelay, relayAnswer, relayTable}
+use Rattle.meaning.specs.Calls.{checkTokens, tokensAnswer, tokensBuffer, checkLayout, layoutAnswer, layoutTable, checkDrawing, drawingAnswer, drawingTable, drawingEvents, checkFrame, frameAnswer, frameEntry, checkRelay, relayAnswer, relayTable}
 use Rattle.meaning.specs.Refusals.{numberOf}
-use Rattle.meaning.specs.Answers.{layoutNumber, layoutValue, drawingNumber, drawingCount, relayNumber, relayCount, yNumber, yPlace}
+use Rattle.meaning.specs.Answers.{layoutNumber, layoutValue, drawingNumber, drawingCount, frameNumber, frameRestEnd, frameRestCount, relayNumber, relayCount, yNumber, yPlace}
 use Rattle.meaning.specs.declared.settings.Settings.{Settings}
 use Rattle.meaning.specs.declared.edit.Edit.{Edit}
 use Rattle.meaning.specs.declared.refusals.Refusal.{Refusal}
@@ -20,6 +20,10 @@ use Rattle.meaning.specs.declared.answers.Laid.{Laid}
 use Rattle.meaning.specs.declared.answers.Laid.the-variants as laid
 use Rattle.meaning.specs.declared.answers.LaidWithEvents.{LaidWithEvents}
 use Rattle.meaning.specs.declared.answers.LaidWithEvents.the-variants as drawing
+use Rattle.meaning.specs.declared.counts.Offset.{Offset}
+use Rattle.meaning.specs.declared.line.Rest.{Rest}
+use Rattle.meaning.specs.declared.answers.Framed.{Framed}
+use Rattle.meaning.specs.declared.answers.Framed.the-variants as framed
 use Rattle.meaning.specs.declared.answers.Relaid.{Relaid}
 use Rattle.meaning.specs.declared.answers.Relaid.the-variants as relaid
 use Rattle.meaning.specs.declared.answers.LineY.{LineY}
@@ -43,6 +47,11 @@ pub drawing-kept : (s : Settings) (t b v : List ℕ) → ((n m : ℕ) → drawin
 unfolding drawingAnswer drawingTable drawingEvents
 drawing-kept s t b v d = (kept (checkDrawing s t b v) _ _ _ b (d _ _), kept (checkDrawing s t b v) _ _ _ v (d _ _))
 
+pub frame-kept : (s : Settings) (t : List ℕ) (start : ℕ) (r : Rest) (b : List ℕ)
+    → ((n : Offset) (q : Rest) → frameAnswer s t start r b ≡ framed.Line n q → ⊥) → frameEntry s t start r b ≡ b
+unfolding frameAnswer frameEntry
+frame-kept s t start r b d = kept (checkFrame s t start r b) _ _ _ b (d _ _)
+
 pub relay-kept : (s : Settings) (t b : List ℕ) (lines : ℕ) (ed : Edit) → ((n m : ℕ) → relayAnswer s t b lines ed ≡ relaid.Lines n m → ⊥)
     → relayTable s t b lines ed ≡ b
 unfolding relayAnswer relayTable
@@ -65,6 +74,10 @@ layout-done (laid.Refused r) e = absurd (refusal-some r e)
 pub drawing-counted : (x : LaidWithEvents) (old : ℕ) → 0 < drawingNumber x → drawingCount x old ≡ old
 drawing-counted (drawing.Lines n m) old h = omega arith
 drawing-counted (drawing.Refused r) old h = refl
+
+pub frame-rested : (x : Framed) (end count : ℕ) → 0 < frameNumber x → (frameRestEnd x end ≡ end) × (frameRestCount x count ≡ count)
+frame-rested (framed.Line n r) end count h = absurd (omega arith)
+frame-rested (framed.Refused r) end count h = (refl, refl)
 
 pub relay-counted : (x : Relaid) (old : ℕ) → 0 < relayNumber x → relayCount x old ≡ old
 relay-counted (relaid.Lines n m) old h = omega arith

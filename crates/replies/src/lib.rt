@@ -2,14 +2,16 @@
 use checks::refusals::number;
 use checks::refusals::value;
 use meaning::answers::Affected;
+use meaning::answers::Framed;
 use meaning::answers::Height;
 use meaning::answers::Laid;
 use meaning::answers::LaidWithEvents;
 use meaning::answers::LineY;
+use meaning::answers::Opened;
 use meaning::answers::Relaid;
 use meaning::answers::Tokenized;
 ghost use mathlib.Core.Path.{_≡_};
-ghost use Rattle.meaning.specs.Answers.{tokensNumber, tokensValue, layoutNumber, layoutValue, drawingNumber, drawingValue, drawingCount, affectedNumber, affectedValue, relayNumber, relayValue, relayCount, heightNumber, heightValue, yNumber, yValue, yPlace};
+ghost use Rattle.meaning.specs.Answers.{tokensNumber, tokensValue, layoutNumber, layoutValue, drawingNumber, drawingValue, drawingCount, openNumber, openValue, frameNumber, frameValue, frameRestEnd, frameRestCount, affectedNumber, affectedValue, relayNumber, relayValue, relayCount, heightNumber, heightValue, yNumber, yValue, yPlace};
 
 pub fn tokens_number(a: Tokenized) -> u32
     ensures { λ r. ⌜ r ≡ tokensNumber a ⌝ }
@@ -72,6 +74,61 @@ pub fn drawing_count(a: LaidWithEvents, old: u64) -> u64
     match a {
         LaidWithEvents::Lines(_, m) => m,
         LaidWithEvents::Refused(_) => old,
+    }
+}
+
+pub fn open_number(a: Opened) -> u32
+    ensures { λ r. ⌜ r ≡ openNumber a ⌝ }
+{
+    match a {
+        Opened::At(_) => 0,
+        Opened::Refused(refusal) => number(refusal),
+    }
+}
+
+pub fn open_value(a: Opened) -> u64
+    ensures { λ r. ⌜ r ≡ openValue a ⌝ }
+{
+    match a {
+        Opened::At(n) => n,
+        Opened::Refused(refusal) => value(refusal),
+    }
+}
+
+pub fn frame_number(a: Framed) -> u32
+    ensures { λ r. ⌜ r ≡ frameNumber a ⌝ }
+{
+    match a {
+        Framed::Line(_, _) => 0,
+        Framed::Refused(refusal) => number(refusal),
+    }
+}
+
+pub fn frame_value(a: Framed) -> u64
+    ensures { λ r. ⌜ r ≡ frameValue a ⌝ }
+{
+    match a {
+        Framed::Line(next, _) => next.0 as u64,
+        Framed::Refused(refusal) => value(refusal),
+    }
+}
+
+// The end and the count of the next line's rest, and where the call was refused the number that the caller had there.
+pub fn frame_rest_end(a: Framed, old: u32) -> u32
+    ensures { λ r. ⌜ r ≡ frameRestEnd a old ⌝ }
+{
+    match a {
+        Framed::Line(_, rest) => rest.end.0,
+        Framed::Refused(_) => old,
+    }
+}
+
+pub fn frame_rest_count(a: Framed, old: u32) -> u32
+    ensures { λ r. ⌜ r ≡ frameRestCount a old ⌝ }
+{
+    match a {
+        Framed::Line(_, rest) => rest.count.0,
+        Framed::Refused(_) => old,
     }
 }
 

@@ -39,12 +39,20 @@ fn stand_at(text: &[u8], at: Offset, before: Chars, rest: Resumed, word: Known) 
     }
 }
 
-// At a text's front, before a line that resumes a rest and has so many characters before it.
+// At an offset, before a line that resumes a rest and has so many characters before it.
+pub fn at_offset(text: &[u8], at: Offset, before: Chars, rest: Resumed) -> Stand
+    requires { ⌜ (length (now text) ≤ textLimit) × (at .0 ≤ length (now text)) ⌝ }
+    ensures { λ r. ⌜ StandsAt (now (text .entry)) at (before .0) rest r ⌝ }
+{
+    stand_at(text, at, before, rest, nothing_known())
+}
+
+// At a text's front.
 pub fn at_front(text: &[u8], before: Chars, rest: Resumed) -> Stand
     requires { ⌜ length (now text) ≤ textLimit ⌝ }
     ensures { λ r. ⌜ StandsAt (now (text .entry)) textFront (before .0) rest r ⌝ }
 {
-    stand_at(text, Offset(0), before, rest, nothing_known())
+    at_offset(text, Offset(0), before, rest)
 }
 
 // At a text's front, where nothing is resumed and no character stands before it.

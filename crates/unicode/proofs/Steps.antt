@@ -27,10 +27,6 @@ module _ (s : List ℕ) (i : ℕ) where
   unfolding countChars pick
   count-pass h e = rw (add-one, drop-cons s i 0 h) (simp e)
 
-  pub count-more : i < length s → cont (getD s i 0) ≡ false → countChars (drop i s) ≡ suc (countChars (drop (i + 1) s))
-  unfolding countChars pick
-  count-more h e = rw (add-one, drop-cons s i 0 h) (simp e)
-
   pub count-end : length s ≤ i → countChars (drop i s) ≡ 0
   unfolding countChars
   count-end h = rw (drop-of-length-le s h)

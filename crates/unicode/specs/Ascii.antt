@@ -1,16 +1,18 @@
 -- Text that is passed without decoding: bytes below 80, each a character by itself (Table 3-6), and other characters that are told.
 -- Assumes nothing.
 use mathlib.Core.Path.{_≡_}
-use mathlib.Core.Bool.{Bool, true, _&&_}
+use mathlib.Core.Bool.{Bool, true, false, _&&_}
 use mathlib.Core.List.{List, [], _∷_}
 use Prim.Native.Nat.{ℕ, suc, _+_, _-_, _≤_, _<_}
 use native.Mathlib.Omega.{arith}
-use borrow.Author.Tests.{lt-ltb, ltb-true}
+use native.Mathlib.Numerals.{add-one}
+use borrow.Author.Tests.{lt-leb, lt-ltb, ltb-true}
 use lib.Dec.{ltb}
 use lib.ListN.{length, getD, drop}
 use lib.Seq.{drop-cons}
-use Rattle.basis.specs.Choice.{pick, and-true}
+use Rattle.basis.specs.Choice.{pick, pick-cases, and-true}
 use Rattle.unicode.specs.Decoding.{seqLen, value, decodeHead, decodeAt, validPrefix}
+use Rattle.unicode.specs.Places.{cont, countChars}
 use Rattle.unicode.specs.Rows.{one-is}
 use Rattle.unicode.specs.RoundTrip.{char-is}
 use Rattle.unicode.specs.Prefix.{prefix-at-more}
@@ -22,6 +24,17 @@ decode-ascii t i h l =
     let a = getD t i 0 in
     rw (drop-cons t i 0 h, lt-ltb a 0x80 l) (char-is (a ∷ []) (one-is a l))
 
+-- A byte that is no continuation begins a character.
+pub count-more : (t : List ℕ) (i : ℕ) → i < length t → cont (getD t i 0) ≡ false → countChars (drop i t) ≡ suc (countChars (drop (i + 1) t))
+unfolding countChars pick
+count-more t i h e = rw (add-one, drop-cons t i 0 h) (simp e)
+
+-- There are no more characters than bytes.
+pub count-few : (t : List ℕ) → countChars t ≤ length t
+unfolding countChars
+count-few [] = omega arith
+count-few (b ∷ t) = pick-cases (λ n. n ≤ suc (length t)) (cont b) (λ _. omega (arith, count-few t)) (λ _. omega (arith, count-few t))
+
 -- From one position of a text to another UTF-8 goes on.
 pub record Passed (t : List ℕ) (from to : ℕ) : Type 0 where
   pub forward : from ≤ to
@@ -31,21 +44,6 @@ pub record Passed (t : List ℕ) (from to : ℕ) : Type 0 where
 module _ (t : List ℕ) (from : ℕ) where
   pub pass-none : from ≤ length t → Passed t from from
   pass-none h = record { forward = omega arith; inside = h; prefix = omega arith }
-
-  -- One byte more.
-  pub pass-one : (i : ℕ) → i < length t → getD t i 0 < 0x80 → Passed t from i → Passed t from (i + 1)
-  pass-one i h l p =
-      record {
-        forward = omega (arith, p .forward);
-        inside = omega arith;
-        prefix = omega (arith, p .forward, p .prefix, prefix-at-more t i (getD t i 0) 1 (decode-ascii t i h l));
-      }
-
-  -- One byte more of a stretch that is tested byte by byte.
-  pub pass-tested : (i : ℕ) (all : Bool) → i < length t → (all ≡ true → Passed t from i) → all && ltb (getD t i 0) 0x80 ≡ true → Passed t from (i + 1)
-  pass-tested i all h p e =
-      let both = and-true all (ltb (getD t i 0) 0x80) e in
-      pass-one i h (ltb-true (getD t i 0) 0x80 (both .1)) (p (both .0))
 
   -- One character more.
   pub pass-char : (i c n : ℕ) → decodeAt t i ≡ Char c n → i + n ≤ length t → Passed t from i → Passed t from (i + n)
@@ -62,4 +60,35 @@ module _ (t : List ℕ) (from : ℕ) where
         forward = omega (arith, p .forward, q .forward);
         inside = q .inside;
         prefix = omega (arith, p .forward, q .forward, p .prefix, q .prefix);
+      }
+
+-- The same where every byte is below 80, and so a character.
+pub record Plain (t : List ℕ) (from to : ℕ) : Type 0 where
+  pub passed : Passed t from to
+  pub count : countChars (drop from t) ≡ to - from + countChars (drop to t)
+
+module _ (t : List ℕ) (from : ℕ) where
+  pub plain-none : from ≤ length t → Plain t from from
+  plain-none h = record { passed = pass-none t from h; count = omega arith }
+
+  -- One byte more.
+  pub plain-one : (i : ℕ) → i < length t → getD t i 0 < 0x80 → Plain t from i → Plain t from (i + 1)
+  plain-one i h l p =
+      let no : cont (getD t i 0) ≡ false = simp (lt-leb 0x80 (getD t i 0) l) in
+      record {
+        passed = pass-char t from i (getD t i 0) 1 (decode-ascii t i h l) (omega arith) (p .passed);
+        count = omega (arith, p .passed .forward, p .count, count-more t i h no);
+      }
+
+  -- One byte more of a stretch that is tested byte by byte.
+  pub plain-tested : (i : ℕ) (all : Bool) → i < length t → (all ≡ true → Plain t from i) → all && ltb (getD t i 0) 0x80 ≡ true → Plain t from (i + 1)
+  plain-tested i all h p e =
+      let both = and-true all (ltb (getD t i 0) 0x80) e in
+      plain-one i h (ltb-true (getD t i 0) 0x80 (both .1)) (p (both .0))
+
+  pub plain-on : (i j : ℕ) → Plain t from i → Plain t i j → Plain t from j
+  plain-on i j p q =
+      record {
+        passed = pass-on t from i j (p .passed) (q .passed);
+        count = omega (arith, p .passed .forward, q .passed .forward, p .count, q .count);
       }

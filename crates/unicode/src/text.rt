@@ -5,7 +5,7 @@ ghost use mathlib.Core.Bool.{true};
 ghost use lib.ListN.{length};
 ghost use Rattle.unicode.specs.Decoding.{validPrefix};
 ghost use Rattle.unicode.specs.Places.{boundaryAt, countChars};
-ghost use Rattle.unicode.specs.Ascii.{Passed};
+ghost use Rattle.unicode.specs.Ascii.{Passed, Plain};
 use crate::long::long_len;
 use crate::long::wide_at;
 use crate::sequence::Decoded;
@@ -15,7 +15,7 @@ use crate::sequence::is_cont;
 // Is every byte of a stretch below 80, a character by itself. All are looked at, with no branch, so that it is done many bytes at a time.
 fn all_ascii(text: &[u8], from: usize, to: usize) -> bool
     requires { ⌜ (from ≤ to) × (to ≤ length (now text)) ⌝ }
-    ensures { λ r. ⌜ (r ≡ true → Passed (now (text .entry)) from to) ⌝ }
+    ensures { λ r. ⌜ (r ≡ true → Plain (now (text .entry)) from to) ⌝ }
 {
     let mut all = true;
     let mut i = from;
@@ -29,7 +29,7 @@ fn all_ascii(text: &[u8], from: usize, to: usize) -> bool
 // Blocks of so many bytes below 80 are skipped, while there are any.
 fn skip_blocks(text: &[u8], from: usize, block: usize) -> usize
     requires { ⌜ (from ≤ length (now text)) × (0 < block) ⌝ }
-    ensures { λ r. ⌜ Passed (now (text .entry)) from r ⌝ }
+    ensures { λ r. ⌜ Plain (now (text .entry)) from r ⌝ }
 {
     if text.len() < block {
         return from;
@@ -49,7 +49,7 @@ fn skip_blocks(text: &[u8], from: usize, block: usize) -> usize
 // Bytes below 80 are skipped, to the first that is none of them.
 fn skip_ascii(text: &[u8], from: usize) -> usize
     requires { ⌜ from ≤ length (now text) ⌝ }
-    ensures { λ r. ⌜ Passed (now (text .entry)) from r ⌝ }
+    ensures { λ r. ⌜ Plain (now (text .entry)) from r ⌝ }
 {
     let large = skip_blocks(text, from, 32);
     let mut at = skip_blocks(text, large, 8);
@@ -149,4 +149,12 @@ pub fn count_chars(text: &[u8]) -> usize
         }
     }
     n
+}
+
+// The same, of a text that may be long: bytes below 80 at its front are counted many at a time.
+pub fn count_long(text: &[u8]) -> usize
+    ensures { λ r. ⌜ r ≡ countChars (now (text .entry)) ⌝ }
+{
+    let ascii = skip_ascii(text, 0);
+    ascii + count_chars(&text[ascii..])
 }

@@ -2,7 +2,7 @@
 -- Assumes nothing.
 use lib.Seq.{length-take-le}
 use mathlib.Core.Path.{sym, _∙_}
-use Rattle.edits.specs.PartChars.{cut-within, cut-count}
+use Rattle.laws.specs.PartChars.{cut-within, cut-count}
 use borrow.Author.Needs.{needs}
 use Rattle.edits.proofs.fitting.chars_before.Statement.{statement}
 use Rattle.edits.proofs.fitting.chars_before.Tie as tie

@@ -8,7 +8,8 @@ use native.Mathlib.Omega.{arith}
 use lib.ListN.{length, drop}
 use borrow.Author.Needs.{needs}
 use Rattle.unicode.specs.Places.{countChars}
-use Rattle.unicode.proofs.Steps.{count-pass, count-more, count-end}
+use Rattle.unicode.specs.Ascii.{count-more}
+use Rattle.unicode.proofs.Steps.{count-pass, count-end}
 use Rattle.unicode.proofs.text.count_chars.Statement.{statement}
 use Rattle.unicode.proofs.text.count_chars.Tie as tie
 

@@ -4,12 +4,12 @@ use Prim.Native.Nat.{_-_, _≤_}
 use native.Mathlib.Omega.{arith}
 use lib.ListN.{length}
 use borrow.Author.Needs.{needs}
-use Rattle.unicode.specs.Ascii.{Passed, pass-one, pass-on}
+use Rattle.unicode.specs.Ascii.{Plain, plain-one, plain-on}
 use Rattle.unicode.proofs.text.skip_ascii.Statement.{statement}
 use Rattle.unicode.proofs.text.skip_ascii.Tie as tie
 
 abbrev Inv-loop : tie.InvT-loop
-Inv-loop text from large at₀ at = Passed text from at × (at ≤ length text)
+Inv-loop text from large at₀ at = Plain text from at × (at ≤ length text)
 
 abbrev μ-loop : tie.MeasureT-loop
 μ-loop text from large at₀ at = length text - at
@@ -18,12 +18,12 @@ skip-blocks-requires : tie.Need-skip-blocks-requires Inv-loop μ-loop
 skip-blocks-requires c κs = (search needs, omega arith)
 
 skip-blocks-requires-2 : tie.Need-skip-blocks-requires-2 Inv-loop μ-loop
-skip-blocks-requires-2 c κs = (c .skip-blocks .ensures .inside, omega arith)
+skip-blocks-requires-2 c κs = (c .skip-blocks .ensures .passed .inside, omega arith)
 
 loop-holds : tie.Need-loop-holds Inv-loop μ-loop
 loop-holds c =
     let small = c .skip-blocks2 .ensures in
-    (pass-on _ _ _ _ (c .before .skip-blocks .ensures) small, small .inside)
+    (plain-on _ _ _ _ (c .before .skip-blocks .ensures) small, small .passed .inside)
 
 shared-slice-read-if1 : tie.Need-shared-slice-read-if1 Inv-loop μ-loop
 shared-slice-read-if1 c = search needs
@@ -41,7 +41,7 @@ loop-again : tie.Need-loop-again Inv-loop μ-loop
 loop-again c =
     let l = c .before .before .before in
     let f = l .before .before .before .before in
-    (pass-one (f .args .text .now) (f .args .from) (l .loop .at) (omega arith) (omega arith) (l .loop .inv .0), omega arith)
+    (plain-one (f .args .text .now) (f .args .from) (l .loop .at) (omega arith) (omega arith) (l .loop .inv .0), omega arith)
 
 returns-2 : tie.Need-returns-2 Inv-loop μ-loop
 returns-2 c = c .before .loop .inv .0

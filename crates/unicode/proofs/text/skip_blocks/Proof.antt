@@ -5,24 +5,24 @@ use native.Mathlib.Omega.{arith}
 use lib.ListN.{length}
 use borrow.Author.Needs.{needs}
 use borrow.Author.Tests.{not-false}
-use Rattle.unicode.specs.Ascii.{Passed, pass-none, pass-on}
+use Rattle.unicode.specs.Ascii.{Plain, plain-none, plain-on}
 use Rattle.unicode.proofs.text.skip_blocks.Statement.{statement}
 use Rattle.unicode.proofs.text.skip_blocks.Tie as tie
 
 abbrev Inv-loop : tie.InvT-loop
-Inv-loop text from block last at₀ at = Passed text from at × (at ≤ length text)
+Inv-loop text from block last at₀ at = Plain text from at × (at ≤ length text)
 
 abbrev μ-loop : tie.MeasureT-loop
 μ-loop text from block last at₀ at = length text - at
 
 returns : tie.Need-returns Inv-loop μ-loop
-returns c = pass-none _ _ (omega arith)
+returns c = plain-none _ _ (omega arith)
 
 sub-last : tie.Need-sub-last Inv-loop μ-loop
 sub-last c = search needs
 
 loop-holds : tie.Need-loop-holds Inv-loop μ-loop
-loop-holds c = (pass-none _ _ (omega arith), omega arith)
+loop-holds c = (plain-none _ _ (omega arith), omega arith)
 
 add-next : tie.Need-add-next Inv-loop μ-loop
 add-next c = search needs
@@ -40,7 +40,7 @@ loop-again : tie.Need-loop-again Inv-loop μ-loop
 loop-again c =
     let s = c .before in
     let l = s .before .before in
-    (pass-on _ _ _ _ (l .loop .inv .0) (s .all-ascii .ensures (not-false _ (c .if2 .left))), omega arith)
+    (plain-on _ _ _ _ (l .loop .inv .0) (s .all-ascii .ensures (not-false _ (c .if2 .left))), omega arith)
 
 returns-3 : tie.Need-returns-3 Inv-loop μ-loop
 returns-3 c = c .before .loop .inv .0

@@ -21,19 +21,19 @@ skip-ascii-requires : tie.Need-skip-ascii-requires Inv-loop μ-loop
 skip-ascii-requires c κs = search needs
 
 skip-long-requires : tie.Need-skip-long-requires Inv-loop μ-loop
-skip-long-requires c κs = c .skip-ascii .ensures .inside
+skip-long-requires c κs = c .skip-ascii .ensures .passed .inside
 
 -- What one turn passes.
 turn : (c : tie.After-skip-long Inv-loop μ-loop) → Passed (c .before .before .before .before .args .text .now) (c .before .before .before .before .args .from) (c .skip-long .result)
 turn c =
     let a = c .before in
-    pass-on _ _ _ _ (pass-on _ _ _ _ (a .before .loop .inv .0) (a .skip-ascii .ensures)) (c .skip-long .ensures)
+    pass-on _ _ _ _ (pass-on _ _ _ _ (a .before .loop .inv .0) (a .skip-ascii .ensures .passed)) (c .skip-long .ensures)
 
 returns : tie.Need-returns Inv-loop μ-loop
 returns c = turn (c .before)
 
 loop-less : tie.Need-loop-less Inv-loop μ-loop
-loop-less c = let l = c .before .skip-long .ensures in omega (arith, c .before .before .skip-ascii .ensures .forward, l .forward, l .inside, c .if1 .left)
+loop-less c = let l = c .before .skip-long .ensures in omega (arith, c .before .before .skip-ascii .ensures .passed .forward, l .forward, l .inside, c .if1 .left)
 
 loop-again : tie.Need-loop-again Inv-loop μ-loop
 loop-again c = let p = turn (c .before) in (p, p .inside)

@@ -1,4 +1,4 @@
--- Bytes and characters of a lent part that is UTF-8: where characters begin, and how many there are up to there.
+-- Bytes and characters of a lent text that is UTF-8: where characters begin, and how many there are up to there.
 -- Assumes nothing.
 use Prim.Native.Nat.{ℕ, zero, suc, _≤_}
 use native.Mathlib.Omega.{arith}
@@ -21,23 +21,23 @@ use Rattle.meaning.specs.Checks.{checkUtf8}
 use Rattle.meaning.specs.Edit.{charsIn}
 use Rattle.meaning.specs.declared.refusals.Refusal.the-variants.{NotUtf8}
 use Rattle.meaning.specs.declared.refusals.Checked.the-variants.{Good}
 use Rattle.laws.specs.GoodChecks.{refuse-good}
 use Rattle.laws.specs.LinesTake.{chars-within}
 use Rattle.laws.specs.PassBounds.{size-take}
 use Rattle.laws.specs.Suffixes.{chars-in-take}
 
 -- The first characters of a text that is one are one.
-scalars-take : (k : ℕ) (cs : List ℕ) → Scalars cs → Scalars (take k cs)
+pub scalars-take : (k : ℕ) (cs : List ℕ) → Scalars cs → Scalars (take k cs)
 scalars-take zero cs al = tt
 scalars-take (suc k) [] al = tt
 scalars-take (suc k) (c ∷ cs) al = (al .0, scalars-take k cs (al .1))
 
 module _ (t : List ℕ) (good : checkUtf8 t ≡ Good) where
-  abbrev cs : List ℕ
+  abbrev pub cs : List ℕ
   cs = decodeAll t
 
   -- It is the encoding of its characters.
-  encoded : encodeAll cs ≡ t
+  pub encoded : encodeAll cs ≡ t
   unfolding checkUtf8
   encoded =
       let whole = eqb (validPrefix t) (length t) in

@@ -1,0 +1,3 @@
+pub mod Resuming
+pub mod Framing
+pub mod FrameChecks
