@@ -16,7 +16,7 @@ enum { PAINTED_WORDS = 4096, PAINT = 0x5AFE5AFE, CHARACTERS = 100, TEXT_ROOM = 8
 
 /* The calls, and the most that each has used. */
 #define CALLS(DO) \
-    DO(check_settings) DO(check_text) DO(tokens) DO(layout) DO(layout_events) \
+    DO(check_settings) DO(check_text) DO(tokens) DO(layout) DO(layout_events) DO(open) DO(one_line) \
     DO(first_affected) DO(lay_again) DO(height) DO(line_y)
 #define NUMBER(call) AT_##call,
 #define NAME(call) "bisquemop_" #call,
@@ -87,6 +87,20 @@ static void measure_layout(const struct bisquemop_settings *s, size_t len, uint6
     MEASURE(line_y, bisquemop_settings_line_y(s, TABLE, *lines, below((uint32_t)*lines), &value, &y));
 }
 
+/* Two lines, one after the other: the first line of a text, or any, and the one after it. */
+static void measure_lines(const struct bisquemop_settings *s, size_t len, uint64_t lines)
+{
+    const uint32_t *line = table + BISQUEMOP_LINE_NUMBERS * (below(2) ? below((uint32_t)lines) : 0);
+    uint32_t rest_end = line[BISQUEMOP_LINE_REST_END], rest_count = line[BISQUEMOP_LINE_REST_COUNT];
+    uint64_t start;
+    MEASURE(open, bisquemop_settings_open(s, text, len, &start));
+    start = line[BISQUEMOP_LINE_START];
+    for (int i = 0; i < 2; i++) {
+        MEASURE(one_line, bisquemop_settings_one_line(s, text, len, (uint32_t)start, rest_end, rest_count, NUMBERS,
+                                                      &start, &rest_end, &rest_count));
+    }
+}
+
 static void measure_edit(const struct bisquemop_settings *s, size_t len, uint64_t lines)
 {
     struct edit e = random_edit(text, len, TEXT_ROOM, inserted);
@@ -111,6 +125,7 @@ int main(int argc, char **argv)
         size_t len = random_text(text, below(CHARACTERS));
         measure_small(&s, len);
         measure_layout(&s, len, &lines);
+        measure_lines(&s, len, lines);
         measure_edit(&s, len, lines);
     }
     for (int call = 0; call < CALL_COUNT; call++) {

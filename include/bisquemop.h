@@ -7,6 +7,8 @@
  *   bisquemop_tokens           the words, spaces and breaks of a text
  *   bisquemop_layout           lays a text: a table of its lines
  *   bisquemop_layout_events    the same, and what is drawn in each line
+ *   bisquemop_open             before lines are laid one by one: where the first one starts
+ *   bisquemop_one_line         lays one line, and says where the next one starts
  *   bisquemop_first_affected   after an edit, the first line that it can change
  *   bisquemop_lay_again        after an edit, lays what changed and moves the other lines of the table
  *   bisquemop_height           how high a laid text is
@@ -56,7 +58,7 @@ enum bisquemop_refusal {
     BISQUEMOP_UNKNOWN_ALIGNMENT = 2,    /* the number that was given for it */
     BISQUEMOP_TEXT_TOO_LONG = 3,        /* the text's length in bytes */
     BISQUEMOP_NOT_UTF8 = 4,             /* the length in bytes of its longest prefix that is UTF-8 */
-    BISQUEMOP_BAD_LINE = 5,             /* the first bad line of the table */
+    BISQUEMOP_BAD_LINE = 5,             /* the first bad line of the table; 0 for one line's bad start or bad rest */
     BISQUEMOP_BAD_EDIT = 6,             /* 0 */
     /* 7 is not used. It was for a line that breaks without taking a character, and there is none: that is proved */
     BISQUEMOP_TOO_SMALL = 8             /* how many lines, tokens or events the buffer must have room for */
@@ -292,6 +294,71 @@ static inline uint32_t bisquemop_settings_layout_events(const struct bisquemop_s
     return bisquemop_layout_events(s->glyph, s->width, s->tab, s->spacing, s->paragraph, s->base, s->height, s->top,
                                    s->alignment, s->vertical, s->leading, s->trailing, s->wrap, text, len, table,
                                    table_len, events, events_len, value, event_count);
+}
+
+/*
+ * A text can be laid line by line, too, by a program that shows a line while the next is laid: bisquemop_open says
+ * where the first line starts, which has no rest, and bisquemop_one_line lays a line and says where the next one starts
+ * and with what rest. Lines so laid until one ends by the end of the text are those that bisquemop_layout writes, and
+ * who stops after k lines has the first k of them. The caller alone keeps what is needed between the calls.
+ */
+
+/*
+ * Checks the thirteen settings and the `len` bytes at `text`, and says where the first line starts. Returns
+ *   BISQUEMOP_OK                    done; *value is the first start, 0
+ *   BISQUEMOP_SETTING_OUT_OF_RANGE  as by bisquemop_check_settings; *value is 0
+ *   BISQUEMOP_UNKNOWN_ALIGNMENT     as by bisquemop_check_settings; *value is the number that was given
+ *   BISQUEMOP_TEXT_TOO_LONG         as by bisquemop_check_text; *value is `len`
+ *   BISQUEMOP_NOT_UTF8              as by bisquemop_check_text; *value is the length of its longest valid prefix
+ */
+uint32_t bisquemop_open(uint32_t glyph, uint32_t width, uint32_t tab, uint32_t spacing, uint32_t paragraph,
+                        uint32_t base, uint32_t height, int32_t top, uint32_t alignment, uint32_t vertical,
+                        uint32_t leading, uint32_t trailing, uint32_t wrap, const uint8_t *text, uint64_t len,
+                        uint64_t *value);
+
+/* The same for settings in a struct, which must not be NULL. */
+static inline uint32_t bisquemop_settings_open(const struct bisquemop_settings *s, const uint8_t *text, uint64_t len,
+                                               uint64_t *value)
+{
+    return bisquemop_open(s->glyph, s->width, s->tab, s->spacing, s->paragraph, s->base, s->height, s->top,
+                          s->alignment, s->vertical, s->leading, s->trailing, s->wrap, text, len, value);
+}
+
+/*
+ * Lays one line of the `len` bytes at `text`, all of the text: the line that starts at the offset `start`, with a rest
+ * that ends at `rest_end` and counts `rest_count` spaces, or with none if these two are 0. It writes the line's eleven
+ * numbers (enum bisquemop_line_column) to the front of `entry`, which has `entry_len` numbers; those past them keep
+ * what they held. The line is the first that the text from `start` on has after that rest. Any place between two
+ * characters is a start, though no line of the text's layout starts there; so are 0 and `len`. *next_rest_end and
+ * *next_rest_count, two uint32_t of the caller's that must not be NULL, are the rest of the next line, 0 and 0 if it
+ * has none, and keep what they held if the call refuses. Returns
+ *   BISQUEMOP_OK                    done; *value is where the next line starts. After a line that ends by the end of
+ *                                   the text there is no next line, and it is `len`
+ *   BISQUEMOP_SETTING_OUT_OF_RANGE  as by bisquemop_check_settings; *value is 0
+ *   BISQUEMOP_UNKNOWN_ALIGNMENT     as by bisquemop_check_settings; *value is the number that was given
+ *   BISQUEMOP_TEXT_TOO_LONG         as by bisquemop_check_text; *value is `len`
+ *   BISQUEMOP_NOT_UTF8              as by bisquemop_check_text; *value is the length of its longest valid prefix
+ *   BISQUEMOP_BAD_LINE              `start` is above `len`, or lies within a character; or `rest_end` and `rest_count`
+ *                                   are not both 0, and `rest_end` is not above `start`, is above `len`, or lies within
+ *                                   a character, or `rest_count` is above the characters from `start` up to there;
+ *                                   *value is 0
+ *   BISQUEMOP_TOO_SMALL             `entry` has fewer than eleven numbers; *value is 1
+ */
+uint32_t bisquemop_one_line(uint32_t glyph, uint32_t width, uint32_t tab, uint32_t spacing, uint32_t paragraph,
+                            uint32_t base, uint32_t height, int32_t top, uint32_t alignment, uint32_t vertical,
+                            uint32_t leading, uint32_t trailing, uint32_t wrap, const uint8_t *text, uint64_t len,
+                            uint32_t start, uint32_t rest_end, uint32_t rest_count, uint32_t *entry, uint64_t entry_len,
+                            uint64_t *value, uint32_t *next_rest_end, uint32_t *next_rest_count);
+
+/* The same for settings in a struct, which must not be NULL. */
+static inline uint32_t bisquemop_settings_one_line(const struct bisquemop_settings *s, const uint8_t *text,
+                                                   uint64_t len, uint32_t start, uint32_t rest_end, uint32_t rest_count,
+                                                   uint32_t *entry, uint64_t entry_len, uint64_t *value,
+                                                   uint32_t *next_rest_end, uint32_t *next_rest_count)
+{
+    return bisquemop_one_line(s->glyph, s->width, s->tab, s->spacing, s->paragraph, s->base, s->height, s->top,
+                              s->alignment, s->vertical, s->leading, s->trailing, s->wrap, text, len, start, rest_end,
+                              rest_count, entry, entry_len, value, next_rest_end, next_rest_count);
 }
 
 /*

@@ -80,6 +80,14 @@ pub struct Extent {
     pub chars: u32,
 }
 
+/// What a line is laid from: its start, and the rest that it starts with; 0 and 0 where there is none.
+#[derive(Clone, Copy, Debug, Default, PartialEq, Eq)]
+pub struct Stand {
+    pub start: u32,
+    pub rest_end: u32,
+    pub rest_count: u32,
+}
+
 /// How many numbers a line has in a table.
 pub const LINE_NUMBERS: usize = 11;
 

@@ -3,7 +3,7 @@
 
 use crate::bisquemop::{self, Edit};
 use embedded_text_wrapping::plugin::probe as wrapping;
-use shape::{Settings, LINE_NUMBERS};
+use shape::{Settings, Stand, LINE_NUMBERS};
 use std::hint::black_box;
 
 /// A clue a line. devices/bench.c lays the same on other machines.
@@ -118,7 +118,26 @@ fn typed(settings: &Settings, text: &str, place: &str, times: u32, room: &mut Ro
     laid
 }
 
-/// Does a piece of work so many times and tells its size: bytes and lines; of edits, also the lines laid.
+/// One line of a laid text, at a place of it: by itself out of the whole text, or as the first line of a text that has no more than the
+/// line looks at. Answers how many bytes were lent.
+fn one_line(settings: &Settings, text: &str, place: &str, alone: bool, lines: u64, times: u32, room: &mut Room) -> u64 {
+    let line = match place {
+        "front" => 0,
+        "middle" => lines / 2,
+        _ => lines.saturating_sub(2),
+    };
+    let entry = &room.table[LINE_NUMBERS * line as usize..][..LINE_NUMBERS];
+    let (start, reach) = (entry[0] as usize, entry[9] as usize);
+    let part = &text.as_bytes()[start..reach.min(text.len())];
+    let (lent, from) = if alone { (part, 0) } else { (text.as_bytes(), entry[0]) };
+    let stand = Stand { start: from, ..Stand::default() };
+    for _ in 0..times {
+        black_box(bisquemop::one_line(settings, lent, stand, &mut room.events)).expect("a good start");
+    }
+    lent.len() as u64
+}
+
+/// Does a piece of work so many times and tells its size: bytes and lines; of edits, also the lines laid; of one line, the bytes lent.
 pub fn run(work: &str, name: &str, bytes: usize, glyphs: u32, alignment: u32, times: u32) -> Option<bool> {
     let texts = texts(name, bytes)?;
     let settings = settings_for(name, glyphs, alignment);
@@ -137,7 +156,13 @@ pub fn run(work: &str, name: &str, bytes: usize, glyphs: u32, alignment: u32, ti
             black_box(bisquemop::first_affected(&room.table, lines, Edit { a: 0, b: 0, inserted: 1 })).expect("a good edit");
         }),
         "front" | "middle" | "end" => laid = typed(&settings, &texts[0], work, times, &mut room),
-        _ => return None,
+        _ => {
+            let (how, place) = work.split_once('-')?;
+            if !matches!(how, "line" | "alone") {
+                return None;
+            }
+            laid = one_line(&settings, &texts[0], place, how == "alone", lines, times, &mut room);
+        }
     }
     println!("{size} {lines} {laid}");
     Some(true)

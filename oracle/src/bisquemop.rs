@@ -3,7 +3,7 @@
 
 #![allow(unsafe_code)]
 
-use shape::Settings;
+use shape::{Settings, Stand};
 
 /// Why a call refused what it was given, with what goes besides the number.
 #[derive(Clone, Copy, Debug, PartialEq, Eq)]
@@ -65,6 +65,11 @@ mod c {
         bisquemop_layout_events(
             text: *const u8, len: u64, table: *mut u32, table_len: u64, events: *mut u32, events_len: u64,
             value: *mut u64, event_count: *mut u64
+        );
+        bisquemop_open(text: *const u8, len: u64, value: *mut u64);
+        bisquemop_one_line(
+            text: *const u8, len: u64, start: u32, rest_end: u32, rest_count: u32, entry: *mut u32, entry_len: u64,
+            value: *mut u64, next_rest_end: *mut u32, next_rest_count: *mut u32
         );
         bisquemop_lay_again(
             part: *const u8, len: u64, table: *mut u32, table_len: u64, lines: u64, a: u32, b: u32, inserted: u32,
@@ -187,6 +192,42 @@ pub fn layout_events(settings: &Settings, text: &[u8], table: &mut [u32], events
         )
     };
     with(number, value, count, UNWRITTEN)
+}
+
+/// Where the first line of a text starts.
+pub fn open(settings: &Settings, text: &[u8]) -> Result<u64, Refusal> {
+    let mut value = 0;
+    // SAFETY: the pointer and the length are those of a slice that is lent for reading.
+    let number = unsafe { call!(bisquemop_open, settings, text.as_ptr(), len_of(text), &mut value) };
+    answer(number, value)
+}
+
+/// What a rest's two numbers hold before a call. No rest ends or counts as high.
+const NO_REST: u32 = u32::MAX;
+
+/// Lays one line of a text and writes its eleven numbers to the front of `entry`. Answers what the next line is laid from.
+pub fn one_line(settings: &Settings, text: &[u8], from: Stand, entry: &mut [u32]) -> Result<Stand, Refusal> {
+    let (mut value, mut rest_end, mut rest_count) = (0, NO_REST, NO_REST);
+    // SAFETY: pointers and lengths are those of two slices, one lent for reading and one for writing, which cannot overlap.
+    let number = unsafe {
+        call!(
+            bisquemop_one_line,
+            settings,
+            text.as_ptr(),
+            len_of(text),
+            from.start,
+            from.rest_end,
+            from.rest_count,
+            entry.as_mut_ptr(),
+            len_of(entry),
+            &mut value,
+            &mut rest_end,
+            &mut rest_count
+        )
+    };
+    with(number, value, rest_count, NO_REST)?;
+    let (start, rest_end) = with(number, value, rest_end, NO_REST)?;
+    Ok(Stand { start: start.try_into().expect("a place in a text"), rest_end, rest_count })
 }
 
 /// The first line that an edit affects.

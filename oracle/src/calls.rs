@@ -4,7 +4,7 @@
 use crate::bisquemop::{self, Edit, Refusal};
 use crate::examples::Claims;
 use crate::EXAMPLE;
-use shape::{Settings, LINE_NUMBERS};
+use shape::{Settings, Stand, LINE_NUMBERS};
 
 const UNTOUCHED: u32 = 7;
 
@@ -46,6 +46,7 @@ fn table_of(settings: &Settings, text: &str) -> (Vec<u32>, u64) {
 pub fn run(claims: &mut Claims, _specs: &str) {
     checks(claims);
     layouts(claims);
+    lines(claims);
     tables(claims);
     again(claims);
     places(claims);
@@ -85,6 +86,53 @@ fn layouts(claims: &mut Claims) {
     claims.equal("layout_events", with_events(22, 18), ((Ok((2, 3)), false), false));
     claims.equal("layout_events in too small a table", with_events(21, 0), ((Err(Refusal::TooSmall(2)), true), true));
     claims.equal("layout_events in too small a buffer", with_events(22, 17), ((Err(Refusal::TooSmall(3)), true), true));
+}
+
+/// The two lines of the scope's example one by one, and every refusal of a start and a rest.
+fn lines(claims: &mut Claims) {
+    let from = |start, rest_end, rest_count| Stand { start, rest_end, rest_count };
+    let laid = |text: &[u8], from| lent(LINE_NUMBERS, |entry| bisquemop::one_line(&EXAMPLE, text, from, entry));
+    let text = b"ab cde";
+    claims.equal("open", bisquemop::open(&EXAMPLE, text), Ok(0));
+    claims.equal("one_line, the first", laid(text, from(0, 0, 0)), (Ok(from(3, 0, 0)), false));
+    claims.equal("one_line, the last", laid(text, from(3, 0, 0)), (Ok(from(6, 0, 0)), false));
+    claims.equal("one_line at the text's end", laid(text, from(6, 0, 0)), (Ok(from(6, 0, 0)), false));
+    claims.equal("one_line of no text", laid(b"", from(0, 0, 0)), (Ok(from(0, 0, 0)), false));
+    claims.equal("one_line after a rest", laid(b"abc   d", from(4, 6, 2)), (Ok(from(7, 0, 0)), false));
+
+    for (settings, text, refusal) in refused() {
+        claims.equal("open", bisquemop::open(&settings, &text), Err(refusal));
+        for stand in [from(0, 0, 0), from(9, 1, 1)] {
+            let found = lent(LINE_NUMBERS, |entry| bisquemop::one_line(&settings, &text, stand, entry));
+            claims.equal("one_line", found, (Err(refusal), true));
+        }
+    }
+    // A space of one byte, a letter of two, a space of three: boundaries are at 0, 1, 3 and 6.
+    let text = " é\u{3000}".as_bytes();
+    let bad = [
+        from(2, 0, 0),
+        from(7, 0, 0),
+        from(u32::MAX, 0, 0),
+        from(1, 1, 0),
+        from(3, 1, 1),
+        from(1, 2, 1),
+        from(1, 5, 1),
+        from(1, 7, 1),
+        from(1, 3, 2),
+        from(1, 6, 3),
+        from(0, 0, 1),
+        from(6, 6, 0),
+    ];
+    for stand in bad {
+        claims.equal("one_line from a bad stand", laid(text, stand), (Err(Refusal::BadLine(0)), true));
+        let no_room = bisquemop::one_line(&EXAMPLE, text, stand, &mut []);
+        claims.equal("one_line from a bad stand, with no room", no_room, Err(Refusal::BadLine(0)));
+    }
+    for good in [from(0, 0, 0), from(1, 3, 1), from(1, 6, 2), from(3, 6, 0), from(6, 0, 0)] {
+        claims.equal("one_line from a good stand", laid(text, good).0.is_ok(), true);
+        let small = lent(LINE_NUMBERS - 1, |entry| bisquemop::one_line(&EXAMPLE, text, good, entry));
+        claims.equal("one_line in too small an entry", small, (Err(Refusal::TooSmall(1)), true));
+    }
 }
 
 fn tables(claims: &mut Claims) {

@@ -15,6 +15,8 @@ mod definitions;
 #[cfg(library)]
 mod edits;
 mod examples;
+#[cfg(library)]
+mod frames;
 mod glue;
 mod inside;
 #[cfg(library)]
@@ -60,6 +62,7 @@ usage: oracle examples SPECS            the scope's examples, and those of the d
        oracle random COUNT SEED         texts and settings by chance
        oracle large COUNT SEED          the same with texts of up to 65,535 bytes
        oracle edits COUNT SEED          edits by chance, laid again by the library and laid afresh
+       oracle frames COUNT SEED         lines laid one by one, and from any start and rest, by the library and by the rules
        oracle definitions COUNT SEED    a module of cases by chance, for the prover to compute by the definitions
        oracle record CASES SEED         a sample of the crate's answers, a case a line, for a replay with no Rust at hand
        oracle bench WORK NAME BYTES GLYPHS ALIGNMENT TIMES
@@ -93,6 +96,8 @@ fn main() {
         }
         #[cfg(library)]
         ["edits", count, seed] => count.parse().ok().zip(seed.parse().ok()).map(|(count, seed)| edits::run(count, seed)),
+        #[cfg(library)]
+        ["frames", count, seed] => count.parse().ok().zip(seed.parse().ok()).map(|(count, seed)| frames::run(count, seed)),
         #[cfg(library)]
         ["bench", work, name, bytes, glyphs, alignment, times] => bench::run(
             work,

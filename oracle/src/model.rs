@@ -64,13 +64,21 @@ pub struct Text {
 
 impl Text {
     pub fn take_apart(&mut self, text: &str) {
+        self.take_characters(text);
+        self.take_stretches(0);
+    }
+
+    fn take_characters(&mut self, text: &str) {
         self.chars.clear();
         self.chars.extend(text.chars());
         self.offsets.clear();
         self.offsets.extend(text.char_indices().map(|(at, _)| at as u32));
         self.offsets.push(text.len() as u32);
         self.stretches.clear();
-        let mut from = 0;
+    }
+
+    /// The tokens from a character on.
+    fn take_stretches(&mut self, mut from: usize) {
         while from < self.chars.len() {
             let stretch = self.stretch_at(from);
             self.stretches.push(stretch);
@@ -456,53 +464,93 @@ fn placed(settings: &Settings, ways: Ways, width: u32, n: u32, by: u32) -> (i32,
     }
 }
 
-/// Rules 10, 12 and 13: the lines of a text, each measured and then drawn from where the last one's draw ended. True if a tab did not
-/// fit in one of the passes.
+/// A line's start by its first character's number, and its rest: where it ends and what it counts, 0 and 0 where there is none.
+fn stand_of(text: &Text, start: Start) -> (usize, u32, u32) {
+    match start.left {
+        Some(left) if left.kind == WHITESPACE => (left.from, text.offsets[left.to], left.count),
+        Some(left) => (left.from, 0, 0),
+        None => (text.stretches.get(start.token).map_or(text.chars.len(), |s| s.from), 0, 0),
+    }
+}
+
+/// Rules 10, 12 and 13: one line, measured and then drawn. True besides if a tab did not fit in one of the passes.
+fn lay_line(
+    settings: &Settings,
+    ways: Ways,
+    text: &Text,
+    start: Start,
+    measure: &mut Vec<Event>,
+    laid: &mut Laid,
+) -> (Ended, bool) {
+    let pass = |spaces, position| Pass::new(settings, ways, text, start, spaces, position);
+
+    measure.clear();
+    let mut measuring = pass(Spaces { width: settings.glyph, extra: 0 }, 0);
+    let by = measuring.run(measure).by;
+    let (width, n) = measured(measure);
+    let (left, spaces) = placed(settings, ways, width, n, by);
+
+    let mut drawing = pass(spaces, left.max(0) as u32);
+    let ended = drawing.run(&mut laid.events);
+
+    let (at, rest_end, rest_count) = stand_of(text, start);
+    laid.lines.push(Line {
+        start: text.offsets[at],
+        rest_end,
+        rest_count,
+        end: ended.by,
+        left,
+        space: spaces.width,
+        extra: spaces.extra,
+        width,
+    });
+    laid.extents.push(Extent {
+        dropped: drawing.dropped,
+        reach: measuring.reach.max(drawing.reach),
+        // A text is an array of characters here: the number of the first is how many stand before it.
+        chars: at as u32,
+    });
+    laid.upto.push(laid.events.len() as u32);
+    (ended, measuring.beyond || drawing.beyond)
+}
+
+/// Rule 10: the lines of a text, each from where the last one's draw ended. True if a tab did not fit in one of the passes.
 pub fn lay(settings: &Settings, ways: Ways, text: &Text, measure: &mut Vec<Event>, laid: &mut Laid) -> bool {
     laid.clear();
     let mut beyond = false;
     let mut start = Start { token: 0, left: None };
     loop {
-        let pass = |spaces, position| Pass::new(settings, ways, text, start, spaces, position);
-
-        measure.clear();
-        let mut measuring = pass(Spaces { width: settings.glyph, extra: 0 }, 0);
-        let by = measuring.run(measure).by;
-        let (width, n) = measured(measure);
-        let (left, spaces) = placed(settings, ways, width, n, by);
-
-        let mut drawing = pass(spaces, left.max(0) as u32);
-        let ended = drawing.run(&mut laid.events);
-        beyond |= measuring.beyond || drawing.beyond;
-
-        let (at, rest_end, rest_count) = match start.left {
-            Some(left) if left.kind == WHITESPACE => (left.from, text.offsets[left.to], left.count),
-            Some(left) => (left.from, 0, 0),
-            None => (text.stretches.get(start.token).map_or(text.chars.len(), |s| s.from), 0, 0),
-        };
-        laid.lines.push(Line {
-            start: text.offsets[at],
-            rest_end,
-            rest_count,
-            end: ended.by,
-            left,
-            space: spaces.width,
-            extra: spaces.extra,
-            width,
-        });
-        laid.extents.push(Extent {
-            dropped: drawing.dropped,
-            reach: measuring.reach.max(drawing.reach),
-            // A text is an array of characters here: the number of the first is how many stand before it.
-            chars: at as u32,
-        });
-        laid.upto.push(laid.events.len() as u32);
+        let (ended, past) = lay_line(settings, ways, text, start, measure, laid);
+        beyond |= past;
         if ended.by == BY_END_OF_TEXT {
             return beyond;
         }
         assert!(laid.lines.len() <= text.chars.len() + 1, "a line took nothing");
         start = ended.next;
     }
+}
+
+/// The line that a text has from a place on, after a rest (#106). All but what stands before that place is taken apart anew, with the
+/// rest as its first token, whatever its characters are. `laid` gets that one line; answered is the next one's start and rest.
+#[cfg(library)]
+pub fn lay_from(settings: &Settings, text: &str, from: Stand, laid: &mut Laid) -> Stand {
+    let mut apart = Text::default();
+    apart.take_characters(text);
+    let number = |offset: u32| apart.offsets.iter().position(|&at| at == offset).expect("a place between characters");
+    let first = number(from.start);
+    let left = (from.rest_end > 0).then(|| Stretch {
+        kind: WHITESPACE,
+        from: first,
+        to: number(from.rest_end),
+        count: from.rest_count,
+        alone: false,
+    });
+    apart.stretches.extend(left);
+    apart.take_stretches(left.map_or(first, |rest| rest.to));
+    laid.clear();
+    let (ended, _) = lay_line(settings, Ways::default(), &apart, Start { token: 0, left }, &mut Vec::new(), laid);
+    let (at, rest_end, rest_count) = stand_of(&apart, ended.next);
+    Stand { start: apart.offsets[at], rest_end, rest_count }
 }
 
 /// Rule 11: what the end of a line adds.

@@ -65,6 +65,10 @@ int main(int count, char **words)
     test_inside();
     printf("characters before lines\n");
     test_characters();
+    printf("lines one by one\n");
+    test_one_line();
+    printf("bad starts and rests\n");
+    test_bad_starts();
     printf("%lu spoiled tables, seed %lu\n", edits, seed);
     test_spoiled(edits, seed);
 #ifndef SMALL_MEMORY

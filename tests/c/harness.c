@@ -196,6 +196,91 @@ void expect_drawing(const char *what, struct bisquemop_settings s, const uint8_t
     }
 }
 
+void expect_open(const char *what, struct bisquemop_settings s, const uint8_t *text, size_t len, uint32_t number,
+                 uint64_t value)
+{
+    struct answer plain = no_answer(), spread = no_answer();
+    plain.number = bisquemop_open(s.glyph, s.width, s.tab, s.spacing, s.paragraph, s.base, s.height, s.top, s.alignment,
+                                  s.vertical, s.leading, s.trailing, s.wrap, text, len, &plain.value);
+    if (!compare(what, &plain, number, value)) {
+        show_text(text, len);
+    }
+    spread.number = bisquemop_settings_open(&s, text, len, &spread.value);
+    if (!compare(what, &spread, number, value)) {
+        printf(", from a struct");
+        show_text(text, len);
+    }
+}
+
+/* A rest as a call writes it, between numbers that must stay as they were. */
+struct lent_rest {
+    uint32_t before, end, between, count, after;
+};
+static const struct lent_rest unwritten_rest = {21, UINT32_C(0xAAAAAAAA), 22, UINT32_C(0xBBBBBBBB), 23};
+
+static void compare_rest(const char *what, const struct lent_rest *got, uint32_t end, uint32_t count)
+{
+    if (got->end == end && got->count == count && got->before == unwritten_rest.before &&
+        got->between == unwritten_rest.between && got->after == unwritten_rest.after) {
+        passed++;
+        return;
+    }
+    failed++;
+    printf("FAILED %s: expected the next rest %" PRIu32 " %" PRIu32 ", got %" PRIu32 " %" PRIu32
+           ", or what stands beside it was written\n",
+           what, end, count, got->end, got->count);
+}
+
+static uint32_t call_one_line(struct bisquemop_settings s, const uint8_t *text, size_t len, struct stand from,
+                              size_t room, int spread, uint64_t *value, struct lent_rest *rest)
+{
+    uint32_t *entry = lend(room);
+    return spread ? bisquemop_settings_one_line(&s, text, len, from.start, from.rest_end, from.rest_count, entry, room,
+                                                value, &rest->end, &rest->count)
+                  : bisquemop_one_line(s.glyph, s.width, s.tab, s.spacing, s.paragraph, s.base, s.height, s.top,
+                                       s.alignment, s.vertical, s.leading, s.trailing, s.wrap, text, len, from.start,
+                                       from.rest_end, from.rest_count, entry, room, value, &rest->end, &rest->count);
+}
+
+/* What a line's call must return and write. Where it is refused, `rest` is what it was before. */
+struct line_answer {
+    uint32_t number;
+    uint64_t value;
+    const uint32_t *entry;
+    uint32_t rest_end, rest_count;
+};
+
+static void compare_line(const char *what, struct bisquemop_settings s, const uint8_t *text, size_t len,
+                         struct stand from, size_t room, const struct line_answer *expected)
+{
+    for (int spread = 0; spread < 2; spread++) {
+        struct answer a = no_answer();
+        struct lent_rest rest = unwritten_rest;
+        a.number = call_one_line(s, text, len, from, room, spread, &a.value, &rest);
+        if (!compare(what, &a, expected->number, expected->value)) {
+            printf(", from %" PRIu32 " %" PRIu32 " %" PRIu32 "%s", from.start, from.rest_end, from.rest_count,
+                   spread ? ", from a struct" : "");
+            show_text(text, len);
+        }
+        compare_rest(what, &rest, expected->rest_end, expected->rest_count);
+        compare_lent(what, room, expected->entry, expected->entry == NULL ? 0 : BISQUEMOP_LINE_NUMBERS);
+    }
+}
+
+void expect_one_line(const char *what, struct bisquemop_settings s, const uint8_t *text, size_t len, struct stand from,
+                     size_t room, const uint32_t *entry, struct stand next)
+{
+    struct line_answer expected = {BISQUEMOP_OK, next.start, entry, next.rest_end, next.rest_count};
+    compare_line(what, s, text, len, from, room, &expected);
+}
+
+void expect_no_line(const char *what, struct bisquemop_settings s, const uint8_t *text, size_t len, struct stand from,
+                    size_t room, uint32_t number, uint64_t value)
+{
+    struct line_answer expected = {number, value, NULL, unwritten_rest.end, unwritten_rest.count};
+    compare_line(what, s, text, len, from, room, &expected);
+}
+
 /* A copy of a table that a call is lent, between the guards. */
 static uint32_t *lend_table(const uint32_t *table, size_t table_len)
 {

@@ -31,6 +31,23 @@ void expect_drawing(const char *what, struct bisquemop_settings s, const uint8_t
                     size_t events_room, uint32_t number, uint64_t value, const uint32_t *lines, uint64_t event_count,
                     const uint32_t *events);
 
+/* Where a line starts, and with what rest: its end and its count, 0 and 0 if there is none. */
+struct stand {
+    uint32_t start, rest_end, rest_count;
+};
+
+void expect_open(const char *what, struct bisquemop_settings s, const uint8_t *text, size_t len, uint32_t number,
+                 uint64_t value);
+
+/*
+ * One line is laid from `from`, with an entry of `room` numbers lent: its first numbers must be the eleven at `entry`,
+ * and the next start and the next rest those of `next`. Or it is refused, and all but the value must stay as it was.
+ */
+void expect_one_line(const char *what, struct bisquemop_settings s, const uint8_t *text, size_t len, struct stand from,
+                     size_t room, const uint32_t *entry, struct stand next);
+void expect_no_line(const char *what, struct bisquemop_settings s, const uint8_t *text, size_t len, struct stand from,
+                    size_t room, uint32_t number, uint64_t value);
+
 /* The same with a table to read, which must stay as it was. */
 void expect_affected(const char *what, const uint32_t *table, size_t table_len, uint64_t lines, uint32_t a, uint32_t b,
                      uint32_t inserted, uint32_t number, uint64_t value);
@@ -95,6 +112,8 @@ void test_refused(void);
 void test_wraps(void);
 void test_inside(void);
 void test_characters(void);
+void test_one_line(void);
+void test_bad_starts(void);
 void test_spoiled(unsigned long tables, unsigned long seed);
 void test_edits(unsigned long edits, unsigned long seed);
 

@@ -1,6 +1,7 @@
 /*
  * bisquemop_lay_again: every refusal of settings, parts and edits, and which comes first. Bad tables are in tables.c,
- * and tables that are too small in again.c.
+ * and tables that are too small in again.c. Each setting is tried in bisquemop_open and bisquemop_one_line, too; their
+ * other refusals are in bad_starts.c.
  * Refusal 1, refusal 2, refusal 3, refusal 4, refusal 5, refusal 6.
  */
 #include "harness.h"
@@ -143,11 +144,22 @@ static void test_extremes(void)
     }
 }
 
+/* Settings by which nothing is laid again, and no line laid. */
+static void expect_settings_refused(const char *what, struct bisquemop_settings s, uint32_t number, uint64_t value)
+{
+    static const uint8_t part[] = "  de";
+    const struct relay given = {part, 4, table, 3 * NUMBERS, 2, {7, 7, 1}};
+    const struct stand good = {2, 0, 0}, bad = {5, 0, 0};
+    expect_refused(what, s, &given, number, value);
+    expect_open(what, s, part, 4, number, value);
+    expect_no_line(what, s, part, 4, good, NUMBERS, number, value);
+    expect_no_line(what, s, part, 4, bad, 0, number, value);
+}
+
 /* Each setting is tested. */
 static void test_settings_first(void)
 {
     struct bisquemop_settings list[13];
-    struct relay given = {(const uint8_t *)"  de", 4, table, 3 * NUMBERS, 2, {7, 7, 1}};
     for (size_t i = 0; i < 13; i++) {
         list[i] = plain;
     }
@@ -165,10 +177,10 @@ static void test_settings_first(void)
     list[11].alignment = 4;
     list[12].vertical = 3;
     for (size_t i = 0; i < 11; i++) {
-        expect_refused("a setting", list[i], &given, BISQUEMOP_SETTING_OUT_OF_RANGE, 0);
+        expect_settings_refused("a setting", list[i], BISQUEMOP_SETTING_OUT_OF_RANGE, 0);
     }
-    expect_refused("alignment", list[11], &given, BISQUEMOP_UNKNOWN_ALIGNMENT, 4);
-    expect_refused("vertical", list[12], &given, BISQUEMOP_UNKNOWN_ALIGNMENT, 3);
+    expect_settings_refused("alignment", list[11], BISQUEMOP_UNKNOWN_ALIGNMENT, 4);
+    expect_settings_refused("vertical", list[12], BISQUEMOP_UNKNOWN_ALIGNMENT, 3);
 }
 
 void test_refused(void)

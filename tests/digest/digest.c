@@ -26,6 +26,7 @@ static uint8_t text[LONG], edited[LONG], inserted[LONG];
 static uint64_t len;
 static uint32_t tokens[TOKENS], table[TABLE], events[EVENTS];
 static uint64_t lines;
+static uint32_t entry[BISQUEMOP_LINE_NUMBERS + 2];
 
 /* One time in so many. */
 static int seldom(uint32_t times)
@@ -102,6 +103,47 @@ static void ask_events(void)
     add_numbers(events, room);
     if (number != BISQUEMOP_OK) {
         lines = 1 + below(3);
+    }
+}
+
+/* Where a line is laid from: the text's front, a line of the table, or anywhere. At times it is spoiled. */
+static struct stand make_stand(void)
+{
+    uint32_t k = below((uint32_t)lines);
+    const uint32_t *line = table + BISQUEMOP_LINE_NUMBERS * k;
+    struct stand from = {0, 0, 0};
+    if (seldom(2)) {
+        from.start = line[BISQUEMOP_LINE_START];
+        from.rest_end = line[BISQUEMOP_LINE_REST_END];
+        from.rest_count = line[BISQUEMOP_LINE_REST_COUNT];
+    } else if (seldom(2)) {
+        from.start = below((uint32_t)len + 1);
+        from.rest_end = seldom(2) ? from.start + below((uint32_t)len - from.start + 2) : 0;
+        from.rest_count = from.rest_end > 0 ? below(4) : 0;
+    }
+    if (seldom(12)) {
+        uint32_t *numbers[] = {&from.start, &from.rest_end, &from.rest_count};
+        uint32_t which = below(3);
+        *numbers[which] = seldom(2) ? random_number() : *numbers[which] + 1;
+    }
+    return from;
+}
+
+/* Two lines, the second from where the first ends; asked after the table is there. */
+static void ask_lines(void)
+{
+    uint64_t value = 0, room = random_room(BISQUEMOP_LINE_NUMBERS + 2);
+    uint32_t number = bisquemop_settings_open(&settings, text, len, &value);
+    struct stand from = make_stand();
+    add_answer(number, value);
+    for (int i = 0; i < 2; i++) {
+        number = bisquemop_settings_one_line(&settings, text, len, from.start, from.rest_end, from.rest_count, entry,
+                                             room, &value, &from.rest_end, &from.rest_count);
+        from.start = number == BISQUEMOP_OK ? (uint32_t)value : from.start;
+        add_answer(number, value);
+        add_number(from.rest_end);
+        add_number(from.rest_count);
+        add_numbers(entry, sizeof entry / sizeof entry[0]);
     }
 }
 
@@ -190,6 +232,7 @@ static void one_case(void)
     ask_tokens();
     ask_layout();
     ask_events();
+    ask_lines();
     if (seldom(8)) {
         spoil_table();
     }

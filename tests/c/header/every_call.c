@@ -15,11 +15,13 @@ struct lent {
     uint64_t table_len;
     uint32_t *events;
     uint64_t lines, value, count;
+    uint32_t rest_end, rest_count;
     int32_t y;
 };
 
 uint32_t checks(struct lent *l);
 uint32_t fresh(struct lent *l);
+uint32_t one_by_one(struct lent *l);
 uint32_t again(struct lent *l, uint32_t a, uint32_t b, uint32_t inserted);
 uint32_t heights(struct lent *l);
 uint32_t by_numbers(struct lent *l);
@@ -42,6 +44,17 @@ uint32_t fresh(struct lent *l)
     if (refused == BISQUEMOP_OK) {
         refused = bisquemop_settings_layout_events(&l->settings, l->text, l->len, l->table, l->table_len, l->events,
                                                    BISQUEMOP_EVENT_NUMBERS * l->len, &l->lines, &l->count);
+    }
+    return refused;
+}
+
+/* The first line, and where the next one starts. */
+uint32_t one_by_one(struct lent *l)
+{
+    uint32_t refused = bisquemop_settings_open(&l->settings, l->text, l->len, &l->value);
+    if (refused == BISQUEMOP_OK) {
+        refused = bisquemop_settings_one_line(&l->settings, l->text, l->len, (uint32_t)l->value, 0, 0, l->table,
+                                              BISQUEMOP_LINE_NUMBERS, &l->value, &l->rest_end, &l->rest_count);
     }
     return refused;
 }
@@ -77,6 +90,9 @@ uint32_t by_numbers(struct lent *l)
     refused |= bisquemop_layout(SETTINGS, l->text, l->len, l->table, l->table_len, &l->lines);
     refused |= bisquemop_layout_events(SETTINGS, l->text, l->len, l->table, l->table_len, l->events,
                                        BISQUEMOP_EVENT_NUMBERS * l->len, &l->lines, &l->count);
+    refused |= bisquemop_open(SETTINGS, l->text, l->len, &l->value);
+    refused |= bisquemop_one_line(SETTINGS, l->text, l->len, 0, 0, 0, l->table, l->table_len, &l->value, &l->rest_end,
+                                  &l->rest_count);
     refused |= bisquemop_lay_again(SETTINGS, l->text, l->len, l->table, l->table_len, l->lines, 0, 0, 0, &l->value,
                                    &l->count);
     refused |= bisquemop_height(SETTINGS, l->table, l->table_len, l->lines, &l->value);
