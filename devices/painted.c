@@ -17,7 +17,7 @@ enum { PAINTED_WORDS = 4096, PAINT = 0x5AFE5AFE, CHARACTERS = 100, TEXT_ROOM = 8
 /* The calls, and the most that each has used. */
 #define CALLS(DO) \
     DO(check_settings) DO(check_text) DO(tokens) DO(layout) DO(layout_events) DO(open) DO(one_line) \
-    DO(first_affected) DO(lay_again) DO(height) DO(line_y)
+    DO(first_affected) DO(lay_again) DO(height) DO(line_y) DO(index) DO(index_again) DO(find_line)
 #define NUMBER(call) AT_##call,
 #define NAME(call) "bisquemop_" #call,
 enum { CALLS(NUMBER) CALL_COUNT };
@@ -60,8 +60,10 @@ __attribute__((always_inline)) static inline unsigned used(volatile uint32_t *to
 
 static uint8_t text[TEXT_ROOM], edited[TEXT_ROOM], inserted[TEXT_ROOM];
 static uint32_t table[BISQUEMOP_LINE_NUMBERS * (TEXT_ROOM + 1)], numbers[BISQUEMOP_EVENT_NUMBERS * TEXT_ROOM];
+static int32_t ys[TEXT_ROOM + 1];
 #define TABLE table, sizeof table / sizeof table[0]
 #define NUMBERS numbers, sizeof numbers / sizeof numbers[0]
+#define INDEX ys, sizeof ys / sizeof ys[0]
 
 /* With too little room a call counts what there is. */
 static void measure_small(const struct bisquemop_settings *s, size_t len)
@@ -101,6 +103,17 @@ static void measure_lines(const struct bisquemop_settings *s, size_t len, uint64
     }
 }
 
+/* A y at each line and above the first, so that the search goes every way. */
+static void measure_index(const struct bisquemop_settings *s, uint64_t lines)
+{
+    uint64_t value;
+    MEASURE(index, bisquemop_settings_index(s, TABLE, lines, INDEX, &value));
+    for (uint64_t k = 0; k < lines; k++) {
+        MEASURE(find_line, bisquemop_find_line(TABLE, lines, ys, lines, ys[k], &value));
+    }
+    MEASURE(find_line, bisquemop_find_line(TABLE, lines, ys, lines, ys[0] - 1, &value));
+}
+
 static void measure_edit(const struct bisquemop_settings *s, size_t len, uint64_t lines)
 {
     struct edit e = random_edit(text, len, TEXT_ROOM, inserted);
@@ -110,6 +123,7 @@ static void measure_edit(const struct bisquemop_settings *s, size_t len, uint64_
     size_t start = table[BISQUEMOP_LINE_NUMBERS * first + BISQUEMOP_LINE_START];
     MEASURE(lay_again, bisquemop_settings_lay_again(s, edited + start, len - start, TABLE, lines, e.a, e.b, e.inserted,
                                                     &value, &laid));
+    MEASURE(index_again, bisquemop_settings_index_again(s, TABLE, value, first, INDEX, &laid));
 }
 
 int main(int argc, char **argv)
@@ -126,6 +140,7 @@ int main(int argc, char **argv)
         measure_small(&s, len);
         measure_layout(&s, len, &lines);
         measure_lines(&s, len, lines);
+        measure_index(&s, lines);
         measure_edit(&s, len, lines);
     }
     for (int call = 0; call < CALL_COUNT; call++) {

@@ -13,6 +13,9 @@
  *   bisquemop_lay_again        after an edit, lays what changed and moves the other lines of the table
  *   bisquemop_height           how high a laid text is
  *   bisquemop_line_y           where a line stands, and whether it shows
+ *   bisquemop_index            where every line stands: an index of their ys
+ *   bisquemop_index_again      after an edit, the ys that changed
+ *   bisquemop_find_line        the line under a y, as a tap has one
  *
  * Those that take thirteen settings have a twin bisquemop_settings_.. that takes a struct of them.
  *
@@ -61,7 +64,9 @@ enum bisquemop_refusal {
     BISQUEMOP_BAD_LINE = 5,             /* the first bad line of the table; 0 for one line's bad start or bad rest */
     BISQUEMOP_BAD_EDIT = 6,             /* 0 */
     /* 7 is not used. It was for a line that breaks without taking a character, and there is none: that is proved */
-    BISQUEMOP_TOO_SMALL = 8             /* how many lines, tokens or events the buffer must have room for */
+    BISQUEMOP_TOO_SMALL = 8,            /* how many lines, tokens, events or ys the buffer must have room for */
+    BISQUEMOP_BAD_INDEX = 10            /* the index's length if it is not the count of lines; else the first line whose
+                                           y is smaller than that of the line before it */
 };
 
 /* How a line stands between the sides of the box. */
@@ -137,6 +142,9 @@ enum bisquemop_showing {
     BISQUEMOP_SHOWS = 1,
     BISQUEMOP_NO_LINE = 2 /* there is no such line */
 };
+
+/* What *value is where a call looked for a line and there is none. */
+#define BISQUEMOP_NONE UINT64_MAX
 
 /* The columns of a token: token k's number of a column stands at BISQUEMOP_TOKEN_NUMBERS * k + the column. */
 enum bisquemop_token_column {
@@ -482,6 +490,69 @@ static inline uint32_t bisquemop_settings_line_y(const struct bisquemop_settings
                             s->alignment, s->vertical, s->leading, s->trailing, s->wrap, table, table_len, lines, line,
                             value, y);
 }
+
+/*
+ * Writes the y of each of a text's `lines` lines, which the `table_len` numbers at `table` hold, to `index`, which has
+ * `index_len` numbers: the y that bisquemop_line_y answers, line 0's first. No y is smaller than the one before it, and
+ * lines joined by a carriage return share theirs. Numbers past the last line keep what they held. The table is only
+ * read. Returns
+ *   BISQUEMOP_OK                    done; *value is `lines`
+ *   BISQUEMOP_SETTING_OUT_OF_RANGE  as by bisquemop_check_settings; *value is 0
+ *   BISQUEMOP_UNKNOWN_ALIGNMENT     as by bisquemop_check_settings; *value is the number that was given
+ *   BISQUEMOP_BAD_LINE              as by bisquemop_first_affected; *value is the first bad line
+ *   BISQUEMOP_TOO_SMALL             `index` has no room for all; *value is `lines`
+ */
+uint32_t bisquemop_index(uint32_t glyph, uint32_t width, uint32_t tab, uint32_t spacing, uint32_t paragraph,
+                         uint32_t base, uint32_t height, int32_t top, uint32_t alignment, uint32_t vertical,
+                         uint32_t leading, uint32_t trailing, uint32_t wrap, const uint32_t *table, uint64_t table_len,
+                         uint64_t lines, int32_t *index, uint64_t index_len, uint64_t *value);
+
+/* The same for settings in a struct, which must not be NULL. */
+static inline uint32_t bisquemop_settings_index(const struct bisquemop_settings *s, const uint32_t *table,
+                                                uint64_t table_len, uint64_t lines, int32_t *index, uint64_t index_len,
+                                                uint64_t *value)
+{
+    return bisquemop_index(s->glyph, s->width, s->tab, s->spacing, s->paragraph, s->base, s->height, s->top,
+                           s->alignment, s->vertical, s->leading, s->trailing, s->wrap, table, table_len, lines, index,
+                           index_len, value);
+}
+
+/*
+ * Brings an index up to date after an edit. `table` and `lines` are those of the new text, as bisquemop_lay_again left
+ * them; `first` is the first affected line, as bisquemop_first_affected answered it; `index` holds the ys of the old
+ * text's lines, by these settings. It then holds exactly what bisquemop_index writes for the new table. With the text
+ * at the top of its box, only the ys from line `first` on are written: where `first` is past the last line, none. In
+ * the middle and at the bottom every line moves with the text's height, and all are written. Returns what
+ * bisquemop_index returns: the room must be enough for the new lines.
+ */
+uint32_t bisquemop_index_again(uint32_t glyph, uint32_t width, uint32_t tab, uint32_t spacing, uint32_t paragraph,
+                               uint32_t base, uint32_t height, int32_t top, uint32_t alignment, uint32_t vertical,
+                               uint32_t leading, uint32_t trailing, uint32_t wrap, const uint32_t *table,
+                               uint64_t table_len, uint64_t lines, uint64_t first, int32_t *index, uint64_t index_len,
+                               uint64_t *value);
+
+/* The same for settings in a struct, which must not be NULL. */
+static inline uint32_t bisquemop_settings_index_again(const struct bisquemop_settings *s, const uint32_t *table,
+                                                      uint64_t table_len, uint64_t lines, uint64_t first,
+                                                      int32_t *index, uint64_t index_len, uint64_t *value)
+{
+    return bisquemop_index_again(s->glyph, s->width, s->tab, s->spacing, s->paragraph, s->base, s->height, s->top,
+                                 s->alignment, s->vertical, s->leading, s->trailing, s->wrap, table, table_len, lines,
+                                 first, index, index_len, value);
+}
+
+/*
+ * Says which line is under `y`: the last whose y is at most that, of lines joined by a carriage return the last. The
+ * `table_len` numbers at `table` hold a text's `lines` lines, and the `index_len` numbers at `index` their ys, as many
+ * as there are lines. An index that bisquemop_index wrote for this table is never refused. Table and index are only
+ * read. Returns
+ *   BISQUEMOP_OK         done; *value is the line, counted from 0, or BISQUEMOP_NONE if `y` is above all lines
+ *   BISQUEMOP_BAD_LINE   as by bisquemop_first_affected; *value is the first bad line
+ *   BISQUEMOP_BAD_INDEX  `index_len` is not `lines`; *value is `index_len`. Or a y is smaller than the one before it;
+ *                        *value is the first such line
+ */
+uint32_t bisquemop_find_line(const uint32_t *table, uint64_t table_len, uint64_t lines, const int32_t *index,
+                             uint64_t index_len, int32_t y, uint64_t *value);
 
 #ifdef __cplusplus
 }

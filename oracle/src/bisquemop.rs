@@ -22,6 +22,8 @@ pub enum Refusal {
     BadEdit,
     /// 8, and how many entries the first buffer that is too small needs.
     TooSmall(u64),
+    /// 10, and the index's length or the first line whose y is too small.
+    BadIndex(u64),
 }
 
 /// The old text's bytes from `a` up to `b` are replaced by `inserted` new ones.
@@ -79,6 +81,12 @@ mod c {
         bisquemop_line_y(
             table: *const u32, table_len: u64, lines: u64, line: u64, value: *mut u64, y: *mut i32
         );
+        bisquemop_index(
+            table: *const u32, table_len: u64, lines: u64, index: *mut i32, index_len: u64, value: *mut u64
+        );
+        bisquemop_index_again(
+            table: *const u32, table_len: u64, lines: u64, first: u64, index: *mut i32, index_len: u64, value: *mut u64
+        );
     }
 
     extern "C" {
@@ -91,6 +99,15 @@ mod c {
             a: u32,
             b: u32,
             inserted: u32,
+            value: *mut u64,
+        ) -> u32;
+        pub fn bisquemop_find_line(
+            table: *const u32,
+            table_len: u64,
+            lines: u64,
+            index: *const i32,
+            index_len: u64,
+            y: i32,
             value: *mut u64,
         ) -> u32;
     }
@@ -117,6 +134,7 @@ fn answer(number: u32, value: u64) -> Result<u64, Refusal> {
         5 => Refusal::BadLine(value),
         6 if value == 0 => Refusal::BadEdit,
         8 => Refusal::TooSmall(value),
+        10 => Refusal::BadIndex(value),
         _ => panic!("the library answered {number} and {value}, which is no refusal"),
     };
     Err(refusal)
@@ -279,4 +297,32 @@ pub fn line_y(settings: &Settings, table: &[u32], lines: u64, line: u64) -> Resu
     assert!(found <= 2, "the library answered {found} for a line's place");
     assert!((found == 2) == (y == NO_PLACE), "the library wrote a y that it should not, or did not write it");
     Ok((found < 2).then_some(Place { y, shows: found == 1 }))
+}
+
+/// How many ys were written, one a line.
+pub fn index(settings: &Settings, table: &[u32], lines: u64, index: &mut [i32]) -> Result<u64, Refusal> {
+    let mut value = 0;
+    let (ys, room) = (index.as_mut_ptr(), len_of(index));
+    // SAFETY: pointers and lengths are those of two slices, one lent for reading and one for writing, which cannot overlap.
+    let number = unsafe { call!(bisquemop_index, settings, table.as_ptr(), len_of(table), lines, ys, room, &mut value) };
+    answer(number, value)
+}
+
+/// The same after an edit, of which this is the first affected line.
+pub fn index_again(settings: &Settings, table: &[u32], lines: u64, first: u64, index: &mut [i32]) -> Result<u64, Refusal> {
+    let mut value = 0;
+    let (ys, room) = (index.as_mut_ptr(), len_of(index));
+    // SAFETY: pointers and lengths are those of two slices, one lent for reading and one for writing, which cannot overlap.
+    let number =
+        unsafe { call!(bisquemop_index_again, settings, table.as_ptr(), len_of(table), lines, first, ys, room, &mut value) };
+    answer(number, value)
+}
+
+/// The line under a y; none if all lines are below it.
+pub fn find_line(table: &[u32], lines: u64, index: &[i32], y: i32) -> Result<Option<u64>, Refusal> {
+    let mut value = 0;
+    // SAFETY: pointers and lengths are those of two slices that are lent for reading.
+    let number =
+        unsafe { c::bisquemop_find_line(table.as_ptr(), len_of(table), lines, index.as_ptr(), len_of(index), y, &mut value) };
+    answer(number, value).map(|line| (line != u64::MAX).then_some(line))
 }

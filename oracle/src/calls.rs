@@ -50,6 +50,7 @@ pub fn run(claims: &mut Claims, _specs: &str) {
     tables(claims);
     again(claims);
     places(claims);
+    indexes(claims);
 }
 
 fn checks(claims: &mut Claims) {
@@ -221,4 +222,32 @@ fn places(claims: &mut Claims) {
     claims.equal("line_y at a retired setting", bisquemop::line_y(&bad, &table, lines, 0), Err(Refusal::SettingOutOfRange));
     let bad = Settings { wrap: 2, vertical: 3, ..EXAMPLE };
     claims.equal("line_y at an unknown wrap", bisquemop::line_y(&bad, &table, lines, 0), Err(Refusal::SettingOutOfRange));
+}
+
+fn indexes(claims: &mut Claims) {
+    let (table, lines) = table_of(&EXAMPLE, "aa\nbb\rcc");
+    let made = |settings: &Settings, lines, room| {
+        let mut ys = vec![7; room];
+        let answer = bisquemop::index(settings, &table, lines, &mut ys);
+        (answer, ys)
+    };
+    claims.equal("index", made(&EXAMPLE, lines, 4), (Ok(3), vec![-5, 8, 8, 7]));
+    claims.equal("index in too little room", made(&EXAMPLE, lines, 2), (Err(Refusal::TooSmall(3)), vec![7, 7]));
+    claims.equal("index of no line", made(&EXAMPLE, 0, 1), (Err(Refusal::BadLine(0)), vec![7]));
+    let bad = Settings { vertical: 3, ..EXAMPLE };
+    claims.equal("index at an unknown alignment", made(&bad, lines, 3), (Err(Refusal::UnknownAlignment(3)), vec![7, 7, 7]));
+    let again = |vertical, first| {
+        let mut ys = vec![7; 3];
+        let answer = bisquemop::index_again(&Settings { vertical, ..EXAMPLE }, &table, lines, first, &mut ys);
+        (answer, ys)
+    };
+    claims.equal("index_again at the top", again(0, 1), (Ok(3), vec![7, 8, 8]));
+    claims.equal("index_again past the last line", again(0, 3), (Ok(3), vec![7, 7, 7]));
+    claims.equal("index_again at the bottom", again(2, 1), (Ok(3), vec![14, 27, 27]));
+    let found = |ys: &[i32], y| bisquemop::find_line(&table, lines, ys, y);
+    claims.equal("find_line above all", found(&[-5, 8, 8], -6), Ok(None));
+    claims.equal("find_line", found(&[-5, 8, 8], 7), Ok(Some(0)));
+    claims.equal("find_line of two that share a y", found(&[-5, 8, 8], 8), Ok(Some(2)));
+    claims.equal("find_line in an index that is short", found(&[-5, 8], 8), Err(Refusal::BadIndex(2)));
+    claims.equal("find_line in an index that falls", found(&[-5, 8, 7], 8), Err(Refusal::BadIndex(2)));
 }

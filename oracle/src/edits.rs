@@ -40,6 +40,14 @@ impl Page {
         let rows = self.table.chunks_exact(LINE_NUMBERS).take(self.lines as usize);
         rows.map(|row| row.try_into().expect("as many numbers")).collect()
     }
+
+    /// The ys of its lines, by a vertical alignment.
+    fn index(&self, vertical: u32) -> Vec<i32> {
+        let mut ys = vec![0; self.lines as usize];
+        let settings = Settings { vertical, ..self.settings };
+        bisquemop::index(&settings, &self.table, self.lines, &mut ys).expect("a good table and room");
+        ys
+    }
 }
 
 /// An edit of a text, and what it puts in.
@@ -116,6 +124,23 @@ fn refused(part: &[u8], first: u64, entry: &Entry) -> Refusal {
     }
 }
 
+/// Holds the index that is made again to the one of the new text, by a vertical alignment. At the top no y before the first affected
+/// line is written.
+fn hold_index(page: &Page, fresh: &Page, first: u64, vertical: u32, mut ys: Vec<i32>) -> Result<(), String> {
+    let settings = Settings { vertical, ..page.settings };
+    let mut expected = fresh.index(vertical);
+    ys.resize(expected.len(), 0);
+    if vertical == 0 && first > 0 {
+        let last = first as usize - 1;
+        (ys[last], expected[last]) = (i32::MIN, i32::MIN);
+    }
+    let answer = bisquemop::index_again(&settings, &page.table, fresh.lines, first, &mut ys);
+    if answer != Ok(fresh.lines) || ys != expected {
+        return Err(format!("at vertical alignment {vertical} the index is {answer:?} {ys:?}, and not {expected:?}"));
+    }
+    Ok(())
+}
+
 /// Holds one edit to the layout of the new text. Says what is wrong, if anything is.
 fn hold(page: &mut Page, change: Change, found: &mut Found) -> Result<(), String> {
     let Change { edit, new } = change;
@@ -130,6 +155,7 @@ fn hold(page: &mut Page, change: Change, found: &mut Found) -> Result<(), String
         return Err(format!("the first affected line is {affected:?}, and not {first}"));
     }
     let part = &fresh.text.as_bytes()[old[first][START] as usize..];
+    let old_ys = [0, 1, 2].map(|vertical| page.index(vertical));
 
     // A refusal writes nothing: a part of a wrong length, and a table without room for the last line.
     let before = page.table.clone();
@@ -158,6 +184,9 @@ fn hold(page: &mut Page, change: Change, found: &mut Found) -> Result<(), String
     }
     if page.table[count..] != before[count..] {
         return Err("entries past the new count do not hold what they held".into());
+    }
+    for (vertical, ys) in old_ys.into_iter().enumerate() {
+        hold_index(page, &fresh, first as u64, vertical as u32, ys)?;
     }
     found.edits += 1;
     found.lines += fresh.lines;

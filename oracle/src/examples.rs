@@ -71,6 +71,7 @@ pub fn run(specs: &str) -> bool {
         ("layouts after the edits in EditExamples.antt", edits),
         ("tokens in SmallExamples.antt", tokens),
         ("heights in SmallExamples.antt", heights),
+        ("indexes of ys in IndexExamples.antt", indexes),
         #[cfg(library)]
         ("the library's calls and their refusals", crate::calls::run),
     ] {
@@ -189,13 +190,37 @@ fn tokens(claims: &mut Claims, specs: &str) {
     }
 }
 
-/// Heights and the first two lines' y: spacing 10, paragraph 3, base 8, box top -5.
-fn heights(claims: &mut Claims, specs: &str) {
-    let signed = |value: &antt::Value| match value.applied() {
+fn signed(value: &antt::Value) -> i32 {
+    match value.applied() {
         ("pos", n) => n[0].number() as i32,
         ("negsuc", n) => -(n[0].number() as i32) - 1,
         other => panic!("{other:?} is no signed number"),
-    };
+    }
+}
+
+/// Indexes of ys, and the line under a y, by the same settings as heights.
+fn indexes(claims: &mut Claims, specs: &str) {
+    for example in antt::table(&file(specs, "IndexExamples.antt"), "indexExamples") {
+        let (_, values) = example.applied();
+        let (_, standing) = values[0].applied();
+        let settings = Settings { height: standing[0].number(), vertical: standing[1].number(), ..EXAMPLE };
+        let (text, y) = (values[1].text(), signed(&values[3]));
+        let index: Vec<i32> = values[2].list().iter().map(signed).collect();
+        let under = match values[4].applied() {
+            ("Line", line) => Some(line[0].number().into()),
+            _ => None,
+        };
+        let name = || format!("{} at {}", show::text(text), show::settings(&settings, true));
+        let (laid, _) = by_rules(&settings, text);
+        let ys = model::places(&settings, model::height(&settings, text.len() as u32, &laid.lines), &laid.lines);
+        claims.claim(ys == index, || format!("index of {}: rules {ys:?}, example {index:?}", name()));
+        let found = model::line_under(&ys, y);
+        claims.claim(found == under, || format!("line under {y} of {}: rules {found:?}, example {under:?}", name()));
+    }
+}
+
+/// Heights and the first two lines' y: spacing 10, paragraph 3, base 8, box top -5.
+fn heights(claims: &mut Claims, specs: &str) {
     for example in antt::table(&file(specs, "SmallExamples.antt"), "heightExamples") {
         let (_, values) = example.applied();
         let (_, standing) = values[0].applied();

@@ -89,6 +89,18 @@ impl Library {
         }
         Ok(places)
     }
+
+    /// The index of the last layout.
+    pub fn index(&self, settings: &Settings) -> Result<Vec<i32>, Refusal> {
+        let mut ys = vec![0; self.lines as usize];
+        bisquemop::index(settings, &self.table, self.lines, &mut ys)?;
+        Ok(ys)
+    }
+
+    /// The line of the last layout under a y.
+    pub fn line_under(&self, ys: &[i32], y: i32) -> Result<Option<u64>, Refusal> {
+        bisquemop::find_line(&self.table, self.lines, ys, y)
+    }
 }
 
 impl Sides {
@@ -142,7 +154,8 @@ impl Sides {
         }
     }
 
-    /// The table without events, the height, and each line's y and whether it shows, of the layout just compared.
+    /// The table without events, the height, each line's y and whether it shows, the index of the ys and lines found in it, of the
+    /// layout just compared.
     fn library_places(&mut self, settings: &Settings, text: &str, tally: &mut Tally) {
         tally.library_places += 1;
         let mut hold = |same: bool, what: &str| {
@@ -157,5 +170,9 @@ impl Sides {
         hold(self.library.height(settings) == Ok(height.into()), "height");
         let places = ys.iter().map(|&y| (y, model::shows(settings, y))).collect();
         hold(self.library.places(settings) == Ok(places), "y, or whether a line shows");
+        hold(self.library.index(settings).as_ref() == Ok(&ys), "index of ys");
+        let taps = [ys[0] - 1, ys[0], ys[ys.len() / 2], ys[ys.len() / 2] + 1, ys[ys.len() - 1], i32::MAX];
+        let under = |y| self.library.line_under(&ys, y) == Ok(model::line_under(&ys, y));
+        hold(taps.into_iter().all(under), "line under a y");
     }
 }

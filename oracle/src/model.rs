@@ -570,6 +570,11 @@ pub fn height(settings: &Settings, text_len: u32, lines: &[Line]) -> u32 {
     settings.base + all - if unseen { settings.spacing } else { 0 }
 }
 
+/// The line under a y: the last whose y is at most that.
+pub fn line_under(ys: &[i32], y: i32) -> Option<u64> {
+    ys.iter().rposition(|&place| place <= y).map(|line| line as u64)
+}
+
 /// Rule 11: each line's y, for a text of a given height.
 pub fn places(settings: &Settings, height: u32, lines: &[Line]) -> Vec<i32> {
     let difference = settings.height as i32 - height as i32;

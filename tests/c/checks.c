@@ -53,6 +53,8 @@ int main(int count, char **words)
     test_tables();
     printf("heights\n");
     test_heights();
+    printf("indexes of ys\n");
+    test_index();
 #ifndef SMALL_MEMORY
     printf("laying again\n");
     test_again();

@@ -355,6 +355,74 @@ void expect_y(const char *what, struct bisquemop_settings s, const uint32_t *tab
     compare_lent(what, table_len, table, table_len);
 }
 
+/* An index that a call is lent, between the guards: noise, or a copy of the ys at `index`. */
+static int32_t *lend_index(const int32_t *index, size_t room)
+{
+    uint32_t *buffer = lend_in(lent_for_events, room);
+    if (buffer != NULL && index != NULL) {
+        memcpy(buffer, index, room * sizeof *index);
+    }
+    return (int32_t *)buffer;
+}
+
+static void compare_index(const char *what, size_t room, const int32_t *written, size_t count)
+{
+    compare_in(lent_for_events, what, room, (const uint32_t *)written, count);
+}
+
+void expect_index(const char *what, struct bisquemop_settings s, const uint32_t *table, size_t table_len,
+                  uint64_t lines, size_t room, uint32_t number, uint64_t value, const int32_t *written)
+{
+    for (int spread = 0; spread < 2; spread++) {
+        struct answer a = no_answer();
+        const uint32_t *copy = lend_table(table, table_len);
+        int32_t *index = lend_index(NULL, room);
+        a.number = spread
+                       ? bisquemop_settings_index(&s, copy, table_len, lines, index, room, &a.value)
+                       : bisquemop_index(s.glyph, s.width, s.tab, s.spacing, s.paragraph, s.base, s.height, s.top,
+                                         s.alignment, s.vertical, s.leading, s.trailing, s.wrap, copy, table_len,
+                                         lines, index, room, &a.value);
+        if (!compare(what, &a, number, value)) {
+            printf(", for %" PRIu64 " lines and %lu ys\n", lines, (unsigned long)room);
+        }
+        compare_index(what, room, written, number == BISQUEMOP_OK ? (size_t)lines : 0);
+        compare_lent(what, table_len, table, table_len);
+    }
+}
+
+void expect_index_again(const char *what, struct bisquemop_settings s, const uint32_t *table, size_t table_len,
+                        uint64_t lines, uint64_t first, const int32_t *index, size_t room, uint32_t number,
+                        uint64_t value, const int32_t *after)
+{
+    for (int spread = 0; spread < 2; spread++) {
+        struct answer a = no_answer();
+        const uint32_t *copy = lend_table(table, table_len);
+        int32_t *lent_index = lend_index(index, room);
+        a.number = spread ? bisquemop_settings_index_again(&s, copy, table_len, lines, first, lent_index, room, &a.value)
+                          : bisquemop_index_again(s.glyph, s.width, s.tab, s.spacing, s.paragraph, s.base, s.height,
+                                                  s.top, s.alignment, s.vertical, s.leading, s.trailing, s.wrap, copy,
+                                                  table_len, lines, first, lent_index, room, &a.value);
+        if (!compare(what, &a, number, value)) {
+            printf(", for %" PRIu64 " lines and %lu ys, from line %" PRIu64 " on\n", lines, (unsigned long)room, first);
+        }
+        compare_index(what, room, number == BISQUEMOP_OK ? after : index, room);
+        compare_lent(what, table_len, table, table_len);
+    }
+}
+
+void expect_found(const char *what, const uint32_t *table, size_t table_len, uint64_t lines, const int32_t *index,
+                  size_t index_len, int32_t y, uint32_t number, uint64_t value)
+{
+    struct answer a = no_answer();
+    const uint32_t *copy = lend_table(table, table_len);
+    a.number = bisquemop_find_line(copy, table_len, lines, lend_index(index, index_len), index_len, y, &a.value);
+    if (!compare(what, &a, number, value)) {
+        printf(", for %" PRIu64 " lines, %lu ys and y %" PRId32 "\n", lines, (unsigned long)index_len, y);
+    }
+    compare_index(what, index_len, index, index_len);
+    compare_lent(what, table_len, table, table_len);
+}
+
 /* A copy of the part that is lent, between letters that would make a word longer. */
 #define PART_ROOM (2 * BISQUEMOP_TEXT_MAX)
 

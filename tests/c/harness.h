@@ -59,6 +59,22 @@ void expect_height(const char *what, struct bisquemop_settings s, const uint32_t
 void expect_y(const char *what, struct bisquemop_settings s, const uint32_t *table, size_t table_len, uint64_t lines,
               uint64_t line, uint32_t number, uint64_t value, int32_t y);
 
+/*
+ * The same with an index of `room` ys to write, which holds noise. Where the call is done, its first ys must be those at
+ * `written`, one for each line.
+ */
+void expect_index(const char *what, struct bisquemop_settings s, const uint32_t *table, size_t table_len,
+                  uint64_t lines, size_t room, uint32_t number, uint64_t value, const int32_t *written);
+
+/* The same with an index that holds the `room` ys at `index`. Where the call is done, it must hold those at `after`. */
+void expect_index_again(const char *what, struct bisquemop_settings s, const uint32_t *table, size_t table_len,
+                        uint64_t lines, uint64_t first, const int32_t *index, size_t room, uint32_t number,
+                        uint64_t value, const int32_t *after);
+
+/* The same with a table and an index to read, which must stay as they were. */
+void expect_found(const char *what, const uint32_t *table, size_t table_len, uint64_t lines, const int32_t *index,
+                  size_t index_len, int32_t y, uint32_t number, uint64_t value);
+
 /* An edit: the old bytes from a up to b are replaced by so many others. */
 struct edit {
     uint32_t a, b, inserted;
@@ -107,6 +123,7 @@ void test_layout(void);
 void test_events(void);
 void test_tables(void);
 void test_heights(void);
+void test_index(void);
 void test_again(void);
 void test_refused(void);
 void test_wraps(void);

@@ -27,6 +27,7 @@ static uint64_t len;
 static uint32_t tokens[TOKENS], table[TABLE], events[EVENTS];
 static uint64_t lines;
 static uint32_t entry[BISQUEMOP_LINE_NUMBERS + 2];
+static int32_t ys[LONG + 2]; /* one more than a text has lines */
 
 /* One time in so many. */
 static int seldom(uint32_t times)
@@ -56,11 +57,11 @@ static uint32_t random_number(void)
 /* ---- the calls, each with all that it answers */
 
 /* How often each number was returned. */
-static unsigned long returned[BISQUEMOP_TOO_SMALL + 1];
+static unsigned long returned[BISQUEMOP_BAD_INDEX + 1];
 
 static void add_answer(uint32_t number, uint64_t value)
 {
-    if (number <= BISQUEMOP_TOO_SMALL) {
+    if (number <= BISQUEMOP_BAD_INDEX) {
         returned[number]++;
     }
     add_number(number);
@@ -158,6 +159,24 @@ static void ask_places(void)
     add_number((uint32_t)y);
 }
 
+/* The index, and a line looked for in it, which is spoiled at times. */
+static void ask_index(uint64_t first)
+{
+    uint64_t value = 0, room = random_room(LONG + 1), many = seldom(12) ? lines + 1 - below(3) : lines;
+    uint32_t number = first == 0 ? bisquemop_settings_index(&settings, table, TABLE, lines, ys, room, &value)
+                                 : bisquemop_settings_index_again(&settings, table, TABLE, lines, first, ys, room, &value);
+    add_answer(number, value);
+    for (uint64_t k = 0; k < lines + 8 && k < LONG + 2; k++) {
+        add_number((uint32_t)ys[k]);
+    }
+    if (seldom(12)) {
+        uint32_t where = below((uint32_t)lines);
+        ys[where] = (int32_t)below(200) - 100;
+    }
+    number = bisquemop_find_line(table, TABLE, lines, ys, many, (int32_t)below(200) - 100, &value);
+    add_answer(number, value);
+}
+
 /* ---- an edit */
 
 static struct edit make_edit(void)
@@ -192,6 +211,8 @@ static void ask_again(void)
     add_answer(number, value);
     add_long(laid);
     add_numbers(table, BISQUEMOP_LINE_NUMBERS * ((new_len > len ? new_len : len) + 1));
+    lines = number == BISQUEMOP_OK ? value : lines;
+    ask_index(first);
 }
 
 /* ---- the cases */
@@ -237,6 +258,7 @@ static void one_case(void)
         spoil_table();
     }
     ask_places();
+    ask_index(0);
     ask_again();
 }
 

@@ -8,6 +8,9 @@ use frames::frame::one_line;
 use frames::opening::open_text;
 use heights::height::line_y;
 use heights::height::text_height;
+use index::finding::find_line;
+use index::making::make_index;
+use index::making::make_index_again;
 use layout::drawn::layout_with_events;
 use layout::fresh::layout;
 use meaning::counts::Chars;
@@ -25,8 +28,12 @@ use replies::frame_number;
 use replies::frame_rest_count;
 use replies::frame_rest_end;
 use replies::frame_value;
+use replies::find_number;
+use replies::find_value;
 use replies::height_number;
 use replies::height_value;
+use replies::index_number;
+use replies::index_value;
 use replies::layout_number;
 use replies::layout_value;
 use replies::open_number;
@@ -45,8 +52,8 @@ ghost use mathlib.Core.Path.{_≡_};
 ghost use Rattle.meaning.specs.Settings.{settingsOf};
 ghost use Rattle.meaning.specs.Refusals.{checkedNumber, checkedValue};
 ghost use Rattle.meaning.specs.Checks.{checkSettings, checkText};
-ghost use Rattle.meaning.specs.Answers.{tokensNumber, tokensValue, layoutNumber, layoutValue, drawingNumber, drawingValue, drawingCount, openNumber, openValue, frameNumber, frameValue, frameRestEnd, frameRestCount, affectedNumber, affectedValue, relayNumber, relayValue, relayCount, heightNumber, heightValue, yNumber, yValue, yPlace};
-ghost use Rattle.meaning.specs.Calls.{tokensAnswer, tokensBuffer, layoutAnswer, layoutTable, drawingAnswer, drawingTable, drawingEvents, openAnswer, frameAnswer, frameEntry, affectedAnswer, relayAnswer, relayTable, heightAnswer, yAnswer};
+ghost use Rattle.meaning.specs.Answers.{tokensNumber, tokensValue, layoutNumber, layoutValue, drawingNumber, drawingValue, drawingCount, openNumber, openValue, frameNumber, frameValue, frameRestEnd, frameRestCount, affectedNumber, affectedValue, relayNumber, relayValue, relayCount, heightNumber, heightValue, yNumber, yValue, yPlace, indexNumber, indexValue, findNumber, findValue};
+ghost use Rattle.meaning.specs.Calls.{tokensAnswer, tokensBuffer, layoutAnswer, layoutTable, drawingAnswer, drawingTable, drawingEvents, openAnswer, frameAnswer, frameEntry, affectedAnswer, relayAnswer, relayTable, heightAnswer, yAnswer, indexAnswer, indexAfter, indexAgainAfter, findAnswer};
 ghost use Rattle.bisquemop.specs.Edits.{editOf, restFrom};
 
 // The settings from the thirteen numbers that C passes.
@@ -496,4 +503,109 @@ pub extern "C" fn bisquemop_line_y(
     *value = y_value(answer);
     put_y(answer, y);
     y_number(answer)
+}
+
+#[no_mangle]
+pub extern "C" fn bisquemop_index(
+    glyph: u32,
+    width: u32,
+    tab: u32,
+    spacing: u32,
+    paragraph: u32,
+    base: u32,
+    height: u32,
+    top: i32,
+    alignment: u32,
+    vertical: u32,
+    leading: u32,
+    trailing: u32,
+    wrap: u32,
+    table: &[u32],
+    lines: u64,
+    index: &mut [i32],
+    value: &mut u64,
+) -> u32
+    ensures { λ r. ⌜ r ≡ indexNumber (indexAnswer (settingsOf glyph width tab spacing paragraph base height top alignment vertical leading trailing wrap) (now (table .entry)) lines (now (index .entry))) ⌝ }
+    ensures { λ r. ⌜ now (index .exit) ≡ indexAfter (settingsOf glyph width tab spacing paragraph base height top alignment vertical leading trailing wrap) (now (table .entry)) lines (now (index .entry)) ⌝ }
+    ensures { λ r. ⌜ now (value .exit) ≡ indexValue (indexAnswer (settingsOf glyph width tab spacing paragraph base height top alignment vertical leading trailing wrap) (now (table .entry)) lines (now (index .entry))) ⌝ }
+{
+    let s = settings_from(
+        glyph,
+        width,
+        tab,
+        spacing,
+        paragraph,
+        base,
+        height,
+        top,
+        alignment,
+        vertical,
+        leading,
+        trailing,
+        wrap,
+    );
+    let answer = make_index(s, table, lines as usize, index);
+    *value = index_value(answer);
+    index_number(answer)
+}
+
+#[no_mangle]
+pub extern "C" fn bisquemop_index_again(
+    glyph: u32,
+    width: u32,
+    tab: u32,
+    spacing: u32,
+    paragraph: u32,
+    base: u32,
+    height: u32,
+    top: i32,
+    alignment: u32,
+    vertical: u32,
+    leading: u32,
+    trailing: u32,
+    wrap: u32,
+    table: &[u32],
+    lines: u64,
+    first: u64,
+    index: &mut [i32],
+    value: &mut u64,
+) -> u32
+    ensures { λ r. ⌜ r ≡ indexNumber (indexAnswer (settingsOf glyph width tab spacing paragraph base height top alignment vertical leading trailing wrap) (now (table .entry)) lines (now (index .entry))) ⌝ }
+    ensures { λ r. ⌜ now (index .exit) ≡ indexAgainAfter (settingsOf glyph width tab spacing paragraph base height top alignment vertical leading trailing wrap) (now (table .entry)) lines first (now (index .entry)) ⌝ }
+    ensures { λ r. ⌜ now (value .exit) ≡ indexValue (indexAnswer (settingsOf glyph width tab spacing paragraph base height top alignment vertical leading trailing wrap) (now (table .entry)) lines (now (index .entry))) ⌝ }
+{
+    let s = settings_from(
+        glyph,
+        width,
+        tab,
+        spacing,
+        paragraph,
+        base,
+        height,
+        top,
+        alignment,
+        vertical,
+        leading,
+        trailing,
+        wrap,
+    );
+    let answer = make_index_again(s, table, lines as usize, first as usize, index);
+    *value = index_value(answer);
+    index_number(answer)
+}
+
+#[no_mangle]
+pub extern "C" fn bisquemop_find_line(
+    table: &[u32],
+    lines: u64,
+    index: &[i32],
+    y: i32,
+    value: &mut u64,
+) -> u32
+    ensures { λ r. ⌜ r ≡ findNumber (findAnswer (now (table .entry)) lines (now (index .entry)) y) ⌝ }
+    ensures { λ r. ⌜ now (value .exit) ≡ findValue (findAnswer (now (table .entry)) lines (now (index .entry)) y) ⌝ }
+{
+    let answer = find_line(table, lines as usize, index, y);
+    *value = find_value(answer);
+    find_number(answer)
 }

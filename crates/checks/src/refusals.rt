@@ -1,5 +1,5 @@
 // Each refusal as a number, and the value that goes besides it.
-// Refusal 1, refusal 2, refusal 3, refusal 4, refusal 5, refusal 6, refusal 8.
+// Refusal 1, refusal 2, refusal 3, refusal 4, refusal 5, refusal 6, refusal 8, refusal 10.
 use meaning::refusals::Checked;
 use meaning::refusals::Refusal;
 ghost use mathlib.Core.Path.{_≡_};
@@ -16,6 +16,7 @@ pub fn number(r: Refusal) -> u32
         Refusal::BadLine(_) => 5,
         Refusal::BadEdit => 6,
         Refusal::TooSmall(_) => 8,
+        Refusal::BadIndex(_) => 10,
     }
 }
 
@@ -30,6 +31,7 @@ pub fn value(r: Refusal) -> u64
         Refusal::BadLine(line) => line,
         Refusal::BadEdit => 0,
         Refusal::TooSmall(needed) => needed,
+        Refusal::BadIndex(found) => found,
     }
 }
 

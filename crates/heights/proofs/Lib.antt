@@ -1,3 +1,4 @@
 pub mod Signs
 pub mod Upright
 pub mod Adding
+pub mod YsTurns

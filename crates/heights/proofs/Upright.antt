@@ -1,13 +1,13 @@
 -- The vertical offset, a line's y, and whether it shows, as 32-bit signed numbers.
 -- Assumes nothing.
 use Prim.Native.Nat.{ℕ, _+_, _≤_}
-use mathlib.Core.Path.{_≡_, sym, ap, _∙_}
+use mathlib.Core.Path.{_≡_, refl, sym, ap, _∙_}
 use mathlib.Core.Bool.{true, false, _&&_}
 use mathlib.Core.List.{List}
 use native.Mathlib.Omega.{arith}
 use borrow.Author.Tests.{eq-eqb, ne-eqb}
 use lib.Dec.{eqb}
-use lib.IntN.{ℤ, pos, _+ℤ_, _-ℤ_}
+use lib.IntN.{ℤ, pos, _+ℤ_, _-ℤ_, +ℤ-idr}
 use lib.Signed.{mag, leZ, quotZ}
 use mir.Val.{SFits, toZ, ofZ}
 use mir.Syntax.{w32}
@@ -16,9 +16,10 @@ use Rattle.basis.specs.Choice.{pick, pick-true, pick-false, pick-cases}
 use Rattle.meaning.specs.Table.{entriesIn}
 use Rattle.meaning.specs.Height.{heightOf, offsetOf, addedBefore, yOf, showsAt}
 use Rattle.meaning.specs.declared.settings.Settings.{Settings}
+use Rattle.meaning.specs.declared.line.Entry.{Entry}
 use Rattle.meaning.specs.declared.answers.LineY.the-variants.{Shows, Hidden}
 use Rattle.heights.specs.GoodSettings.{Measures}
-use Rattle.heights.specs.Heights.{shownAt, added-alone}
+use Rattle.heights.specs.Heights.{firstY, shownAt, added-alone}
 use Rattle.heights.proofs.Signs.{mag-sum, mag-less, mag-half, fits, kept, widened}
 
 module _ (s : Settings) (t : ℕ) where
@@ -95,33 +96,46 @@ module _ (s : Settings) (m : Measures s) where
     unfolding shownAt
     hidden e = rw (toZ-ofZ f) (sym (pick-false _ _ _ (rw (toZ-ofZ f) at e)))
 
--- The box top, an offset and what line ends add.
-module _ (top offset : ℤ) (added : ℕ) (p : mag top ≤ 4096) (q : mag offset ≤ 600000000) (r : added ≤ 600000000) where
-  sum-far : mag (top +ℤ offset) ≤ 600004097
+-- The box top and an offset.
+module _ (top offset : ℤ) (p : mag top ≤ 4096) (q : mag offset ≤ 600000000) where
+  pub sum-far : mag (top +ℤ offset) ≤ 600004097
   sum-far = omega (arith, mag-sum top offset)
 
   pub sum-fits : SFits w32 (toZ w32 (ofZ w32 top) +ℤ toZ w32 (ofZ w32 offset))
   sum-fits = rw (kept top (omega arith), kept offset (omega arith)) (fits (top +ℤ offset) (omega (arith, sum-far)))
 
-  sum-is : toZ w32 (ofZ w32 (toZ w32 (ofZ w32 top) +ℤ toZ w32 (ofZ w32 offset))) ≡ top +ℤ offset
+  pub sum-is : toZ w32 (ofZ w32 (toZ w32 (ofZ w32 top) +ℤ toZ w32 (ofZ w32 offset))) ≡ top +ℤ offset
   sum-is = rw (kept top (omega arith), kept offset (omega arith)) (kept (top +ℤ offset) (omega (arith, sum-far)))
 
-  y-far : mag (top +ℤ offset +ℤ pos added) ≤ 1200004098
-  y-far = omega (arith, sum-far, mag-sum (top +ℤ offset) (pos added))
+-- The first line's y and what line ends add.
+module _ (first : ℤ) (added : ℕ) (p : mag first ≤ 600004097) (r : added ≤ 600000000) where
+  y-far : mag (first +ℤ pos added) ≤ 1200004098
+  y-far = omega (arith, mag-sum first (pos added))
 
-  pub y-fits : SFits w32 (toZ w32 (ofZ w32 (toZ w32 (ofZ w32 top) +ℤ toZ w32 (ofZ w32 offset))) +ℤ toZ w32 added)
-  y-fits = rw (sum-is, widened added (omega arith)) (fits (top +ℤ offset +ℤ pos added) (omega (arith, y-far)))
+  pub y-fits : SFits w32 (toZ w32 (ofZ w32 first) +ℤ toZ w32 added)
+  y-fits = rw (kept first (omega arith), widened added (omega arith)) (fits (first +ℤ pos added) (omega (arith, y-far)))
 
-  pub y-is : toZ w32 (ofZ w32 (toZ w32 (ofZ w32 (toZ w32 (ofZ w32 top) +ℤ toZ w32 (ofZ w32 offset))) +ℤ toZ w32 added))
-      ≡ top +ℤ offset +ℤ pos added
-  y-is = rw (sum-is, widened added (omega arith)) (kept (top +ℤ offset +ℤ pos added) (omega (arith, y-far)))
+  pub y-is : toZ w32 (ofZ w32 (toZ w32 (ofZ w32 first) +ℤ toZ w32 added)) ≡ first +ℤ pos added
+  y-is = rw (kept first (omega arith), widened added (omega arith)) (kept (first +ℤ pos added) (omega (arith, y-far)))
 
--- The three parts of a line's y, as the code has found them.
-pub y-parts : (s : Settings) (t : List ℕ) (lines k h added : ℕ) (offset : ℤ) → k ≤ lines → offset ≡ offsetOf s h
-    → h ≡ heightOf s (entriesIn lines t)
-    → added ≡ addedBefore s k (entriesIn k t) → s .top +ℤ offset +ℤ pos added ≡ yOf s k (entriesIn lines t)
-unfolding yOf
-y-parts s t lines k h added offset l o e a =
-    let q : offset ≡ offsetOf s (heightOf s (entriesIn lines t)) = o ∙ ap (offsetOf s) e in
+-- The first line's y: at the top it is the box top, and nowhere is it far from 0.
+module _ (s : Settings) (es : List Entry) where
+  pub first-top : s .vertical ≡ 0 → s .top ≡ firstY s es
+  unfolding firstY
+  first-top e = sym (+ℤ-idr (s .top)) ∙ ap (λ (z : ℤ). s .top +ℤ z) (offset-top s (heightOf s es) e)
+
+  pub first-sum : (h : ℕ) (offset : ℤ) → offset ≡ offsetOf s h → h ≡ heightOf s es → s .top +ℤ offset ≡ firstY s es
+  unfolding firstY
+  first-sum h offset o e = ap (λ (z : ℤ). s .top +ℤ z) (o ∙ ap (offsetOf s) e)
+
+  pub first-near : Measures s → heightOf s es ≤ 536870976 → mag (firstY s es) ≤ 600004097
+  unfolding firstY
+  first-near m h = sum-far (s .top) (offsetOf s (heightOf s es)) (m .top) (offset-limit s m (heightOf s es) (offsetOf s (heightOf s es)) refl h)
+
+-- The parts of a line's y, as the code has found them.
+pub y-parts : (s : Settings) (t : List ℕ) (lines k added : ℕ) (first : ℤ) → k ≤ lines → first ≡ firstY s (entriesIn lines t)
+    → added ≡ addedBefore s k (entriesIn k t) → first +ℤ pos added ≡ yOf s k (entriesIn lines t)
+unfolding yOf firstY
+y-parts s t lines k added first l e a =
     let r : added ≡ addedBefore s k (entriesIn lines t) = a ∙ sym (added-alone s k lines t l) in
-    λ i. s .top +ℤ q i +ℤ pos (r i)
+    λ i. e i +ℤ pos (r i)

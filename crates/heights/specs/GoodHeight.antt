@@ -2,7 +2,7 @@
 -- Assumes nothing.
 use Prim.Native.Nat.{ℕ, _+_, _-_, _*_, _≤_, _<_}
 use mathlib.Core.Path.{_≡_, refl, sym, ap, _∙_}
-use mathlib.Core.List.{List, [], _∷_}
+use mathlib.Core.List.{List}
 use native.Mathlib.Omega.{arith}
 use borrow.Author.Tests.{lt-ltb, le-ltb}
 use lib.ListN.{length}
@@ -20,14 +20,10 @@ use Rattle.meaning.specs.declared.refusals.Checked.the-variants.{Good, Refused}
 use Rattle.meaning.specs.declared.answers.Height.the-variants as height
 use Rattle.meaning.specs.declared.answers.LineY.the-variants as liney
 use Rattle.laws.specs.TableLaws.{entries-length}
+use Rattle.laws.specs.TestOrder.{first-alone}
 use Rattle.table.specs.GoodTable.{table-room, table-count}
 use Rattle.heights.specs.GoodSettings.{Measures, measures}
 use Rattle.heights.specs.Heights.{notCounted, shownAt, height-counted, added-small}
-
-first-alone : (c : Checked) → firstOf (c ∷ []) ≡ c
-unfolding firstOf
-first-alone Good = refl
-first-alone (Refused r) = refl
 
 module _ (s : Settings) (t : List ℕ) (lines : ℕ) where
   pub height-checked : checkSettings s ≡ Good → checkHeight s t lines ≡ checkTable lines t

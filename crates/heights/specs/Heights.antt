@@ -7,12 +7,12 @@ use mathlib.Core.List.{List, [], _∷_}
 use native.Mathlib.Omega.{arith}
 use borrow.Author.Tests.{eqb-true}
 use lib.Dec.{eqb}
-use lib.IntN.{ℤ}
+use lib.IntN.{ℤ, _+ℤ_}
 use lib.ListN.{length, getD, drop}
 use lib.Seq.{getD-drop}
 use Rattle.basis.specs.Choice.{pick, pick-cases, by-test, and-true}
 use Rattle.meaning.specs.Table.{entryNumbers, entryIn, entriesIn}
-use Rattle.meaning.specs.Height.{endAdds, heightAdds, heightFrom, addedBefore, showsAt}
+use Rattle.meaning.specs.Height.{endAdds, heightAdds, heightFrom, heightOf, offsetOf, addedBefore, showsAt}
 use Rattle.meaning.specs.declared.settings.Settings.{Settings}
 use Rattle.meaning.specs.declared.line.Entry.{Entry}
 use Rattle.meaning.specs.declared.answers.LineY.{LineY}
@@ -25,6 +25,10 @@ notCounted s n [] = 0
 notCounted s n (e ∷ []) = 0
 notCounted s n (e ∷ f ∷ []) = pick (eqb (e .ending) 3 && eqb (f .start .0) n) (s .spacing .0) 0
 notCounted s n (e ∷ f ∷ g ∷ es) = notCounted s n (f ∷ g ∷ es)
+
+-- The y of line 0: the box top and the vertical offset.
+unfoldable pub firstY : Settings → List Entry → ℤ
+firstY s es = s .top +ℤ offsetOf s (heightOf s es)
 
 -- A line at y, and whether it shows.
 unfoldable pub shownAt : Settings → ℤ → LineY

@@ -16,9 +16,10 @@ ghost use Rattle.meaning.specs.Table.{entriesIn};
 ghost use Rattle.meaning.specs.Height.{heightOf, yOf};
 ghost use Rattle.meaning.specs.Calls.{checkHeight, heightAnswer, yAnswer};
 ghost use Rattle.meaning.specs.declared.refusals.Checked.the-variants.{Good};
+ghost use Rattle.heights.specs.Heights.{firstY};
 
 // Refusal 1, refusal 2 and refusal 5.
-fn check_height(s: Settings, table: &[u32], lines: usize) -> Checked
+pub fn check_height(s: Settings, table: &[u32], lines: usize) -> Checked
     ensures { λ r. ⌜ r ≡ checkHeight s (now (table .entry)) lines ⌝ }
 {
     match check_settings(s) {
@@ -47,14 +48,27 @@ pub fn text_height(s: Settings, table: &[u32], lines: usize) -> Height
     }
 }
 
+// The y of line 0: the box top and the vertical offset, for which no height is needed where the text stands at the top.
+pub fn first_y(s: Settings, table: &[u32], lines: usize) -> i32
+    requires { ⌜ checkHeight s (now table) lines ≡ Good ⌝ }
+    ensures { λ r. ⌜ r ≡ firstY s (entriesIn lines (now (table .entry))) ⌝ }
+{
+    let top = s.top;
+    if s.vertical == 0 {
+        return top;
+    }
+    let high = height_of(s, table, lines);
+    let offset = offset_of(s, high);
+    top + offset
+}
+
 fn y_of(s: Settings, table: &[u32], lines: usize, line: usize) -> i32
     requires { ⌜ (checkHeight s (now table) lines ≡ Good) × (line < lines) ⌝ }
     ensures { λ r. ⌜ r ≡ yOf s line (entriesIn lines (now (table .entry))) ⌝ }
 {
-    let high = height_of(s, table, lines);
-    let offset = offset_of(s, high);
+    let first = first_y(s, table, lines);
     let added = added_before(s, table, line);
-    s.top + offset + added as i32
+    first + added as i32
 }
 
 // A line's y, and whether it shows.

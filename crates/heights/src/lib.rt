@@ -2,3 +2,4 @@
 pub mod height;
 pub mod spacing;
 pub mod vertical;
+pub mod ys;

@@ -12,7 +12,7 @@ ghost use Rattle.heights.specs.GoodSettings.{Measures};
 ghost use Rattle.heights.specs.Heights.{notCounted};
 
 // What a line's end adds.
-fn end_adds(s: Settings, ending: u32) -> u32
+pub fn end_adds(s: Settings, ending: u32) -> u32
     requires { ⌜ Measures s ⌝ }
     ensures { λ r. ⌜ r ≡ endAdds s ending ⌝ }
 {

@@ -2,13 +2,14 @@
 -- holds a layout.
 -- Refusal 3, refusal 4, refusal 5, refusal 8.
 -- Assumes nothing.
-use Prim.Native.Nat.{ℕ, _*_, _≤_}
+use Prim.Native.Nat.{ℕ, _*_, _≤_, _<_}
 use native.Mathlib.Omega.{arith}
 use mathlib.Core.Path.{_≡_, refl, _∙_}
 use mathlib.Core.Bool.{Bool, true, false, not}
 use mathlib.Core.List.{List}
 use lib.ListN.{length}
-use borrow.Author.Tests.{le-ltb, le-leb, eq-eqb}
+use borrow.Author.Tests.{lt-ltb, le-ltb, le-leb, eq-eqb, ltb-false}
+use lib.Dec.{ltb}
 use Rattle.basis.specs.Choice.{pick, pick-true, pick-false}
 use Rattle.unicode.specs.Scalar.{Scalars}
 use Rattle.unicode.specs.Encoding.{size, encodeAll}
@@ -19,7 +20,8 @@ use Rattle.meaning.specs.Table.{entryNumbers, capacityOf, entriesIn}
 use Rattle.meaning.specs.WellFormed.{checkTable}
 use Rattle.meaning.specs.declared.settings.Settings.{Settings}
 use Rattle.meaning.specs.declared.refusals.Refusal.{Refusal}
-use Rattle.meaning.specs.declared.refusals.Checked.the-variants.{Good}
+use Rattle.meaning.specs.declared.refusals.Refusal.the-variants.{TooSmall}
+use Rattle.meaning.specs.declared.refusals.Checked.the-variants.{Good, Refused}
 use Rattle.laws.specs.TableLaws.{capacity-is}
 use Rattle.laws.specs.WellFormedLayout.{layout-good}
 
@@ -45,6 +47,20 @@ pub utf8-good : (cs : List ℕ) → Scalars cs → checkUtf8 (encodeAll cs) ≡ 
 unfolding checkUtf8
 utf8-good cs al =
     refuse-unless _ _ (eq-eqb _ _ (prefix-whole (encodeAll cs) .1 (record { scalars = cs; all = al; is = refl })))
+
+-- A buffer has room for as many as it needs, or has not.
+module _ (room needed : ℕ) where
+  pub has-room : needed ≤ room → Good ≡ checkRoom room needed
+  unfolding checkRoom refuseIf pick
+  has-room h = rw (le-ltb room needed h)
+
+  pub has-no-room : room < needed → Refused (TooSmall needed) ≡ checkRoom room needed
+  unfolding checkRoom refuseIf pick
+  has-no-room h = rw (lt-ltb room needed h)
+
+  pub room-is : checkRoom room needed ≡ Good → needed ≤ room
+  unfolding checkRoom
+  room-is h = ltb-false room needed (refuse-good (ltb room needed) (TooSmall needed) h)
 
 -- A table has room for as many lines as it has eleven numbers each.
 pub room-good : (n : ℕ) (table : List ℕ) → entryNumbers * n ≤ length table → checkRoom (capacityOf entryNumbers table) n ≡ Good

@@ -10,9 +10,13 @@ pub mod Demand3
 pub mod Demand3Calls
 pub mod EditChecks
 pub mod EditSettings
+pub mod FoundLines
 pub mod Fuel
 pub mod GoodChecks
 pub mod GoodLines
+pub mod IndexAgain
+pub mod IndexCalls
+pub mod Indexes
 pub mod InsideBox
 pub mod Kept
 pub mod LayoutBounds
@@ -20,6 +24,7 @@ pub mod LayoutCalls
 pub mod LineBounds
 pub mod LineLocal
 pub mod LineTokens
+pub mod LineUnder
 pub mod LineWidths
 pub mod LinesTake
 pub mod Local
@@ -39,6 +44,7 @@ pub mod RowInduction
 pub mod Runs
 pub mod SameLines
 pub mod Shift
+pub mod SignedOrder
 pub mod Spell
 pub mod Stands
 pub mod Steps
@@ -48,3 +54,4 @@ pub mod TestOrder
 pub mod TokenLaws
 pub mod TokensAgree
 pub mod WellFormedLayout
+pub mod WrittenYs

@@ -4,41 +4,24 @@ use Prim.Native.Nat.{ℕ, _*_, _≤_, _<_}
 use native.Mathlib.Omega.{arith}
 use mathlib.Core.Path.{_≡_, refl, sym, _∙_}
 use mathlib.Core.List.{List, [], _∷_}
-use borrow.Author.Tests.{lt-ltb, le-ltb, ltb-false}
-use lib.Dec.{ltb}
 use lib.ListN.{length}
-use Rattle.basis.specs.Choice.{pick}
 use Rattle.unicode.specs.Decoding.{decodeAll}
-use Rattle.meaning.specs.Checks.{refuseIf, firstOf, checkSettings, checkLength, checkUtf8, checkText, checkRoom}
+use Rattle.meaning.specs.Checks.{firstOf, checkSettings, checkLength, checkUtf8, checkText, checkRoom}
 use Rattle.meaning.specs.Layout.{rows}
 use Rattle.meaning.specs.Table.{entryNumbers, eventNumbers, capacityOf}
 use Rattle.meaning.specs.Calls.{textRows, textEntries, checkLayout}
 use Rattle.meaning.specs.declared.settings.Settings.{Settings}
 use Rattle.meaning.specs.declared.refusals.Refusal.{Refusal}
-use Rattle.meaning.specs.declared.refusals.Refusal.the-variants.{TooSmall}
 use Rattle.meaning.specs.declared.refusals.Checked.{Checked}
 use Rattle.meaning.specs.declared.refusals.Checked.the-variants.{Good, Refused}
 use Rattle.laws.specs.TableLaws.{capacity-is}
-use Rattle.laws.specs.GoodChecks.{refuse-good}
+use Rattle.laws.specs.GoodChecks.{has-room, room-is}
 use Rattle.laws.specs.TestOrder.{first-alone, first-refused, first-good}
 use Rattle.rows.specs.RowsFrom.{TextReady, entriesOf, entries-are, few-entries}
 use Rattle.layout.specs.EventsFrom.{eventsOf, few-events}
 use Rattle.rows.specs.GoodInput.{text-ready}
 
 -- ---- the room of a buffer (8)
-
-module _ (room needed : ℕ) where
-  pub has-room : needed ≤ room → Good ≡ checkRoom room needed
-  unfolding checkRoom refuseIf pick
-  has-room h = rw (le-ltb room needed h)
-
-  pub has-no-room : room < needed → Refused (TooSmall needed) ≡ checkRoom room needed
-  unfolding checkRoom refuseIf pick
-  has-no-room h = rw (lt-ltb room needed h)
-
-  pub room-is : checkRoom room needed ≡ Good → needed ≤ room
-  unfolding checkRoom
-  room-is h = ltb-false room needed (refuse-good (ltb room needed) (TooSmall needed) h)
 
 -- A table with a line more than the text has bytes has room, and so has an event buffer with an event for each byte.
 pub lines-fit : (s : Settings) (t table : List ℕ) → length t < capacityOf entryNumbers table

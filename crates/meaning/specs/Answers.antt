@@ -1,5 +1,5 @@
 -- What the scope's numbers are for each answer: 0 where a call was done, else the refusal's number; and the values besides.
--- Refusal 1, refusal 2, refusal 3, refusal 4, refusal 5, refusal 6, refusal 8.
+-- Refusal 1, refusal 2, refusal 3, refusal 4, refusal 5, refusal 6, refusal 8, refusal 10.
 -- Assumes nothing.
 use Prim.Native.Nat.{ℕ}
 use lib.IntN.{ℤ}
@@ -22,6 +22,10 @@ use Rattle.meaning.specs.declared.answers.Height.{Height}
 use Rattle.meaning.specs.declared.answers.Height.the-variants as height
 use Rattle.meaning.specs.declared.answers.LineY.{LineY}
 use Rattle.meaning.specs.declared.answers.LineY.the-variants as liney
+use Rattle.meaning.specs.declared.answers.Indexed.{Indexed}
+use Rattle.meaning.specs.declared.answers.Indexed.the-variants as indexed
+use Rattle.meaning.specs.declared.answers.FoundLine.{FoundLine}
+use Rattle.meaning.specs.declared.answers.FoundLine.the-variants as found
 
 abbrev pub tokensNumber : Tokenized → ℕ
 tokensNumber (tokenized.Tokens n) = 0
@@ -125,3 +129,25 @@ yPlace (liney.Shows y) old = y
 yPlace (liney.Hidden y) old = y
 yPlace liney.NoLine old = old
 yPlace (liney.Refused r) old = old
+
+abbrev pub indexNumber : Indexed → ℕ
+indexNumber (indexed.Lines n) = 0
+indexNumber (indexed.Refused r) = numberOf r
+
+abbrev pub indexValue : Indexed → ℕ
+indexValue (indexed.Lines n) = n
+indexValue (indexed.Refused r) = besides r
+
+abbrev pub findNumber : FoundLine → ℕ
+findNumber (found.Line k) = 0
+findNumber found.NoLine = 0
+findNumber (found.Refused r) = numberOf r
+
+-- What stands for no line: no table has so many.
+abbrev pub noLineNumber : ℕ
+noLineNumber = 18446744073709551615
+
+abbrev pub findValue : FoundLine → ℕ
+findValue (found.Line k) = k
+findValue found.NoLine = noLineNumber
+findValue (found.Refused r) = besides r

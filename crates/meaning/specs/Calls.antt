@@ -1,11 +1,12 @@
 -- What each public call answers, and what each buffer that it is lent holds afterwards, from what it was lent alone.
 -- A text is a list of bytes here, and a table or buffer a list of numbers.
--- Refusal 1, refusal 2, refusal 3, refusal 4, refusal 5, refusal 6, refusal 8, laying again.
+-- Refusal 1, refusal 2, refusal 3, refusal 4, refusal 5, refusal 6, refusal 8, refusal 10, laying again.
 -- Assumes nothing.
 use Prim.Native.Nat.{ℕ}
 use mathlib.Core.Bool.{not}
 use mathlib.Core.List.{List, [], _∷_, map}
 use lib.Dec.{ltb}
+use lib.IntN.{ℤ}
 use lib.ListN.{length}
 use Rattle.basis.specs.Choice.{pick}
 use Rattle.unicode.specs.Decoding.{decodeAll}
@@ -17,6 +18,7 @@ use Rattle.meaning.specs.WellFormed.{checkTable}
 use Rattle.meaning.specs.Edit.{unaffected, affected, checkWhole, checkRest, checkOrder, checkEdit, again, linesAgain}
 use Rattle.meaning.specs.Frames.{standGood, oneLine}
 use Rattle.meaning.specs.Height.{heightOf, yOf, showsAt}
+use Rattle.meaning.specs.YIndex.{indexOf, keptBefore, writtenFrom, checkIndex, findIn}
 use Rattle.meaning.specs.declared.settings.Settings.{Settings}
 use Rattle.meaning.specs.declared.tokens.Token.{Token}
 use Rattle.meaning.specs.declared.edit.Edit.{Edit}
@@ -44,6 +46,10 @@ use Rattle.meaning.specs.declared.answers.Height.{Height}
 use Rattle.meaning.specs.declared.answers.Height.the-variants as height
 use Rattle.meaning.specs.declared.answers.LineY.{LineY}
 use Rattle.meaning.specs.declared.answers.LineY.the-variants as liney
+use Rattle.meaning.specs.declared.answers.Indexed.{Indexed}
+use Rattle.meaning.specs.declared.answers.Indexed.the-variants as indexed
+use Rattle.meaning.specs.declared.answers.FoundLine.{FoundLine}
+use Rattle.meaning.specs.declared.answers.FoundLine.the-variants as found
 
 -- ---- tokens
 
@@ -178,3 +184,30 @@ yAnswer s table lines k =
     let y = yOf s k (entriesIn lines table) in
     answered (checkHeight s table lines)
     (pick (ltb k lines) (pick (showsAt s y) (liney.Shows y) (liney.Hidden y)) liney.NoLine) liney.Refused
+
+-- ---- the index of ys, made and made again: 1, 2, 5, 8
+
+unfoldable pub checkIndexing : Settings → List ℕ → (lines room : ℕ) → Checked
+checkIndexing s table lines room = firstOf (checkSettings s ∷ checkTable lines table ∷ checkRoom room lines ∷ [])
+
+unfoldable pub indexAnswer : Settings → List ℕ → (lines : ℕ) → (index : List ℤ) → Indexed
+indexAnswer s table lines index = answered (checkIndexing s table lines (length index)) (indexed.Lines lines) indexed.Refused
+
+-- The index afterwards, where the entries of so many lines are kept.
+unfoldable pub indexFrom : (kept : ℕ) → Settings → List ℕ → (lines : ℕ) → (index : List ℤ) → List ℤ
+indexFrom kept s table lines index =
+    afterwards (checkIndexing s table lines (length index)) (writtenFrom kept index (indexOf s (entriesIn lines table))) index
+
+unfoldable pub indexAfter : Settings → List ℕ → (lines : ℕ) → (index : List ℤ) → List ℤ
+indexAfter s table lines index = indexFrom 0 s table lines index
+
+unfoldable pub indexAgainAfter : Settings → List ℕ → (lines first : ℕ) → (index : List ℤ) → List ℤ
+indexAgainAfter s table lines first index = indexFrom (keptBefore s first) s table lines index
+
+-- ---- the line under a y: 5, 10
+
+unfoldable pub checkFinding : List ℕ → (lines : ℕ) → (index : List ℤ) → Checked
+checkFinding table lines index = firstOf (checkTable lines table ∷ checkIndex lines index ∷ [])
+
+unfoldable pub findAnswer : List ℕ → (lines : ℕ) → (index : List ℤ) → (y : ℤ) → FoundLine
+findAnswer table lines index y = answered (checkFinding table lines index) (findIn y index) found.Refused

@@ -16,10 +16,12 @@ pub mod WellFormed
 pub mod Edit
 pub mod Frames
 pub mod Height
+pub mod YIndex
 pub mod Calls
 pub mod Answers
 pub mod Examples
 pub mod EditExamples
 pub mod FrameExamples
 pub mod SmallExamples
+pub mod IndexExamples
 pub mod StarredExamples

@@ -137,7 +137,7 @@ tables-hold = refl
 
 -- ---- height and y (rule 11): spacing 10, paragraph 3, base 8, a box 40 high at -5
 
-abbrev standing : (height vertical : ℕ) → Settings
+abbrev pub standing : (height vertical : ℕ) → Settings
 standing height vertical =
     record {
       glyph = record { 0 = 6 };

@@ -58,3 +58,16 @@ pub enum LineY {
     NoLine,
     Refused(Refusal),
 }
+
+// How many lines' ys the index now holds.
+pub enum Indexed {
+    Lines(u64),
+    Refused(Refusal),
+}
+
+// The last line with y at most the given one; or that every line stands below it.
+pub enum FoundLine {
+    Line(u64),
+    NoLine,
+    Refused(Refusal),
+}

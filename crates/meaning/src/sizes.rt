@@ -34,3 +34,6 @@ pub const DROPPED: usize = 8;
 pub const REACH: usize = 9;
 
 pub const BEFORE: usize = 10;
+
+// What C gets in place of a line where there is none. `noLineNumber` of specs/ says the same.
+pub const NO_LINE: u64 = 18446744073709551615;

@@ -14,10 +14,12 @@ use Rattle.meaning.specs.declared.answers.LaidWithEvents.{LaidWithEvents}
 use Rattle.meaning.specs.declared.answers.Framed.{Framed}
 use Rattle.meaning.specs.declared.answers.Affected.{Affected}
 use Rattle.meaning.specs.declared.answers.Relaid.{Relaid}
+use Rattle.meaning.specs.declared.answers.Indexed.{Indexed}
+use Rattle.meaning.specs.declared.answers.FoundLine.{FoundLine}
 use Rattle.promises.specs.Call.{Meets}
-use Rattle.promises.specs.InsideCalls.{tokenize, layout, layout-with-events, one-line, first-affected, lay-again}
-use Rattle.promises.specs.ForCCalls.{c-tokens, c-layout, c-layout-events, c-one-line, c-first-affected, c-lay-again, c-line-y}
-use Rattle.promises.specs.Passed.{Lent, LentNumber, LentSigned, passed, passedEdit, noneLeft, noEditLeft}
+use Rattle.promises.specs.InsideCalls.{tokenize, layout, layout-with-events, one-line, first-affected, lay-again, make-index, make-index-again, find-line}
+use Rattle.promises.specs.ForCCalls.{c-tokens, c-layout, c-layout-events, c-one-line, c-first-affected, c-lay-again, c-line-y, c-index, c-index-again, c-find-line}
+use Rattle.promises.specs.Passed.{Lent, LentNumber, LentSigned, passed, passedEdit, noneLeft, noEditLeft, LentYs}
 
 -- ---- the calls in Rattle
 
@@ -40,6 +42,16 @@ FirstAffected κs table lines ed z = Meets first-affected κs (table, (lines, (e
 abbrev pub LayAgain : (κs : Lfts 2) → Settings → (part table : Lent) → (lines : ℕ) → Edit → Relaid → (after : List ℕ) → Type 0
 LayAgain κs s part table lines ed z after =
     Meets lay-again κs (s, (part, (table, (lines, (ed, tt))))) z (tt, (tt, (after, (tt, (tt, tt)))))
+
+abbrev pub MakeIndex : (κs : Lfts 2) → Settings → (table : Lent) (lines : ℕ) (index : LentYs) → Indexed → (after : List ℤ) → Type 0
+MakeIndex κs s table lines index z after = Meets make-index κs (s, (table, (lines, (index, tt)))) z (tt, (tt, (tt, (after, tt))))
+
+abbrev pub MakeIndexAgain : (κs : Lfts 2) → Settings → (table : Lent) (lines first : ℕ) (index : LentYs) → Indexed → (after : List ℤ) → Type 0
+MakeIndexAgain κs s table lines first index z after =
+    Meets make-index-again κs (s, (table, (lines, (first, (index, tt))))) z (tt, (tt, (tt, (tt, (after, tt)))))
+
+abbrev pub FindLine : (κs : Lfts 2) → (table : Lent) (lines : ℕ) (index : LentYs) (y : ℤ) → FoundLine → Type 0
+FindLine κs table lines index y z = Meets find-line κs (table, (lines, (index, (y, tt)))) z (tt, (tt, (tt, (tt, tt))))
 
 -- ---- the calls for C
 
@@ -76,3 +88,17 @@ abbrev pub CLineY : (κs : Lfts 3) → Settings → (table : Lent) (lines line :
     (y′ : ℤ) → Type 0
 CLineY κs s table lines line value y z value′ y′ =
     Meets c-line-y κs (passed s (table, (lines, (line, (value, (y, tt)))))) z (noneLeft (tt, (tt, (tt, (value′, (y′, tt))))))
+
+abbrev pub CIndex : (κs : Lfts 3) → Settings → (table : Lent) (lines : ℕ) (index : LentYs) (value : LentNumber) (z : ℕ) (after : List ℤ)
+    (value′ : ℕ) → Type 0
+CIndex κs s table lines index value z after value′ =
+    Meets c-index κs (passed s (table, (lines, (index, (value, tt))))) z (noneLeft (tt, (tt, (after, (value′, tt)))))
+
+abbrev pub CIndexAgain : (κs : Lfts 3) → Settings → (table : Lent) (lines first : ℕ) (index : LentYs) (value : LentNumber) (z : ℕ)
+    (after : List ℤ) (value′ : ℕ) → Type 0
+CIndexAgain κs s table lines first index value z after value′ =
+    Meets c-index-again κs (passed s (table, (lines, (first, (index, (value, tt)))))) z (noneLeft (tt, (tt, (tt, (after, (value′, tt))))))
+
+abbrev pub CFindLine : (κs : Lfts 3) → (table : Lent) (lines : ℕ) (index : LentYs) (y : ℤ) (value : LentNumber) (z value′ : ℕ) → Type 0
+CFindLine κs table lines index y value z value′ =
+    Meets c-find-line κs (table, (lines, (index, (y, (value, tt))))) z (tt, (tt, (tt, (tt, (value′, tt)))))

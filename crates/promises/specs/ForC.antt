@@ -3,7 +3,7 @@
 -- Assumes nothing.
 use Rattle.promises.specs.Call.{AsksNothing, Agrees, agree}
 use Rattle.promises.specs.Passed.{noneLeft}
-use Rattle.promises.specs.ForCCalls.{c-check-settings, c-check-text, c-tokens, c-layout, c-layout-events, c-open, c-one-line, c-first-affected, c-lay-again, c-height, c-line-y}
+use Rattle.promises.specs.ForCCalls.{c-check-settings, c-check-text, c-tokens, c-layout, c-layout-events, c-open, c-one-line, c-first-affected, c-lay-again, c-height, c-line-y, c-index, c-index-again, c-find-line}
 
 -- None of them has a `requires`.
 pub for-c-asks-nothing : AsksNothing c-check-settings
@@ -17,7 +17,25 @@ pub for-c-asks-nothing : AsksNothing c-check-settings
     × AsksNothing c-lay-again
     × AsksNothing c-height
     × AsksNothing c-line-y
-for-c-asks-nothing = (λ κs a. tt, λ κs a. tt, λ κs a. tt, λ κs a. tt, λ κs a. tt, λ κs a. tt, λ κs a. tt, λ κs a. tt, λ κs a. tt, λ κs a. tt, λ κs a. tt)
+    × AsksNothing c-index
+    × AsksNothing c-index-again
+    × AsksNothing c-find-line
+for-c-asks-nothing = (
+  λ κs a. tt,
+  λ κs a. tt,
+  λ κs a. tt,
+  λ κs a. tt,
+  λ κs a. tt,
+  λ κs a. tt,
+  λ κs a. tt,
+  λ κs a. tt,
+  λ κs a. tt,
+  λ κs a. tt,
+  λ κs a. tt,
+  λ κs a. tt,
+  λ κs a. tt,
+  λ κs a. tt,
+)
 
 pub c-check-settings-agrees : Agrees c-check-settings
 c-check-settings-agrees κs a z z′ ws ws′ p q = (agree (p .0) (q .0), λ i. noneLeft (agree (p .1) (q .1) i, tt))
@@ -69,3 +87,18 @@ c-line-y-agrees κs a z z′ ws ws′ p q = (
   agree (p .0) (q .0),
   λ i. noneLeft (tt, (tt, (tt, (agree (p .1 .0) (q .1 .0) i, (agree (p .1 .1) (q .1 .1) i, tt))))),
 )
+
+pub c-index-agrees : Agrees c-index
+c-index-agrees κs a z z′ ws ws′ p q = (
+  agree (p .0) (q .0),
+  λ i. noneLeft (tt, (tt, (agree (p .1 .0) (q .1 .0) i, (agree (p .1 .1) (q .1 .1) i, tt)))),
+)
+
+pub c-index-again-agrees : Agrees c-index-again
+c-index-again-agrees κs a z z′ ws ws′ p q = (
+  agree (p .0) (q .0),
+  λ i. noneLeft (tt, (tt, (tt, (agree (p .1 .0) (q .1 .0) i, (agree (p .1 .1) (q .1 .1) i, tt))))),
+)
+
+pub c-find-line-agrees : Agrees c-find-line
+c-find-line-agrees κs a z z′ ws ws′ p q = (agree (p .0) (q .0), λ i. (tt, (tt, (tt, (tt, (agree (p .1) (q .1) i, tt))))))

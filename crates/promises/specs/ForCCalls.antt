@@ -23,6 +23,12 @@ use Rattle.bisquemop.proofs.bisquemop_height.Kinds as c-height-kinds
 use Rattle.bisquemop.proofs.bisquemop_height.Reads as c-height-reads
 use Rattle.bisquemop.proofs.bisquemop_line_y.Kinds as c-line-y-kinds
 use Rattle.bisquemop.proofs.bisquemop_line_y.Reads as c-line-y-reads
+use Rattle.bisquemop.proofs.bisquemop_index.Kinds as c-index-kinds
+use Rattle.bisquemop.proofs.bisquemop_index.Reads as c-index-reads
+use Rattle.bisquemop.proofs.bisquemop_index_again.Kinds as c-index-again-kinds
+use Rattle.bisquemop.proofs.bisquemop_index_again.Reads as c-index-again-reads
+use Rattle.bisquemop.proofs.bisquemop_find_line.Kinds as c-find-line-kinds
+use Rattle.bisquemop.proofs.bisquemop_find_line.Reads as c-find-line-reads
 
 -- bisquemop_check_settings
 abbrev pub c-check-settings : Call
@@ -67,3 +73,15 @@ c-height = callOf 2 c-height-kinds.ps c-height-kinds.r c-height-reads.Asked c-he
 -- bisquemop_line_y
 abbrev pub c-line-y : Call
 c-line-y = callOf 3 c-line-y-kinds.ps c-line-y-kinds.r c-line-y-reads.Asked c-line-y-reads.Learnt
+
+-- bisquemop_index
+abbrev pub c-index : Call
+c-index = callOf 3 c-index-kinds.ps c-index-kinds.r c-index-reads.Asked c-index-reads.Learnt
+
+-- bisquemop_index_again
+abbrev pub c-index-again : Call
+c-index-again = callOf 3 c-index-again-kinds.ps c-index-again-kinds.r c-index-again-reads.Asked c-index-again-reads.Learnt
+
+-- bisquemop_find_line
+abbrev pub c-find-line : Call
+c-find-line = callOf 3 c-find-line-kinds.ps c-find-line-kinds.r c-find-line-reads.Asked c-find-line-reads.Learnt

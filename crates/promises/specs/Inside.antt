@@ -2,7 +2,7 @@
 -- Assumes nothing.
 use mathlib.Core.Path.{refl}
 use Rattle.promises.specs.Call.{AsksNothing, Agrees, agree}
-use Rattle.promises.specs.InsideCalls.{check-settings, check-text, tokenize, layout, layout-with-events, open-text, one-line, first-affected, lay-again, text-height, line-y}
+use Rattle.promises.specs.InsideCalls.{check-settings, check-text, tokenize, layout, layout-with-events, open-text, one-line, first-affected, lay-again, text-height, line-y, make-index, make-index-again, find-line}
 
 -- None of them has a `requires`.
 pub inside-asks-nothing : AsksNothing check-settings
@@ -16,7 +16,25 @@ pub inside-asks-nothing : AsksNothing check-settings
     × AsksNothing lay-again
     × AsksNothing text-height
     × AsksNothing line-y
-inside-asks-nothing = (λ κs a. tt, λ κs a. tt, λ κs a. tt, λ κs a. tt, λ κs a. tt, λ κs a. tt, λ κs a. tt, λ κs a. tt, λ κs a. tt, λ κs a. tt, λ κs a. tt)
+    × AsksNothing make-index
+    × AsksNothing make-index-again
+    × AsksNothing find-line
+inside-asks-nothing = (
+  λ κs a. tt,
+  λ κs a. tt,
+  λ κs a. tt,
+  λ κs a. tt,
+  λ κs a. tt,
+  λ κs a. tt,
+  λ κs a. tt,
+  λ κs a. tt,
+  λ κs a. tt,
+  λ κs a. tt,
+  λ κs a. tt,
+  λ κs a. tt,
+  λ κs a. tt,
+  λ κs a. tt,
+)
 
 pub check-settings-agrees : Agrees check-settings
 check-settings-agrees κs a z z′ ws ws′ p q = (agree p q, refl)
@@ -53,3 +71,12 @@ text-height-agrees κs a z z′ ws ws′ p q = (agree p q, refl)
 
 pub line-y-agrees : Agrees line-y
 line-y-agrees κs a z z′ ws ws′ p q = (agree p q, refl)
+
+pub make-index-agrees : Agrees make-index
+make-index-agrees κs a z z′ ws ws′ p q = (agree (p .0) (q .0), λ i. (tt, (tt, (tt, (agree (p .1) (q .1) i, tt)))))
+
+pub make-index-again-agrees : Agrees make-index-again
+make-index-again-agrees κs a z z′ ws ws′ p q = (agree (p .0) (q .0), λ i. (tt, (tt, (tt, (tt, (agree (p .1) (q .1) i, tt))))))
+
+pub find-line-agrees : Agrees find-line
+find-line-agrees κs a z z′ ws ws′ p q = (agree p q, refl)

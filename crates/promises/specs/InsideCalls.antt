@@ -23,6 +23,12 @@ use Rattle.heights.proofs.height.text_height.Kinds as text-height-kinds
 use Rattle.heights.proofs.height.text_height.Reads as text-height-reads
 use Rattle.heights.proofs.height.line_y.Kinds as line-y-kinds
 use Rattle.heights.proofs.height.line_y.Reads as line-y-reads
+use Rattle.index.proofs.making.make_index.Kinds as make-index-kinds
+use Rattle.index.proofs.making.make_index.Reads as make-index-reads
+use Rattle.index.proofs.making.make_index_again.Kinds as make-index-again-kinds
+use Rattle.index.proofs.making.make_index_again.Reads as make-index-again-reads
+use Rattle.index.proofs.finding.find_line.Kinds as find-line-kinds
+use Rattle.index.proofs.finding.find_line.Reads as find-line-reads
 
 -- checks::settings::check_settings
 abbrev pub check-settings : Call
@@ -67,3 +73,15 @@ text-height = callOf 1 text-height-kinds.ps text-height-kinds.r text-height-read
 -- heights::height::line_y
 abbrev pub line-y : Call
 line-y = callOf 1 line-y-kinds.ps line-y-kinds.r line-y-reads.Asked line-y-reads.Learnt
+
+-- index::making::make_index
+abbrev pub make-index : Call
+make-index = callOf 2 make-index-kinds.ps make-index-kinds.r make-index-reads.Asked make-index-reads.Learnt
+
+-- index::making::make_index_again
+abbrev pub make-index-again : Call
+make-index-again = callOf 2 make-index-again-kinds.ps make-index-again-kinds.r make-index-again-reads.Asked make-index-again-reads.Learnt
+
+-- index::finding::find_line
+abbrev pub find-line : Call
+find-line = callOf 2 find-line-kinds.ps find-line-kinds.r find-line-reads.Asked find-line-reads.Learnt

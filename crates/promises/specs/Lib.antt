@@ -10,6 +10,8 @@ pub mod Refused
 pub mod Demand3
 pub mod AsFresh
 pub mod OtherSettings
+pub mod LineFound
+pub mod IndexAgain
 pub mod TableHolds
 pub mod LinesRise
 pub mod CharsBefore

@@ -8,9 +8,12 @@ use denote.Ref.{RefT}
 use Rattle.meaning.specs.declared.settings.Settings.{Settings}
 use Rattle.meaning.specs.declared.edit.Edit.{Edit}
 
--- A slice, and a number, that is lent.
+-- A slice, one of signed numbers, and a number, that is lent.
 abbrev pub Lent : Type 0
 Lent = RefT (List ℕ)
+
+abbrev pub LentYs : Type 0
+LentYs = RefT (List ℤ)
 
 abbrev pub LentNumber : Type 0
 LentNumber = RefT ℕ

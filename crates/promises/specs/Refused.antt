@@ -8,8 +8,9 @@ use lib.IntN.{ℤ}
 use contract.Lifetimes.{Lfts}
 use denote.Ref.{now}
 use Rattle.meaning.specs.Settings.{settingsOf}
-use Rattle.meaning.specs.Calls.{drawingAnswer, frameAnswer, relayAnswer, yAnswer}
-use Rattle.meaning.specs.Answers.{tokensNumber, layoutNumber, drawingNumber, frameNumber, relayNumber}
+use Rattle.meaning.specs.Calls.{drawingAnswer, frameAnswer, relayAnswer, yAnswer, indexAfter, indexAgainAfter}
+use Rattle.meaning.specs.Answers.{tokensNumber, layoutNumber, drawingNumber, frameNumber, relayNumber, indexNumber}
+use Rattle.meaning.specs.YIndex.{keptBefore}
 use Rattle.meaning.specs.declared.settings.Settings.{Settings}
 use Rattle.meaning.specs.declared.edit.Edit.{Edit}
 use Rattle.meaning.specs.declared.refusals.Refusal.{Refusal}
@@ -20,9 +21,10 @@ use Rattle.meaning.specs.declared.line.Rest.{Rest}
 use Rattle.meaning.specs.declared.answers.Framed.the-variants as framed
 use Rattle.meaning.specs.declared.answers.Relaid.the-variants as relaid
 use Rattle.bisquemop.specs.Edits.{restFrom}
-use Rattle.promises.specs.Passed.{Lent, LentNumber, LentSigned}
-use Rattle.promises.specs.Contracts.{Tokenize, Layout, LayoutWithEvents, OneLine, LayAgain, CTokens, CLayout, CLayoutEvents, COneLine, CLayAgain, CLineY}
-use Rattle.promises.specs.Unwritten.{tokens-kept, layout-kept, drawing-kept, frame-kept, relay-kept, drawing-counted, frame-rested, relay-counted, y-kept}
+use Rattle.promises.specs.Passed.{Lent, LentNumber, LentSigned, LentYs}
+use Rattle.promises.specs.Contracts.{Tokenize, Layout, LayoutWithEvents, OneLine, LayAgain, CTokens, CLayout, CLayoutEvents, COneLine, CLayAgain, CLineY, MakeIndex, MakeIndexAgain, CIndex, CIndexAgain}
+use Rattle.promises.specs.Unwritten.{tokens-kept, layout-kept, drawing-kept, frame-kept, relay-kept, drawing-counted, frame-rested, relay-counted, y-kept, index-kept}
+use Rattle.meaning.specs.declared.answers.Indexed.the-variants as indexed
 
 -- ---- the calls in Rattle
 
@@ -51,6 +53,18 @@ pub lay-again-refused : (κs : Lfts 2) (s : Settings) (part table : Lent) (lines
     → LayAgain κs s part table lines ed (relaid.Refused r) after → after ≡ now table
 lay-again-refused κs s part table lines ed r after p =
     p .1 ∙ relay-kept s (now part) (now table) lines ed (λ n m e. let z : _≡_ {A = ℕ} 0 1 = cc in omega arith)
+
+pub make-index-refused : (κs : Lfts 2) (s : Settings) (table : Lent) (lines : ℕ) (index : LentYs) (r : Refusal) (after : List ℤ)
+    → MakeIndex κs s table lines index (indexed.Refused r) after → after ≡ now index
+unfolding indexAfter
+make-index-refused κs s table lines index r after p =
+    p .1 ∙ index-kept s (now table) lines 0 (now index) (λ n e. let z : _≡_ {A = ℕ} 0 1 = cc in omega arith)
+
+pub make-index-again-refused : (κs : Lfts 2) (s : Settings) (table : Lent) (lines first : ℕ) (index : LentYs) (r : Refusal) (after : List ℤ)
+    → MakeIndexAgain κs s table lines first index (indexed.Refused r) after → after ≡ now index
+unfolding indexAgainAfter
+make-index-again-refused κs s table lines first index r after p =
+    p .1 ∙ index-kept s (now table) lines (keptBefore s first) (now index) (λ n e. let z : _≡_ {A = ℕ} 0 1 = cc in omega arith)
 
 -- ---- the calls for C: a refusal returns no 0
 
@@ -98,3 +112,15 @@ pub c-line-y-refused : (κs : Lfts 3) (s : Settings) (table : Lent) (lines line 
 unfolding settingsOf
 c-line-y-refused κs s table lines line value y z value′ y′ p h =
     p .1 .1 ∙ y-kept (yAnswer s (now table) lines line) (now y) (omega (arith, p .0))
+
+pub c-index-refused : (κs : Lfts 3) (s : Settings) (table : Lent) (lines : ℕ) (index : LentYs) (value : LentNumber) (z : ℕ) (after : List ℤ)
+    (value′ : ℕ) → CIndex κs s table lines index value z after value′ → 0 < z → after ≡ now index
+unfolding settingsOf indexAfter
+c-index-refused κs s table lines index value z after value′ p h =
+    p .1 .0 ∙ index-kept s (now table) lines 0 (now index) (λ n e. omega (arith, p .0 ∙ ap indexNumber e))
+
+pub c-index-again-refused : (κs : Lfts 3) (s : Settings) (table : Lent) (lines first : ℕ) (index : LentYs) (value : LentNumber) (z : ℕ)
+    (after : List ℤ) (value′ : ℕ) → CIndexAgain κs s table lines first index value z after value′ → 0 < z → after ≡ now index
+unfolding settingsOf indexAgainAfter
+c-index-again-refused κs s table lines first index value z after value′ p h =
+    p .1 .0 ∙ index-kept s (now table) lines (keptBefore s first) (now index) (λ n e. omega (arith, p .0 ∙ ap indexNumber e))

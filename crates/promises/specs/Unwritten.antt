@@ -5,14 +5,15 @@ use native.Mathlib.Omega.{arith}
 use mathlib.Core.Path.{_≡_, refl}
 use mathlib.Core.List.{List}
 use lib.IntN.{ℤ}
+use lib.ListN.{length}
 use Rattle.meaning.specs.Checks.{answered, afterwards}
-use Rattle.meaning.specs.Calls.{checkTokens, tokensAnswer, tokensBuffer, checkLayout, layoutAnswer, layoutTable, checkDrawing, drawingAnswer, drawingTable, drawingEvents, checkFrame, frameAnswer, frameEntry, checkRelay, relayAnswer, relayTable}
+use Rattle.meaning.specs.Calls.{checkTokens, tokensAnswer, tokensBuffer, checkLayout, layoutAnswer, layoutTable, checkDrawing, drawingAnswer, drawingTable, drawingEvents, checkFrame, frameAnswer, frameEntry, checkRelay, relayAnswer, relayTable, checkIndexing, indexAnswer, indexFrom}
 use Rattle.meaning.specs.Refusals.{numberOf}
-use Rattle.meaning.specs.Answers.{layoutNumber, layoutValue, drawingNumber, drawingCount, frameNumber, frameRestEnd, frameRestCount, relayNumber, relayCount, yNumber, yPlace}
+use Rattle.meaning.specs.Answers.{layoutNumber, layoutValue, drawingNumber, drawingCount, frameNumber, frameRestEnd, frameRestCount, relayNumber, relayCount, yNumber, yPlace, indexNumber, indexValue}
 use Rattle.meaning.specs.declared.settings.Settings.{Settings}
 use Rattle.meaning.specs.declared.edit.Edit.{Edit}
 use Rattle.meaning.specs.declared.refusals.Refusal.{Refusal}
-use Rattle.meaning.specs.declared.refusals.Refusal.the-variants.{SettingOutOfRange, UnknownAlignment, TextTooLong, NotUtf8, BadLine, BadEdit, TooSmall}
+use Rattle.meaning.specs.declared.refusals.Refusal.the-variants.{SettingOutOfRange, UnknownAlignment, TextTooLong, NotUtf8, BadLine, BadEdit, TooSmall, BadIndex}
 use Rattle.meaning.specs.declared.refusals.Checked.{Checked}
 use Rattle.meaning.specs.declared.refusals.Checked.the-variants.{Good, Refused}
 use Rattle.meaning.specs.declared.answers.Tokenized.the-variants as tokenized
@@ -26,6 +27,8 @@ use Rattle.meaning.specs.declared.answers.Framed.{Framed}
 use Rattle.meaning.specs.declared.answers.Framed.the-variants as framed
 use Rattle.meaning.specs.declared.answers.Relaid.{Relaid}
 use Rattle.meaning.specs.declared.answers.Relaid.the-variants as relaid
+use Rattle.meaning.specs.declared.answers.Indexed.{Indexed}
+use Rattle.meaning.specs.declared.answers.Indexed.the-variants as indexed
 use Rattle.meaning.specs.declared.answers.LineY.{LineY}
 use Rattle.meaning.specs.declared.answers.LineY.the-variants as liney
 
@@ -57,6 +60,11 @@ pub relay-kept : (s : Settings) (t b : List ℕ) (lines : ℕ) (ed : Edit) → (
 unfolding relayAnswer relayTable
 relay-kept s t b lines ed d = kept (checkRelay s t b lines ed) _ _ _ b (d _ _)
 
+pub index-kept : (s : Settings) (t : List ℕ) (lines kept : ℕ) (b : List ℤ) → ((n : ℕ) → indexAnswer s t lines b ≡ indexed.Lines n → ⊥)
+    → indexFrom kept s t lines b ≡ b
+unfolding indexAnswer indexFrom
+index-kept s t lines k b d = kept (checkIndexing s t lines (length b)) _ _ _ b (d _)
+
 -- A refusal has no number 0, so a layout whose number is 0 is done.
 refusal-some : (r : Refusal) → numberOf r ≡ 0 → ⊥
 refusal-some SettingOutOfRange e = omega arith
@@ -66,10 +74,15 @@ refusal-some (NotUtf8 n) e = omega arith
 refusal-some (BadLine k) e = omega arith
 refusal-some BadEdit e = omega arith
 refusal-some (TooSmall n) e = omega arith
+refusal-some (BadIndex n) e = omega arith
 
 pub layout-done : (x : Laid) → layoutNumber x ≡ 0 → x ≡ laid.Lines (layoutValue x)
 layout-done (laid.Lines n) e = refl
 layout-done (laid.Refused r) e = absurd (refusal-some r e)
+
+pub index-done : (x : Indexed) → indexNumber x ≡ 0 → x ≡ indexed.Lines (indexValue x)
+index-done (indexed.Lines n) e = refl
+index-done (indexed.Refused r) e = absurd (refusal-some r e)
 
 pub drawing-counted : (x : LaidWithEvents) (old : ℕ) → 0 < drawingNumber x → drawingCount x old ≡ old
 drawing-counted (drawing.Lines n m) old h = omega arith

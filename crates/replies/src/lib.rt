@@ -3,15 +3,18 @@ use checks::refusals::number;
 use checks::refusals::value;
 use meaning::answers::Affected;
 use meaning::answers::Framed;
+use meaning::answers::FoundLine;
 use meaning::answers::Height;
+use meaning::answers::Indexed;
 use meaning::answers::Laid;
 use meaning::answers::LaidWithEvents;
 use meaning::answers::LineY;
 use meaning::answers::Opened;
 use meaning::answers::Relaid;
 use meaning::answers::Tokenized;
+use meaning::sizes::NO_LINE;
 ghost use mathlib.Core.Path.{_≡_};
-ghost use Rattle.meaning.specs.Answers.{tokensNumber, tokensValue, layoutNumber, layoutValue, drawingNumber, drawingValue, drawingCount, openNumber, openValue, frameNumber, frameValue, frameRestEnd, frameRestCount, affectedNumber, affectedValue, relayNumber, relayValue, relayCount, heightNumber, heightValue, yNumber, yValue, yPlace};
+ghost use Rattle.meaning.specs.Answers.{tokensNumber, tokensValue, layoutNumber, layoutValue, drawingNumber, drawingValue, drawingCount, openNumber, openValue, frameNumber, frameValue, frameRestEnd, frameRestCount, affectedNumber, affectedValue, relayNumber, relayValue, relayCount, heightNumber, heightValue, yNumber, yValue, yPlace, indexNumber, indexValue, findNumber, findValue};
 
 pub fn tokens_number(a: Tokenized) -> u32
     ensures { λ r. ⌜ r ≡ tokensNumber a ⌝ }
@@ -231,5 +234,43 @@ pub fn put_y(a: LineY, y: &mut i32)
         }
         LineY::NoLine => {}
         LineY::Refused(_) => {}
+    }
+}
+
+pub fn index_number(a: Indexed) -> u32
+    ensures { λ r. ⌜ r ≡ indexNumber a ⌝ }
+{
+    match a {
+        Indexed::Lines(_) => 0,
+        Indexed::Refused(refusal) => number(refusal),
+    }
+}
+
+pub fn index_value(a: Indexed) -> u64
+    ensures { λ r. ⌜ r ≡ indexValue a ⌝ }
+{
+    match a {
+        Indexed::Lines(n) => n,
+        Indexed::Refused(refusal) => value(refusal),
+    }
+}
+
+pub fn find_number(a: FoundLine) -> u32
+    ensures { λ r. ⌜ r ≡ findNumber a ⌝ }
+{
+    match a {
+        FoundLine::Line(_) => 0,
+        FoundLine::NoLine => 0,
+        FoundLine::Refused(refusal) => number(refusal),
+    }
+}
+
+pub fn find_value(a: FoundLine) -> u64
+    ensures { λ r. ⌜ r ≡ findValue a ⌝ }
+{
+    match a {
+        FoundLine::Line(line) => line,
+        FoundLine::NoLine => NO_LINE,
+        FoundLine::Refused(refusal) => value(refusal),
     }
 }

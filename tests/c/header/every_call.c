@@ -16,7 +16,7 @@ struct lent {
     uint32_t *events;
     uint64_t lines, value, count;
     uint32_t rest_end, rest_count;
-    int32_t y;
+    int32_t y, *index;
 };
 
 uint32_t checks(struct lent *l);
@@ -24,6 +24,7 @@ uint32_t fresh(struct lent *l);
 uint32_t one_by_one(struct lent *l);
 uint32_t again(struct lent *l, uint32_t a, uint32_t b, uint32_t inserted);
 uint32_t heights(struct lent *l);
+uint32_t index_of(struct lent *l);
 uint32_t by_numbers(struct lent *l);
 
 uint32_t checks(struct lent *l)
@@ -81,6 +82,24 @@ uint32_t heights(struct lent *l)
     return refused;
 }
 
+/* `lines` ys are lent. */
+uint32_t index_of(struct lent *l)
+{
+    uint32_t refused = bisquemop_settings_index(&l->settings, l->table, l->table_len, l->lines, l->index, l->lines,
+                                                &l->value);
+    if (refused == BISQUEMOP_OK) {
+        refused = bisquemop_settings_index_again(&l->settings, l->table, l->table_len, l->lines, 0, l->index, l->lines,
+                                                 &l->value);
+    }
+    if (refused == BISQUEMOP_OK) {
+        refused = bisquemop_find_line(l->table, l->table_len, l->lines, l->index, l->lines, l->y, &l->value);
+    }
+    if (refused == BISQUEMOP_OK && l->value == BISQUEMOP_NONE) {
+        refused = BISQUEMOP_BAD_INDEX;
+    }
+    return refused;
+}
+
 /* The same calls, without the struct. */
 #define SETTINGS 6, 30, 24, 10, 0, 8, 48, -2, BISQUEMOP_ALIGN_LEFT, BISQUEMOP_VERTICAL_TOP, 1, 0, BISQUEMOP_WRAP_WAIT
 
@@ -97,5 +116,7 @@ uint32_t by_numbers(struct lent *l)
                                    &l->count);
     refused |= bisquemop_height(SETTINGS, l->table, l->table_len, l->lines, &l->value);
     refused |= bisquemop_line_y(SETTINGS, l->table, l->table_len, l->lines, 0, &l->value, &l->y);
+    refused |= bisquemop_index(SETTINGS, l->table, l->table_len, l->lines, l->index, l->lines, &l->value);
+    refused |= bisquemop_index_again(SETTINGS, l->table, l->table_len, l->lines, 0, l->index, l->lines, &l->value);
     return refused;
 }

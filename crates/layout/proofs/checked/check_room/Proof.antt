@@ -1,7 +1,7 @@
 -- `layout::checked::check_room` meets its contract (refusal 1, refusal 2, refusal 3, refusal 4, refusal 8).
 -- Assumes nothing.
 use native.Mathlib.Omega.{arith}
-use Rattle.layout.specs.Checking.{has-room, has-no-room}
+use Rattle.laws.specs.GoodChecks.{has-room, has-no-room}
 use Rattle.layout.proofs.checked.check_room.Statement.{statement}
 use Rattle.layout.proofs.checked.check_room.Tie as tie
 
