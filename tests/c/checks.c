@@ -71,6 +71,8 @@ int main(int count, char **words)
     test_one_line();
     printf("bad starts and rests\n");
     test_bad_starts();
+    printf("justified texts\n");
+    test_even();
     printf("%lu spoiled tables, seed %lu\n", edits, seed);
     test_spoiled(edits, seed);
 #ifndef SMALL_MEMORY

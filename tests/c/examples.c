@@ -281,6 +281,28 @@ const struct example examples[] = {
      6, {PRINTED, 0, 2, 0, 12, 0, /**/ SPACE, 2, 5, 1, 8, 12, /**/ PRINTED, 5, 7, 0, 12, 20, /**/
          SPACE, 7, 8, 1, 7, 32, /**/ PRINTED, 8, 10, 0, 12, 39, /**/ PRINTED, 11, 13, 0, 12, 0}},
 
+    /* ---- even spaces: those that the laws are held to */
+
+    /* two extra pixels go to the first two spaces, which stand together; a skipped space takes the extra pixel */
+    {6, 54, JUSTIFIED, 0, DROP, "a  b" NBSP "c d ee",
+     2, {0, 0, 0, 3, 0, 7, 2, 48, 0, 13, 0, /**/ 10, 0, 0, 2, 0, 6, 0, 12, 0, 13, 9},
+     8, {PRINTED, 0, 1, 0, 6, 0, /**/ SPACE, 1, 3, 2, 16, 6, /**/ PRINTED, 3, 4, 0, 6, 22, /**/
+         SPACE, 4, 6, 1, 7, 28, /**/ PRINTED, 6, 7, 0, 6, 35, /**/ SPACE, 7, 8, 1, 7, 41, /**/
+         PRINTED, 8, 9, 0, 6, 48, /**/ PRINTED, 10, 12, 0, 12, 0}},
+    {6, 51, JUSTIFIED, 0, DROP, " aa bb ccc",
+     2, {0, 0, 0, 3, 0, 16, 1, 30, 0, 11, 0, /**/ 7, 0, 0, 2, 0, 6, 0, 18, 0, 11, 7},
+     5, {SPACE, 0, 1, 1, 0, 0, /**/ PRINTED, 1, 3, 0, 12, 0, /**/ SPACE, 3, 4, 1, 16, 12, /**/
+         PRINTED, 4, 6, 0, 12, 28, /**/ PRINTED, 7, 10, 0, 18, 0}},
+    /* the smallest texts whose draw prints "-" where the measure prints a word, and ends before the edge: at 7, at 4 */
+    {2, 8, JUSTIFIED, 1, DROP, " a" SHY NBSP SHY "\r",
+     3, {0, 0, 0, 3, 0, 3, 0, 6, 0, 9, 0, /**/ 4, 0, 0, 1, 0, 8, 0, 2, 0, 9, 3, /**/ 9, 0, 0, 2, 0, 2, 0, 0, 0, 10, 6},
+     6, {SPACE, 0, 1, 1, 3, 0, /**/ PRINTED, 1, 2, 0, 2, 3, /**/ PRINTED, 2, 4, 0, 2, 5, /**/
+         SPACE, 4, 6, 1, 8, 0, /**/ PRINTED, 6, 6, 0, 0, 8, /**/ SPACE, 8, 9, 0, 0, 8}},
+    {1, 5, JUSTIFIED, 1, DROP, " a" SHY "bb" SHY "\r",
+     3, {0, 0, 0, 3, 0, 2, 0, 4, 0, 9, 0, /**/ 4, 0, 0, 1, 0, 1, 0, 2, 0, 9, 3, /**/ 9, 0, 0, 2, 0, 1, 0, 0, 0, 10, 7},
+     5, {SPACE, 0, 1, 1, 2, 0, /**/ PRINTED, 1, 2, 0, 1, 2, /**/ PRINTED, 2, 4, 0, 1, 3, /**/
+         PRINTED, 4, 6, 0, 2, 0, /**/ SPACE, 8, 9, 0, 0, 2}},
+
     /* ---- words that wait: those that the definitions are held to */
 
     /* nothing is dropped after an indent as wide as the box, and the clue is whole */

@@ -131,6 +131,7 @@ void test_inside(void);
 void test_characters(void);
 void test_one_line(void);
 void test_bad_starts(void);
+void test_even(void);
 void test_spoiled(unsigned long tables, unsigned long seed);
 void test_edits(unsigned long edits, unsigned long seed);
 

@@ -36,7 +36,7 @@ unfolding penAfter
 pen-low pen [] = omega arith
 pen-low pen (d ∷ ds) = omega (arith, pen-low (pen + d .width) ds)
 
-noted-pen : (k : EventKind) (pen n : ℕ) (m : Measure) → noted k pen n m .pen .0 ≡ pen
+pub noted-pen : (k : EventKind) (pen n : ℕ) (m : Measure) → noted k pen n m .pen .0 ≡ pen
 noted-pen Space pen n m = refl
 noted-pen Printed pen n m = refl
 noted-pen Move pen n m = refl
@@ -69,7 +69,7 @@ parts n k g h =
     let e : n - k + k ≡ n = omega arith in
     sym (add-mul (n - k) k g) ∙ ap (λ (x : ℕ). x * g) e
 
-plain-width : (g : ℕ) (sp : Spaces) (n : ℕ) → Plain g sp → spacesWidth sp n ≡ n * g
+pub plain-width : (g : ℕ) (sp : Spaces) (n : ℕ) → Plain g sp → spacesWidth sp n ≡ n * g
 unfolding spacesWidth
 plain-width g sp n h = rw (h .width, h .extra) (omega arith)
 

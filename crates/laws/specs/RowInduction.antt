@@ -52,25 +52,39 @@ module _ {ℓ} (s : Settings) (P : (start before : ℕ) → Held → List ℕ �
 
 -- ---- every line by itself
 
+-- It holds of each of these lines, each with its events.
+abbrev pub EachRow : (Row → Type 0) → List Row → Type 0
+EachRow P [] = Unit {0}
+EachRow P (r ∷ rs) = P r × EachRow P rs
+
 -- It holds of each of these lines.
 abbrev pub Each : (Entry → Type 0) → List Entry → Type 0
 Each P [] = Unit {0}
 Each P (e ∷ es) = P e × Each P es
 
-module _ (s : Settings) (P : Entry → Type 0) (holds : (start before : ℕ) (h : Held) (cs : List ℕ) → P (entryAt start before h cs (layLine s h cs))) where
-  each-by : (n start before : ℕ) (h : Held) (cs : List ℕ) → Each P (map entryOfRow (rowsBy n s start before h cs))
-  unfolding rowsBy rowAt
+module _ (s : Settings) (P : Row → Type 0) (holds : (start before : ℕ) (h : Held) (cs : List ℕ) → P (rowAt start before h cs (layLine s h cs))) where
+  each-by : (n start before : ℕ) (h : Held) (cs : List ℕ) → EachRow P (rowsBy n s start before h cs)
+  unfolding rowsBy
   each-by zero start before h cs = tt
   each-by (suc n) start before h cs =
       let l = layLine s h cs in
       let next = start + size (take (l .chars) cs) in
       let more = rowsBy n s next (before + l .chars) (l .held) (drop (l .chars) cs) in (
         holds start before h cs,
-        unless-cases (λ (rs : List Row). Each P (map entryOfRow rs)) (l .ended) more (λ _. tt)
-            (λ _. each-by n next (before + l .chars) (l .held) (drop (l .chars) cs)),
+        unless-cases (EachRow P) (l .ended) more (λ _. tt) (λ _. each-by n next (before + l .chars) (l .held) (drop (l .chars) cs)),
       )
 
-  -- What holds of every line, wherever it starts and whatever is held before it, holds of each line of a layout.
-  pub each-line : (cs : List ℕ) → Each P (layout s cs)
-  unfolding layout rows
-  each-line cs = each-by (mostLines cs) 0 0 nothingHeld cs
+  -- What holds of every line, wherever it starts and whatever is held before it, holds of each line of a text.
+  pub each-laid : (cs : List ℕ) → EachRow P (rows s cs)
+  unfolding rows
+  each-laid cs = each-by (mostLines cs) 0 0 nothingHeld cs
+
+each-entry : (P : Entry → Type 0) (rs : List Row) → EachRow (λ (r : Row). P (r .entry)) rs → Each P (map entryOfRow rs)
+each-entry P [] h = tt
+each-entry P (r ∷ rs) h = (h .0, each-entry P rs (h .1))
+
+-- And of each entry of a layout.
+pub each-line : (s : Settings) (P : Entry → Type 0) → ((start before : ℕ) (h : Held) (cs : List ℕ) → P (entryAt start before h cs (layLine s h cs)))
+    → (cs : List ℕ) → Each P (layout s cs)
+unfolding layout rowAt
+each-line s P holds cs = each-entry P (rows s cs) (each-laid s (λ (r : Row). P (r .entry)) holds cs)

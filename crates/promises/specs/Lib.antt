@@ -15,4 +15,5 @@ pub mod IndexAgain
 pub mod TableHolds
 pub mod LinesRise
 pub mod CharsBefore
+pub mod SpacesTold
 pub mod WordsKept
