@@ -17,7 +17,8 @@ enum { PAINTED_WORDS = 4096, PAINT = 0x5AFE5AFE, CHARACTERS = 100, TEXT_ROOM = 8
 /* The calls, and the most that each has used. */
 #define CALLS(DO) \
     DO(check_settings) DO(check_text) DO(tokens) DO(layout) DO(layout_events) DO(open) DO(one_line) \
-    DO(first_affected) DO(lay_again) DO(height) DO(line_y) DO(index) DO(index_again) DO(find_line)
+    DO(first_affected) DO(lay_again) DO(height) DO(line_y) DO(index) DO(index_again) DO(find_line) \
+    DO(write_file) DO(read_file)
 #define NUMBER(call) AT_##call,
 #define NAME(call) "bisquemop_" #call,
 enum { CALLS(NUMBER) CALL_COUNT };
@@ -61,6 +62,7 @@ __attribute__((always_inline)) static inline unsigned used(volatile uint32_t *to
 static uint8_t text[TEXT_ROOM], edited[TEXT_ROOM], inserted[TEXT_ROOM];
 static uint32_t table[BISQUEMOP_LINE_NUMBERS * (TEXT_ROOM + 1)], numbers[BISQUEMOP_EVENT_NUMBERS * TEXT_ROOM];
 static int32_t ys[TEXT_ROOM + 1];
+static uint8_t file[65 + (3 + 4 * BISQUEMOP_LINE_NUMBERS) * (TEXT_ROOM + 1)];
 #define TABLE table, sizeof table / sizeof table[0]
 #define NUMBERS numbers, sizeof numbers / sizeof numbers[0]
 #define INDEX ys, sizeof ys / sizeof ys[0]
@@ -114,6 +116,15 @@ static void measure_index(const struct bisquemop_settings *s, uint64_t lines)
     MEASURE(find_line, bisquemop_find_line(TABLE, lines, ys, lines, ys[0] - 1, &value));
 }
 
+/* The table is read back to where it came from. */
+static void measure_file(const struct bisquemop_settings *s, uint64_t lines)
+{
+    uint32_t settings[BISQUEMOP_SETTINGS_NUMBERS];
+    uint64_t bytes, value, len;
+    MEASURE(write_file, bisquemop_settings_write_file(s, TABLE, lines, file, sizeof file, &bytes));
+    MEASURE(read_file, bisquemop_read_file(file, bytes, settings, BISQUEMOP_SETTINGS_NUMBERS, TABLE, &value, &len));
+}
+
 static void measure_edit(const struct bisquemop_settings *s, size_t len, uint64_t lines)
 {
     struct edit e = random_edit(text, len, TEXT_ROOM, inserted);
@@ -141,6 +152,7 @@ int main(int argc, char **argv)
         measure_layout(&s, len, &lines);
         measure_lines(&s, len, lines);
         measure_index(&s, lines);
+        measure_file(&s, lines);
         measure_edit(&s, len, lines);
     }
     for (int call = 0; call < CALL_COUNT; call++) {

@@ -16,6 +16,8 @@
  *   bisquemop_index            where every line stands: an index of their ys
  *   bisquemop_index_again      after an edit, the ys that changed
  *   bisquemop_find_line        the line under a y, as a tap has one
+ *   bisquemop_write_file       settings and a table as the bytes of a layout file, which another machine can read
+ *   bisquemop_read_file        settings and a table from such bytes
  *
  * Those that take thirteen settings have a twin bisquemop_settings_.. that takes a struct of them.
  *
@@ -25,7 +27,8 @@
  * What holds of every call:
  *  - It returns 0 when done, and else the number of the first test that failed (enum bisquemop_refusal).
  *  - It always writes *value: when done what the call answers, and else what goes with the number returned.
- *  - When it refuses it writes nothing else. A buffer then holds what it held.
+ *  - When it refuses it writes nothing else, but for the settings that go with BISQUEMOP_RETIRED_SETTING. A buffer then
+ *    holds what it held.
  *  - It allocates nothing, keeps no pointer and has no state, so threads may call it side by side.
  *  - `value` points to a uint64_t of the caller's. It must not be NULL.
  *  - A buffer is a pointer and the number of its elements, not of its bytes, and may be NULL if that number is 0.
@@ -54,7 +57,8 @@ struct bisquemop_placed {
 typedef char bisquemop_numbers_stand_at_multiples_of_their_size[sizeof(struct bisquemop_placed) == 24 ? 1 : -1];
 typedef char bisquemop_pointers_have_32_or_64_bits[sizeof(void *) == 4 || sizeof(void *) == 8 ? 1 : -1];
 
-/* Why a call refused what it was given, and what *value then is. The tests are made in the order of these numbers. */
+/* Why a call refused what it was given, and what *value then is. The tests are made in the order of these numbers, but
+   for a file: there 9 and 11 come first, and 12 after 2. */
 enum bisquemop_refusal {
     BISQUEMOP_OK = 0,                   /* the call is done, and says what *value is */
     BISQUEMOP_SETTING_OUT_OF_RANGE = 1, /* 0 */
@@ -64,9 +68,13 @@ enum bisquemop_refusal {
     BISQUEMOP_BAD_LINE = 5,             /* the first bad line of the table; 0 for one line's bad start or bad rest */
     BISQUEMOP_BAD_EDIT = 6,             /* 0 */
     /* 7 is not used. It was for a line that breaks without taking a character, and there is none: that is proved */
-    BISQUEMOP_TOO_SMALL = 8,            /* how many lines, tokens, events or ys the buffer must have room for */
-    BISQUEMOP_BAD_INDEX = 10            /* the index's length if it is not the count of lines; else the first line whose
+    BISQUEMOP_TOO_SMALL = 8,            /* how many lines, tokens, events, ys, settings or bytes the buffer must have
+                                           room for */
+    BISQUEMOP_BAD_FIELD = 9,            /* the offset in the file of the first field that is not as it should be */
+    BISQUEMOP_BAD_INDEX = 10,           /* the index's length if it is not the count of lines; else the first line whose
                                            y is smaller than that of the line before it */
+    BISQUEMOP_OLD_ENTRY = 11,           /* the offset in the file of a line that has too few numbers, as lines had once */
+    BISQUEMOP_RETIRED_SETTING = 12      /* 0; the file's other settings are handed out, with a 0 for `trailing` */
 };
 
 /* How a line stands between the sides of the box. */
@@ -127,6 +135,9 @@ enum bisquemop_line_column {
     BISQUEMOP_LINE_CHARS = 10      /* how many characters the text has before the line's start */
 };
 #define BISQUEMOP_LINE_NUMBERS 11 /* how many numbers a line has in a table */
+
+/* The bytes of a layout file of so many lines. */
+#define BISQUEMOP_FILE_BYTES(lines) (UINT64_C(65) + (3 + 4 * BISQUEMOP_LINE_NUMBERS) * (uint64_t)(lines))
 
 /* How a line ends. The last line of a text ends by the end of the text, and no other does. */
 enum bisquemop_end {
@@ -207,6 +218,8 @@ struct bisquemop_settings {
     uint32_t trailing;  /* must be 0. It was for spaces at the end of a line, and keeps its place */
     uint32_t wrap;      /* one of enum bisquemop_wrap: 0 or 1 */
 };
+
+#define BISQUEMOP_SETTINGS_NUMBERS 13 /* how many settings there are */
 
 /*
  * Checks the thirteen settings, given one after the other in the order of struct bisquemop_settings. Returns
@@ -553,6 +566,78 @@ static inline uint32_t bisquemop_settings_index_again(const struct bisquemop_set
  */
 uint32_t bisquemop_find_line(const uint32_t *table, uint64_t table_len, uint64_t lines, const int32_t *index,
                              uint64_t index_len, int32_t y, uint64_t *value);
+
+/*
+ * Writes the thirteen settings and the `lines` lines of the table as a layout file to the `file_len` bytes at `file`,
+ * which must have room for BISQUEMOP_FILE_BYTES(lines). The bytes are the same on every machine; docs/LAYOUT-FILE.md
+ * has their form. The text's length in it is the one that the table says. Bytes past the file keep what they held. The
+ * table is only read. Returns
+ *   BISQUEMOP_OK                    done; *value is how many bytes were written
+ *   BISQUEMOP_SETTING_OUT_OF_RANGE  as by bisquemop_check_settings; *value is 0
+ *   BISQUEMOP_UNKNOWN_ALIGNMENT     as by bisquemop_check_settings; *value is the number that was given
+ *   BISQUEMOP_BAD_LINE              as by bisquemop_first_affected; *value is the first bad line
+ *   BISQUEMOP_TOO_SMALL             `file` has no room for all; *value is how many bytes there are
+ */
+uint32_t bisquemop_write_file(uint32_t glyph, uint32_t width, uint32_t tab, uint32_t spacing, uint32_t paragraph,
+                              uint32_t base, uint32_t height, int32_t top, uint32_t alignment, uint32_t vertical,
+                              uint32_t leading, uint32_t trailing, uint32_t wrap, const uint32_t *table,
+                              uint64_t table_len, uint64_t lines, uint8_t *file, uint64_t file_len, uint64_t *value);
+
+/* The same for settings in a struct, which must not be NULL. */
+static inline uint32_t bisquemop_settings_write_file(const struct bisquemop_settings *s, const uint32_t *table,
+                                                     uint64_t table_len, uint64_t lines, uint8_t *file,
+                                                     uint64_t file_len, uint64_t *value)
+{
+    return bisquemop_write_file(s->glyph, s->width, s->tab, s->spacing, s->paragraph, s->base, s->height, s->top,
+                                s->alignment, s->vertical, s->leading, s->trailing, s->wrap, table, table_len, lines,
+                                file, file_len, value);
+}
+
+/*
+ * Reads the `file_len` bytes at `file`, and hands out the settings as thirteen numbers, in the order of struct
+ * bisquemop_settings and the top as 32 bits in two's complement, to `settings`, which has `settings_len` numbers; the
+ * lines to `table`, which has `table_len`; and the text's length to *text_len. Numbers past those written keep what
+ * they held. bisquemop_settings_from makes a struct of the settings. A file whose table is well formed is read though
+ * its lines be of no layout: only who wrote it can know. `text_len` points to a uint64_t of the caller's, apart from
+ * all else. It must not be NULL. Returns
+ *   BISQUEMOP_OK                    done; *value is how many lines were written
+ *   BISQUEMOP_BAD_FIELD             a field is cut short, out of order, unknown, of the wrong length, missing or after
+ *                                   the end; *value is the offset of the first, and the file's length if one is missing
+ *                                   there
+ *   BISQUEMOP_OLD_ENTRY             such a field is a line, whole and in its place, of ten numbers, where lines have
+ *                                   more; *value is its offset
+ *   BISQUEMOP_SETTING_OUT_OF_RANGE  as by bisquemop_check_settings; *value is 0
+ *   BISQUEMOP_UNKNOWN_ALIGNMENT     as by bisquemop_check_settings; *value is the number that the file has
+ *   BISQUEMOP_RETIRED_SETTING       `trailing` is 1, which is retired; *value is 0. The settings are handed out, with a
+ *                                   0 there, so that the text can be laid again. No line is
+ *   BISQUEMOP_TEXT_TOO_LONG         the text's length is over 65,535; *value is that length
+ *   BISQUEMOP_BAD_LINE              there is no line, the text's length is not the one that the lines say, or a line is
+ *                                   bad as by bisquemop_first_affected; *value is the first bad line, 0 of the first two
+ *   BISQUEMOP_TOO_SMALL             `settings` or `table` has no room; *value is 13, or how many lines there are. Where
+ *                                   settings would go with BISQUEMOP_RETIRED_SETTING, this comes in its place
+ */
+uint32_t bisquemop_read_file(const uint8_t *file, uint64_t file_len, uint32_t *settings, uint64_t settings_len,
+                             uint32_t *table, uint64_t table_len, uint64_t *value, uint64_t *text_len);
+
+/* A struct of the thirteen numbers that were handed out. */
+static inline struct bisquemop_settings bisquemop_settings_from(const uint32_t *numbers)
+{
+    struct bisquemop_settings s;
+    s.glyph = numbers[0];
+    s.width = numbers[1];
+    s.tab = numbers[2];
+    s.spacing = numbers[3];
+    s.paragraph = numbers[4];
+    s.base = numbers[5];
+    s.height = numbers[6];
+    s.top = numbers[7] <= INT32_MAX ? (int32_t)numbers[7] : -(int32_t)(UINT32_MAX - numbers[7]) - 1;
+    s.alignment = numbers[8];
+    s.vertical = numbers[9];
+    s.leading = numbers[10];
+    s.trailing = numbers[11];
+    s.wrap = numbers[12];
+    return s;
+}
 
 #ifdef __cplusplus
 }

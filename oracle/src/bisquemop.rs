@@ -24,6 +24,12 @@ pub enum Refusal {
     TooSmall(u64),
     /// 10, and the index's length or the first line whose y is too small.
     BadIndex(u64),
+    /// 9, and the offset of the field in a layout file.
+    BadField(u64),
+    /// 11, and the offset of the line in a layout file.
+    OldEntry(u64),
+    /// 12; the other settings are handed out.
+    RetiredSetting,
 }
 
 /// The old text's bytes from `a` up to `b` are replaced by `inserted` new ones.
@@ -87,11 +93,24 @@ mod c {
         bisquemop_index_again(
             table: *const u32, table_len: u64, lines: u64, first: u64, index: *mut i32, index_len: u64, value: *mut u64
         );
+        bisquemop_write_file(
+            table: *const u32, table_len: u64, lines: u64, file: *mut u8, file_len: u64, value: *mut u64
+        );
     }
 
     extern "C" {
         pub fn bisquemop_check_text(text: *const u8, len: u64, value: *mut u64) -> u32;
         pub fn bisquemop_tokens(text: *const u8, len: u64, tokens: *mut u32, tokens_len: u64, value: *mut u64) -> u32;
+        pub fn bisquemop_read_file(
+            file: *const u8,
+            file_len: u64,
+            settings: *mut u32,
+            settings_len: u64,
+            table: *mut u32,
+            table_len: u64,
+            value: *mut u64,
+            text_len: *mut u64,
+        ) -> u32;
         pub fn bisquemop_first_affected(
             table: *const u32,
             table_len: u64,
@@ -135,6 +154,9 @@ fn answer(number: u32, value: u64) -> Result<u64, Refusal> {
         6 if value == 0 => Refusal::BadEdit,
         8 => Refusal::TooSmall(value),
         10 => Refusal::BadIndex(value),
+        9 => Refusal::BadField(value),
+        11 => Refusal::OldEntry(value),
+        12 if value == 0 => Refusal::RetiredSetting,
         _ => panic!("the library answered {number} and {value}, which is no refusal"),
     };
     Err(refusal)
@@ -325,4 +347,42 @@ pub fn find_line(table: &[u32], lines: u64, index: &[i32], y: i32) -> Result<Opt
     let number =
         unsafe { c::bisquemop_find_line(table.as_ptr(), len_of(table), lines, index.as_ptr(), len_of(index), y, &mut value) };
     answer(number, value).map(|line| (line != u64::MAX).then_some(line))
+}
+
+/// How many bytes of a layout file were written.
+pub fn write_file(settings: &Settings, table: &[u32], lines: u64, file: &mut [u8]) -> Result<u64, Refusal> {
+    let mut value = 0;
+    // SAFETY: pointers and lengths are those of two slices, one lent for reading and one for writing, which cannot overlap.
+    let number = unsafe {
+        call!(
+            bisquemop_write_file,
+            settings,
+            table.as_ptr(),
+            len_of(table),
+            lines,
+            file.as_mut_ptr(),
+            len_of(file),
+            &mut value
+        )
+    };
+    answer(number, value)
+}
+
+/// How many lines were read from a layout file, and the length of their text. The settings are thirteen numbers.
+pub fn read_file(file: &[u8], settings: &mut [u32], table: &mut [u32]) -> Result<(u64, u64), Refusal> {
+    let (mut value, mut text_len) = (0, UNWRITTEN);
+    // SAFETY: pointers and lengths are those of three slices, one lent for reading and two for writing, which cannot overlap.
+    let number = unsafe {
+        c::bisquemop_read_file(
+            file.as_ptr(),
+            len_of(file),
+            settings.as_mut_ptr(),
+            len_of(settings),
+            table.as_mut_ptr(),
+            len_of(table),
+            &mut value,
+            &mut text_len,
+        )
+    };
+    with(number, value, text_len, UNWRITTEN)
 }

@@ -16,6 +16,7 @@ mod definitions;
 mod edits;
 mod examples;
 #[cfg(library)]
+mod files;
 mod frames;
 mod glue;
 mod inside;
@@ -63,6 +64,7 @@ usage: oracle examples SPECS            the scope's examples, and those of the d
        oracle large COUNT SEED          the same with texts of up to 65,535 bytes
        oracle edits COUNT SEED          edits by chance, laid again by the library and laid afresh
        oracle frames COUNT SEED         lines laid one by one, and from any start and rest, by the library and by the rules
+       oracle files COUNT SEED          layout files by chance, whole and damaged, by the library and by a second writer and reader
        oracle definitions COUNT SEED    a module of cases by chance, for the prover to compute by the definitions
        oracle record CASES SEED         a sample of the crate's answers, a case a line, for a replay with no Rust at hand
        oracle bench WORK NAME BYTES GLYPHS ALIGNMENT TIMES
@@ -98,6 +100,7 @@ fn main() {
         ["edits", count, seed] => count.parse().ok().zip(seed.parse().ok()).map(|(count, seed)| edits::run(count, seed)),
         #[cfg(library)]
         ["frames", count, seed] => count.parse().ok().zip(seed.parse().ok()).map(|(count, seed)| frames::run(count, seed)),
+        ["files", count, seed] => count.parse().ok().zip(seed.parse().ok()).map(|(count, seed)| files::run(count, seed)),
         #[cfg(library)]
         ["bench", work, name, bytes, glyphs, alignment, times] => bench::run(
             work,

@@ -3,8 +3,8 @@
  *
  * usage: checks [--edits N] [--seed N]
  *
- * N random edits are made, and as many tables spoiled at random, by default 20,000. They follow from the seed, by
- * default 1. With SMALL_MEMORY defined, the two tests that need the largest tables are left out.
+ * N random edits are made, and as many tables and layout files spoiled at random, by default 20,000. They follow from
+ * the seed, by default 1. With SMALL_MEMORY defined, the two tests that need the largest tables are left out.
  */
 #include "harness.h"
 
@@ -73,6 +73,10 @@ int main(int count, char **words)
     test_bad_starts();
     printf("justified texts\n");
     test_even();
+    printf("layout files\n");
+    test_files();
+    printf("%lu damaged files, seed %lu\n", edits, seed);
+    test_damaged(edits, seed);
     printf("%lu spoiled tables, seed %lu\n", edits, seed);
     test_spoiled(edits, seed);
 #ifndef SMALL_MEMORY

@@ -281,6 +281,84 @@ void expect_no_line(const char *what, struct bisquemop_settings s, const uint8_t
     compare_line(what, s, text, len, from, room, &expected);
 }
 
+/* The bytes that are lent, between two guards. */
+#ifdef SMALL_MEMORY
+#define FILE_ROOM BISQUEMOP_FILE_BYTES(256)
+#else
+#define FILE_ROOM (BISQUEMOP_FILE_BYTES(BISQUEMOP_LINES_MAX) + 256)
+#endif
+
+static uint8_t lent_bytes[GUARD + FILE_ROOM + GUARD];
+
+static uint8_t *lend_bytes(const uint8_t *bytes, size_t room)
+{
+    if (room > FILE_ROOM) {
+        expect("the tests' own bytes are enough", 0);
+        return NULL;
+    }
+    for (size_t i = 0; i < GUARD + room + GUARD; i++) {
+        lent_bytes[i] = (uint8_t)held(i);
+    }
+    if (bytes != NULL) {
+        memcpy(lent_bytes + GUARD, bytes, room);
+    }
+    return room == 0 ? NULL : lent_bytes + GUARD;
+}
+
+static void compare_bytes(const char *what, size_t room, const uint8_t *written, size_t count)
+{
+    for (size_t i = 0; i < GUARD + room + GUARD; i++) {
+        int front = GUARD <= i && i < GUARD + count;
+        uint8_t expected = front ? written[i - GUARD] : (uint8_t)held(i);
+        if (lent_bytes[i] != expected) {
+            failed++;
+            printf("FAILED %s: in %lu bytes, at %ld: expected %u%s, got %u\n", what, (unsigned long)room,
+                   (long)i - GUARD, (unsigned)expected, front ? "" : " as before", (unsigned)lent_bytes[i]);
+            return;
+        }
+    }
+    passed++;
+}
+
+void expect_write(const char *what, struct bisquemop_settings s, const uint32_t *table, size_t table_len, uint64_t lines,
+                  size_t room, uint32_t number, uint64_t value, const uint8_t *written)
+{
+    size_t count = number == BISQUEMOP_OK ? (size_t)value : 0;
+    for (int spread = 0; spread < 2; spread++) {
+        struct answer a = no_answer();
+        uint8_t *file = lend_bytes(NULL, room);
+        a.number = spread ? bisquemop_settings_write_file(&s, table, table_len, lines, file, room, &a.value)
+                          : bisquemop_write_file(s.glyph, s.width, s.tab, s.spacing, s.paragraph, s.base, s.height,
+                                                 s.top, s.alignment, s.vertical, s.leading, s.trailing, s.wrap, table,
+                                                 table_len, lines, file, room, &a.value);
+        if (!compare(what, &a, number, value)) {
+            printf(spread ? ", from a struct\n" : ", from thirteen numbers\n");
+        }
+        compare_bytes(what, room, written, count);
+    }
+}
+
+void expect_read(const char *what, const uint8_t *file, size_t len, size_t settings_room, size_t table_room,
+                 uint32_t number, uint64_t value, const uint32_t *settings, const uint32_t *table, uint64_t text_len)
+{
+    int done = number == BISQUEMOP_OK;
+    struct answer a = no_answer(), length = no_answer();
+    uint8_t *bytes = lend_bytes(file, len);
+    uint32_t *handed = lend_in(lent_for_events, settings_room), *rows = lend(table_room);
+    a.number = bisquemop_read_file(bytes, len, handed, settings_room, rows, table_room, &a.value, &length.value);
+    length.number = a.number;
+    if (!compare(what, &a, number, value)) {
+        show_text(file, len);
+    }
+    if (!compare(what, &length, number, done ? text_len : UNWRITTEN)) {
+        printf(", the text's length");
+        show_text(file, len);
+    }
+    compare_lent(what, table_room, table, done ? BISQUEMOP_LINE_NUMBERS * (size_t)value : 0);
+    compare_in(lent_for_events, what, settings_room, settings, settings != NULL ? BISQUEMOP_SETTINGS_NUMBERS : 0);
+    compare_bytes(what, len, file, len);
+}
+
 /* A copy of a table that a call is lent, between the guards. */
 static uint32_t *lend_table(const uint32_t *table, size_t table_len)
 {

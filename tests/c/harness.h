@@ -107,6 +107,20 @@ void expect_refused(const char *what, struct bisquemop_settings s, const struct 
 uint64_t lay_text(const char *what, struct bisquemop_settings s, const uint8_t *text, size_t len, uint32_t *table,
                   size_t table_len);
 
+/*
+ * Writes the file of a table to a buffer of `room` bytes, from thirteen numbers and from a struct. Where the call is
+ * done, the buffer's front must be the `value` bytes at `written`; all else must stay as it was.
+ */
+void expect_write(const char *what, struct bisquemop_settings s, const uint32_t *table, size_t table_len, uint64_t lines,
+                  size_t room, uint32_t number, uint64_t value, const uint8_t *written);
+
+/*
+ * Reads a file, lent as a copy of its own, to buffers of so many numbers. `settings` is what must be handed out, or
+ * NULL; where the call is done, `table` is what the table must hold, and the text's length is written.
+ */
+void expect_read(const char *what, const uint8_t *file, size_t len, size_t settings_room, size_t table_room,
+                 uint32_t number, uint64_t value, const uint32_t *settings, const uint32_t *table, uint64_t text_len);
+
 /* Prints how many cases of a long run are done, at every 100,000. */
 void tell_progress(unsigned long done);
 
@@ -132,6 +146,8 @@ void test_characters(void);
 void test_one_line(void);
 void test_bad_starts(void);
 void test_even(void);
+void test_files(void);
+void test_damaged(unsigned long files, unsigned long seed);
 void test_spoiled(unsigned long tables, unsigned long seed);
 void test_edits(unsigned long edits, unsigned long seed);
 

@@ -17,7 +17,8 @@ enum {
     LONG = 4000, /* and of some */
     TOKENS = BISQUEMOP_TOKEN_NUMBERS * LONG,
     TABLE = BISQUEMOP_LINE_NUMBERS * (LONG + 1),
-    EVENTS = BISQUEMOP_EVENT_NUMBERS * LONG
+    EVENTS = BISQUEMOP_EVENT_NUMBERS * LONG,
+    FILE_BYTES = 65 + (3 + 4 * BISQUEMOP_LINE_NUMBERS) * (LONG + 1)
 };
 
 /* A case: what the calls are given, and the buffers that they are lent. */
@@ -28,6 +29,7 @@ static uint32_t tokens[TOKENS], table[TABLE], events[EVENTS];
 static uint64_t lines;
 static uint32_t entry[BISQUEMOP_LINE_NUMBERS + 2];
 static int32_t ys[LONG + 2]; /* one more than a text has lines */
+static uint8_t file[FILE_BYTES];
 
 /* One time in so many. */
 static int seldom(uint32_t times)
@@ -57,11 +59,11 @@ static uint32_t random_number(void)
 /* ---- the calls, each with all that it answers */
 
 /* How often each number was returned. */
-static unsigned long returned[BISQUEMOP_BAD_INDEX + 1];
+static unsigned long returned[BISQUEMOP_RETIRED_SETTING + 1];
 
 static void add_answer(uint32_t number, uint64_t value)
 {
-    if (number <= BISQUEMOP_BAD_INDEX) {
+    if (number <= BISQUEMOP_RETIRED_SETTING) {
         returned[number]++;
     }
     add_number(number);
@@ -177,6 +179,29 @@ static void ask_index(uint64_t first)
     add_answer(number, value);
 }
 
+/* The bytes of the table's file go into the digest, and what is read of them, at times damaged. The table that is read stands
+   in the event buffer. */
+static void ask_file(void)
+{
+    uint64_t value = 0, bytes = 0, most = BISQUEMOP_FILE_BYTES(lines), room = random_room(most);
+    uint32_t handed[BISQUEMOP_SETTINGS_NUMBERS + 1] = {0};
+    uint32_t number = bisquemop_settings_write_file(&settings, table, TABLE, lines, file, room, &value);
+    add_answer(number, value);
+    for (uint64_t i = 0; i < room; i++) {
+        add_number(file[i]);
+    }
+    if (seldom(3)) {
+        uint32_t where = below((uint32_t)most);
+        file[where] = seldom(2) ? (uint8_t)below(256) : (uint8_t)(file[where] + 1);
+    }
+    uint64_t settings_room = seldom(8) ? below(14) : BISQUEMOP_SETTINGS_NUMBERS, len = seldom(8) ? room : most;
+    number = bisquemop_read_file(file, len, handed, settings_room, events, EVENTS, &value, &bytes);
+    add_answer(number, value);
+    add_long(bytes);
+    add_numbers(handed, BISQUEMOP_SETTINGS_NUMBERS + 1);
+    add_numbers(events, BISQUEMOP_LINE_NUMBERS * lines < EVENTS ? BISQUEMOP_LINE_NUMBERS * lines : EVENTS);
+}
+
 /* ---- an edit */
 
 static struct edit make_edit(void)
@@ -259,6 +284,7 @@ static void one_case(void)
     }
     ask_places();
     ask_index(0);
+    ask_file();
     ask_again();
 }
 

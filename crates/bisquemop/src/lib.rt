@@ -4,6 +4,8 @@ use checks::refusals::checked_number;
 use checks::refusals::checked_value;
 use checks::settings::check_settings;
 use checks::text::check_text;
+use files::reader::read_file;
+use files::writer::write_file;
 use frames::frame::one_line;
 use frames::opening::open_text;
 use heights::height::line_y;
@@ -39,6 +41,11 @@ use replies::layout_value;
 use replies::open_number;
 use replies::open_value;
 use replies::put_y;
+use replies::reading_length;
+use replies::reading_number;
+use replies::reading_value;
+use replies::writing_number;
+use replies::writing_value;
 use replies::relay_count;
 use replies::relay_number;
 use replies::relay_value;
@@ -52,8 +59,8 @@ ghost use mathlib.Core.Path.{_≡_};
 ghost use Rattle.meaning.specs.Settings.{settingsOf};
 ghost use Rattle.meaning.specs.Refusals.{checkedNumber, checkedValue};
 ghost use Rattle.meaning.specs.Checks.{checkSettings, checkText};
-ghost use Rattle.meaning.specs.Answers.{tokensNumber, tokensValue, layoutNumber, layoutValue, drawingNumber, drawingValue, drawingCount, openNumber, openValue, frameNumber, frameValue, frameRestEnd, frameRestCount, affectedNumber, affectedValue, relayNumber, relayValue, relayCount, heightNumber, heightValue, yNumber, yValue, yPlace, indexNumber, indexValue, findNumber, findValue};
-ghost use Rattle.meaning.specs.Calls.{tokensAnswer, tokensBuffer, layoutAnswer, layoutTable, drawingAnswer, drawingTable, drawingEvents, openAnswer, frameAnswer, frameEntry, affectedAnswer, relayAnswer, relayTable, heightAnswer, yAnswer, indexAnswer, indexAfter, indexAgainAfter, findAnswer};
+ghost use Rattle.meaning.specs.Answers.{tokensNumber, tokensValue, layoutNumber, layoutValue, drawingNumber, drawingValue, drawingCount, openNumber, openValue, frameNumber, frameValue, frameRestEnd, frameRestCount, affectedNumber, affectedValue, relayNumber, relayValue, relayCount, heightNumber, heightValue, yNumber, yValue, yPlace, indexNumber, indexValue, findNumber, findValue, writingNumber, writingValue, readingNumber, readingValue, readingLength};
+ghost use Rattle.meaning.specs.Calls.{tokensAnswer, tokensBuffer, layoutAnswer, layoutTable, drawingAnswer, drawingTable, drawingEvents, openAnswer, frameAnswer, frameEntry, affectedAnswer, relayAnswer, relayTable, heightAnswer, yAnswer, indexAnswer, indexAfter, indexAgainAfter, findAnswer, writingAnswer, writingFile, readingAnswer, readingSettings, readingTable};
 ghost use Rattle.bisquemop.specs.Edits.{editOf, restFrom};
 
 // The settings from the thirteen numbers that C passes.
@@ -608,4 +615,68 @@ pub extern "C" fn bisquemop_find_line(
     let answer = find_line(table, lines as usize, index, y);
     *value = find_value(answer);
     find_number(answer)
+}
+
+#[no_mangle]
+pub extern "C" fn bisquemop_write_file(
+    glyph: u32,
+    width: u32,
+    tab: u32,
+    spacing: u32,
+    paragraph: u32,
+    base: u32,
+    height: u32,
+    top: i32,
+    alignment: u32,
+    vertical: u32,
+    leading: u32,
+    trailing: u32,
+    wrap: u32,
+    table: &[u32],
+    lines: u64,
+    file: &mut [u8],
+    value: &mut u64,
+) -> u32
+    ensures { λ r. ⌜ r ≡ writingNumber (writingAnswer (settingsOf glyph width tab spacing paragraph base height top alignment vertical leading trailing wrap) (now (table .entry)) lines (now (file .entry))) ⌝ }
+    ensures { λ r. ⌜ now (file .exit) ≡ writingFile (settingsOf glyph width tab spacing paragraph base height top alignment vertical leading trailing wrap) (now (table .entry)) lines (now (file .entry)) ⌝ }
+    ensures { λ r. ⌜ now (value .exit) ≡ writingValue (writingAnswer (settingsOf glyph width tab spacing paragraph base height top alignment vertical leading trailing wrap) (now (table .entry)) lines (now (file .entry))) ⌝ }
+{
+    let s = settings_from(
+        glyph,
+        width,
+        tab,
+        spacing,
+        paragraph,
+        base,
+        height,
+        top,
+        alignment,
+        vertical,
+        leading,
+        trailing,
+        wrap,
+    );
+    let answer = write_file(s, table, lines as usize, file);
+    *value = writing_value(answer);
+    writing_number(answer)
+}
+
+#[no_mangle]
+pub extern "C" fn bisquemop_read_file(
+    file: &[u8],
+    settings: &mut [u32],
+    table: &mut [u32],
+    value: &mut u64,
+    bytes: &mut u64,
+) -> u32
+    ensures { λ r. ⌜ r ≡ readingNumber (readingAnswer (now (file .entry)) (now (settings .entry)) (now (table .entry))) ⌝ }
+    ensures { λ r. ⌜ now (settings .exit) ≡ readingSettings (now (file .entry)) (now (settings .entry)) (now (table .entry)) ⌝ }
+    ensures { λ r. ⌜ now (table .exit) ≡ readingTable (now (file .entry)) (now (settings .entry)) (now (table .entry)) ⌝ }
+    ensures { λ r. ⌜ now (value .exit) ≡ readingValue (readingAnswer (now (file .entry)) (now (settings .entry)) (now (table .entry))) ⌝ }
+    ensures { λ r. ⌜ now (bytes .exit) ≡ readingLength (readingAnswer (now (file .entry)) (now (settings .entry)) (now (table .entry))) (now (bytes .entry)) ⌝ }
+{
+    let answer = read_file(file, settings, table);
+    *value = reading_value(answer);
+    *bytes = reading_length(answer, *bytes);
+    reading_number(answer)
 }

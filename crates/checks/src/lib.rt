@@ -1,4 +1,5 @@
-// The public checks of settings and text: refusals 1 to 4 of the scope.
+// The public checks of settings and text: refusals 1 to 4 of the scope; and refusal 8, of a buffer.
 pub mod refusals;
+pub mod room;
 pub mod settings;
 pub mod text;

@@ -1,5 +1,5 @@
 // Each refusal as a number, and the value that goes besides it.
-// Refusal 1, refusal 2, refusal 3, refusal 4, refusal 5, refusal 6, refusal 8, refusal 10.
+// Refusal 1, refusal 2, refusal 3, refusal 4, refusal 5, refusal 6, refusal 8, refusal 9, refusal 10, refusal 11, refusal 12.
 use meaning::refusals::Checked;
 use meaning::refusals::Refusal;
 ghost use mathlib.Core.Path.{_≡_};
@@ -16,7 +16,10 @@ pub fn number(r: Refusal) -> u32
         Refusal::BadLine(_) => 5,
         Refusal::BadEdit => 6,
         Refusal::TooSmall(_) => 8,
+        Refusal::BadField(_) => 9,
         Refusal::BadIndex(_) => 10,
+        Refusal::OldEntry(_) => 11,
+        Refusal::RetiredSetting => 12,
     }
 }
 
@@ -31,7 +34,10 @@ pub fn value(r: Refusal) -> u64
         Refusal::BadLine(line) => line,
         Refusal::BadEdit => 0,
         Refusal::TooSmall(needed) => needed,
+        Refusal::BadField(offset) => offset,
         Refusal::BadIndex(found) => found,
+        Refusal::OldEntry(offset) => offset,
+        Refusal::RetiredSetting => 0,
     }
 }
 

@@ -66,6 +66,9 @@ pub mod Steps
 pub mod Suffixes
 pub mod TableLaws
 pub mod TableSpaces
+pub mod FileNumbers
+pub mod FileFields
+pub mod FileLaws
 pub mod TestOrder
 pub mod TokenLaws
 pub mod TokensAgree

@@ -82,11 +82,11 @@ entries-first (suc k) zero t h = absurd (omega arith)
 entries-first (suc k) (suc n) t h = ap (_∷_ (entryIn t)) (entries-first k n (drop entryNumbers t) (omega arith))
 
 -- The values at the first n numbers.
-abbrev values : ℕ → (ℕ → ℕ) → List ℕ
+abbrev pub values : ℕ → (ℕ → ℕ) → List ℕ
 values zero f = []
 values (suc n) f = f 0 ∷ values n (λ i. f (suc i))
 
-values-are : (n : ℕ) (t : List ℕ) → n ≤ length t → values n (λ i. getD t i 0) ≡ take n t
+pub values-are : (n : ℕ) (t : List ℕ) → n ≤ length t → values n (λ i. getD t i 0) ≡ take n t
 values-are zero t h = refl
 values-are (suc n) [] h = absurd (omega arith)
 values-are (suc n) (x ∷ t) h = ap (λ (l : List ℕ). x ∷ l) (values-are n t (omega arith))

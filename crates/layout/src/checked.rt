@@ -1,9 +1,9 @@
 // The tests of a fresh layout, in their order. None of them writes anything (refusal 1, refusal 2, refusal 3, refusal 4, refusal 8).
 use crate::events::count_events;
+use checks::room::check_room;
 use checks::settings::check_settings;
 use checks::text::check_text;
 use meaning::refusals::Checked;
-use meaning::refusals::Refusal;
 use meaning::settings::Settings;
 use meaning::sizes::ENTRY_NUMBERS;
 use meaning::sizes::EVENT_NUMBERS;
@@ -15,16 +15,6 @@ ghost use Rattle.meaning.specs.Table.{entryNumbers, eventNumbers, capacityOf};
 ghost use Rattle.meaning.specs.Calls.{checkLayout};
 ghost use Rattle.rows.specs.RowsFrom.{TextReady, entriesOf};
 ghost use Rattle.layout.specs.EventsFrom.{eventsOf};
-
-// Refusal 8.
-fn check_room(room: usize, needed: usize) -> Checked
-    ensures { λ r. ⌜ r ≡ checkRoom room needed ⌝ }
-{
-    if room < needed {
-        return Checked::Refused(Refusal::TooSmall(needed as u64));
-    }
-    Checked::Good
-}
 
 // Refusal 8 of the table. A text has at most one line more than bytes, so a table with room for so many needs no count first.
 fn check_lines(s: Settings, text: &[u8], table: &[u32]) -> Checked

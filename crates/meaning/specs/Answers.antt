@@ -1,5 +1,5 @@
 -- What the scope's numbers are for each answer: 0 where a call was done, else the refusal's number; and the values besides.
--- Refusal 1, refusal 2, refusal 3, refusal 4, refusal 5, refusal 6, refusal 8, refusal 10.
+-- Refusal 1, refusal 2, refusal 3, refusal 4, refusal 5, refusal 6, refusal 8, refusal 9, refusal 10, refusal 11, refusal 12.
 -- Assumes nothing.
 use Prim.Native.Nat.{ℕ}
 use lib.IntN.{ℤ}
@@ -26,6 +26,10 @@ use Rattle.meaning.specs.declared.answers.Indexed.{Indexed}
 use Rattle.meaning.specs.declared.answers.Indexed.the-variants as indexed
 use Rattle.meaning.specs.declared.answers.FoundLine.{FoundLine}
 use Rattle.meaning.specs.declared.answers.FoundLine.the-variants as found
+use Rattle.meaning.specs.declared.answers.FileWritten.{FileWritten}
+use Rattle.meaning.specs.declared.answers.FileWritten.the-variants as filed
+use Rattle.meaning.specs.declared.answers.FileRead.{FileRead}
+use Rattle.meaning.specs.declared.answers.FileRead.the-variants as fileread
 
 abbrev pub tokensNumber : Tokenized → ℕ
 tokensNumber (tokenized.Tokens n) = 0
@@ -151,3 +155,24 @@ abbrev pub findValue : FoundLine → ℕ
 findValue (found.Line k) = k
 findValue found.NoLine = noLineNumber
 findValue (found.Refused r) = besides r
+
+abbrev pub writingNumber : FileWritten → ℕ
+writingNumber (filed.Bytes n) = 0
+writingNumber (filed.Refused r) = numberOf r
+
+abbrev pub writingValue : FileWritten → ℕ
+writingValue (filed.Bytes n) = n
+writingValue (filed.Refused r) = besides r
+
+abbrev pub readingNumber : FileRead → ℕ
+readingNumber (fileread.Lines n bytes) = 0
+readingNumber (fileread.Refused r) = numberOf r
+
+abbrev pub readingValue : FileRead → ℕ
+readingValue (fileread.Lines n bytes) = n
+readingValue (fileread.Refused r) = besides r
+
+-- The text's length is written only where the call was done.
+abbrev pub readingLength : FileRead → (old : ℕ) → ℕ
+readingLength (fileread.Lines n bytes) old = bytes
+readingLength (fileread.Refused r) old = old

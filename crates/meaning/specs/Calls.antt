@@ -1,11 +1,11 @@
 -- What each public call answers, and what each buffer that it is lent holds afterwards, from what it was lent alone.
 -- A text is a list of bytes here, and a table or buffer a list of numbers.
--- Refusal 1, refusal 2, refusal 3, refusal 4, refusal 5, refusal 6, refusal 8, refusal 10, laying again.
+-- Refusal 1, refusal 2, refusal 3, refusal 4, refusal 5, refusal 6, refusal 8, refusal 9, refusal 10, refusal 11, refusal 12, laying again.
 -- Assumes nothing.
 use Prim.Native.Nat.{ℕ}
 use mathlib.Core.Bool.{not}
 use mathlib.Core.List.{List, [], _∷_, map}
-use lib.Dec.{ltb}
+use lib.Dec.{ltb, eqb}
 use lib.IntN.{ℤ}
 use lib.ListN.{length}
 use Rattle.basis.specs.Choice.{pick}
@@ -19,6 +19,9 @@ use Rattle.meaning.specs.Edit.{unaffected, affected, checkWhole, checkRe
 use Rattle.meaning.specs.Frames.{standGood, oneLine}
 use Rattle.meaning.specs.Height.{heightOf, yOf, showsAt}
 use Rattle.meaning.specs.YIndex.{indexOf, keptBefore, writtenFrom, checkIndex, findIn}
+use Rattle.meaning.specs.LayoutFile.{settingsNumbers, ofSettings, layoutFile}
+use Rattle.meaning.specs.ReadFile.{checkFields, fileSettings, fileTextLength, fileEntries, unretired, checkRetired, checkLinesRead}
+use Rattle.meaning.specs.Refusals.{numberOf}
 use Rattle.meaning.specs.declared.settings.Settings.{Settings}
 use Rattle.meaning.specs.declared.tokens.Token.{Token}
 use Rattle.meaning.specs.declared.edit.Edit.{Edit}
@@ -50,6 +53,10 @@ use Rattle.meaning.specs.declared.answers.Indexed.{Indexed}
 use Rattle.meaning.specs.declared.answers.Indexed.the-variants as indexed
 use Rattle.meaning.specs.declared.answers.FoundLine.{FoundLine}
 use Rattle.meaning.specs.declared.answers.FoundLine.the-variants as found
+use Rattle.meaning.specs.declared.answers.FileWritten.{FileWritten}
+use Rattle.meaning.specs.declared.answers.FileWritten.the-variants as filed
+use Rattle.meaning.specs.declared.answers.FileRead.{FileRead}
+use Rattle.meaning.specs.declared.answers.FileRead.the-variants as fileread
 
 -- ---- tokens
 
@@ -211,3 +218,45 @@ checkFinding table lines index = firstOf (checkTable lines table ∷ checkIndex 
 
 unfoldable pub findAnswer : List ℕ → (lines : ℕ) → (index : List ℤ) → (y : ℤ) → FoundLine
 findAnswer table lines index y = answered (checkFinding table lines index) (findIn y index) found.Refused
+
+-- ---- a layout written to a file: 1, 2, 5, 8 (in bytes)
+
+unfoldable pub writtenFile : Settings → List ℕ → (lines : ℕ) → List ℕ
+writtenFile s table lines = layoutFile s (entriesIn lines table)
+
+unfoldable pub checkWriting : Settings → List ℕ → (lines : ℕ) → (file : List ℕ) → Checked
+checkWriting s table lines file =
+    firstOf (checkSettings s ∷ checkTable lines table ∷ checkRoom (length file) (length (writtenFile s table lines)) ∷ [])
+
+unfoldable pub writingAnswer : Settings → List ℕ → (lines : ℕ) → (file : List ℕ) → FileWritten
+writingAnswer s table lines file =
+    answered (checkWriting s table lines file) (filed.Bytes (length (writtenFile s table lines))) filed.Refused
+
+unfoldable pub writingFile : Settings → List ℕ → (lines : ℕ) → (file : List ℕ) → List ℕ
+writingFile s table lines file = afterwards (checkWriting s table lines file) (written file (writtenFile s table lines)) file
+
+-- ---- a layout read from a file: 9 and 11, 1, 2, 12, 3, 5, 8 (of the settings, then of the table)
+
+unfoldable pub checkReading : (file settings table : List ℕ) → Checked
+checkReading file settings table =
+    let s = fileSettings file in
+    firstOf
+    (checkFields file ∷ checkSettings (unretired s) ∷ checkRetired (length settings) s ∷ checkLength (fileTextLength file)
+    ∷ checkLinesRead (fileTextLength file) (fileEntries file) ∷ checkRoom (length settings) settingsNumbers
+    ∷ checkRoom (capacityOf entryNumbers table) (length (fileEntries file)) ∷ [])
+
+unfoldable pub readingAnswer : (file settings table : List ℕ) → FileRead
+readingAnswer file settings table =
+    answered (checkReading file settings table) (fileread.Lines (length (fileEntries file)) (fileTextLength file)) fileread.Refused
+
+unfoldable pub readingTable : (file settings table : List ℕ) → List ℕ
+readingTable file settings table = afterwards (checkReading file settings table) (written table (ofAll ofEntry (fileEntries file))) table
+
+-- The settings are handed out where nothing is refused, and with refusal 12.
+unfoldable pub handedOut : Checked → List ℕ → List ℕ → List ℕ
+handedOut Good new old = new
+handedOut (Refused r) new old = pick (eqb (numberOf r) 12) new old
+
+unfoldable pub readingSettings : (file settings table : List ℕ) → List ℕ
+readingSettings file settings table =
+    handedOut (checkReading file settings table) (written settings (ofSettings (unretired (fileSettings file)))) settings

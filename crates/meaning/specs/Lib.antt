@@ -17,11 +17,14 @@ pub mod Edit
 pub mod Frames
 pub mod Height
 pub mod YIndex
+pub mod LayoutFile
+pub mod ReadFile
 pub mod Calls
 pub mod Answers
 pub mod Examples
 pub mod EditExamples
 pub mod FrameExamples
+pub mod FileExamples
 pub mod SmallExamples
 pub mod IndexExamples
 pub mod StarredExamples

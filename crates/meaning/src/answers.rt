@@ -71,3 +71,15 @@ pub enum FoundLine {
     NoLine,
     Refused(Refusal),
 }
+
+// How many bytes of a layout file were written.
+pub enum FileWritten {
+    Bytes(u64),
+    Refused(Refusal),
+}
+
+// How many lines were read from a layout file, and the length of their text.
+pub enum FileRead {
+    Lines(u64, u64),
+    Refused(Refusal),
+}

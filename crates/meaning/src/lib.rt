@@ -3,6 +3,7 @@ pub mod answers;
 pub mod counts;
 pub mod cursor;
 pub mod edit;
+pub mod fields;
 pub mod line;
 pub mod refusals;
 pub mod settings;

@@ -37,3 +37,8 @@ pub const BEFORE: usize = 10;
 
 // What C gets in place of a line where there is none. `noLineNumber` of specs/ says the same.
 pub const NO_LINE: u64 = 18446744073709551615;
+
+// The numbers of the settings, and the place of the one that is retired.
+pub const SETTINGS_NUMBERS: usize = 13;
+
+pub const TRAILING: usize = 11;

@@ -17,9 +17,11 @@ use Rattle.meaning.specs.declared.answers.Relaid.{Relaid}
 use Rattle.meaning.specs.declared.answers.Indexed.{Indexed}
 use Rattle.meaning.specs.declared.answers.FoundLine.{FoundLine}
 use Rattle.promises.specs.Call.{Meets}
-use Rattle.promises.specs.InsideCalls.{tokenize, layout, layout-with-events, one-line, first-affected, lay-again, make-index, make-index-again, find-line}
-use Rattle.promises.specs.ForCCalls.{c-tokens, c-layout, c-layout-events, c-one-line, c-first-affected, c-lay-again, c-line-y, c-index, c-index-again, c-find-line}
+use Rattle.promises.specs.InsideCalls.{tokenize, layout, layout-with-events, one-line, first-affected, lay-again, make-index, make-index-again, find-line, write-file, read-file}
+use Rattle.promises.specs.ForCCalls.{c-tokens, c-layout, c-layout-events, c-one-line, c-first-affected, c-lay-again, c-line-y, c-index, c-index-again, c-find-line, c-write-file, c-read-file}
 use Rattle.promises.specs.Passed.{Lent, LentNumber, LentSigned, passed, passedEdit, noneLeft, noEditLeft, LentYs}
+use Rattle.meaning.specs.declared.answers.FileWritten.{FileWritten}
+use Rattle.meaning.specs.declared.answers.FileRead.{FileRead}
 
 -- ---- the calls in Rattle
 
@@ -52,6 +54,13 @@ MakeIndexAgain κs s table lines first index z after =
 
 abbrev pub FindLine : (κs : Lfts 2) → (table : Lent) (lines : ℕ) (index : LentYs) (y : ℤ) → FoundLine → Type 0
 FindLine κs table lines index y z = Meets find-line κs (table, (lines, (index, (y, tt)))) z (tt, (tt, (tt, (tt, tt))))
+
+abbrev pub WriteFile : (κs : Lfts 2) → Settings → (table : Lent) → (lines : ℕ) → (file : Lent) → FileWritten → (after : List ℕ) → Type 0
+WriteFile κs s table lines file z after = Meets write-file κs (s, (table, (lines, (file, tt)))) z (tt, (tt, (tt, (after, tt))))
+
+abbrev pub ReadFile : (κs : Lfts 3) → (file settings table : Lent) → FileRead → (handed after : List ℕ) → Type 0
+ReadFile κs file settings table z handed after =
+    Meets read-file κs (file, (settings, (table, tt))) z (tt, (handed, (after, tt)))
 
 -- ---- the calls for C
 
@@ -102,3 +111,13 @@ CIndexAgain κs s table lines first index value z after value′ =
 abbrev pub CFindLine : (κs : Lfts 3) → (table : Lent) (lines : ℕ) (index : LentYs) (y : ℤ) (value : LentNumber) (z value′ : ℕ) → Type 0
 CFindLine κs table lines index y value z value′ =
     Meets c-find-line κs (table, (lines, (index, (y, (value, tt))))) z (tt, (tt, (tt, (tt, (value′, tt)))))
+
+abbrev pub CWriteFile : (κs : Lfts 3) → Settings → (table : Lent) → (lines : ℕ) → (file : Lent) → (value : LentNumber) (z : ℕ)
+    (after : List ℕ) (value′ : ℕ) → Type 0
+CWriteFile κs s table lines file value z after value′ =
+    Meets c-write-file κs (passed s (table, (lines, (file, (value, tt))))) z (noneLeft (tt, (tt, (after, (value′, tt)))))
+
+abbrev pub CReadFile : (κs : Lfts 5) → (file settings table : Lent) (value bytes : LentNumber) (z : ℕ) (handed after : List ℕ)
+    (value′ bytes′ : ℕ) → Type 0
+CReadFile κs file settings table value bytes z handed after value′ bytes′ =
+    Meets c-read-file κs (file, (settings, (table, (value, (bytes, tt))))) z (tt, (handed, (after, (value′, (bytes′, tt)))))

@@ -3,7 +3,7 @@
 -- Assumes nothing.
 use Rattle.promises.specs.Call.{AsksNothing, Agrees, agree}
 use Rattle.promises.specs.Passed.{noneLeft}
-use Rattle.promises.specs.ForCCalls.{c-check-settings, c-check-text, c-tokens, c-layout, c-layout-events, c-open, c-one-line, c-first-affected, c-lay-again, c-height, c-line-y, c-index, c-index-again, c-find-line}
+use Rattle.promises.specs.ForCCalls.{c-check-settings, c-check-text, c-tokens, c-layout, c-layout-events, c-open, c-one-line, c-first-affected, c-lay-again, c-height, c-line-y, c-index, c-index-again, c-find-line, c-write-file, c-read-file}
 
 -- None of them has a `requires`.
 pub for-c-asks-nothing : AsksNothing c-check-settings
@@ -20,7 +20,11 @@ pub for-c-asks-nothing : AsksNothing c-check-settings
     × AsksNothing c-index
     × AsksNothing c-index-again
     × AsksNothing c-find-line
+    × AsksNothing c-write-file
+    × AsksNothing c-read-file
 for-c-asks-nothing = (
+  λ κs a. tt,
+  λ κs a. tt,
   λ κs a. tt,
   λ κs a. tt,
   λ κs a. tt,
@@ -102,3 +106,15 @@ c-index-again-agrees κs a z z′ ws ws′ p q = (
 
 pub c-find-line-agrees : Agrees c-find-line
 c-find-line-agrees κs a z z′ ws ws′ p q = (agree (p .0) (q .0), λ i. (tt, (tt, (tt, (tt, (agree (p .1) (q .1) i, tt))))))
+
+pub c-write-file-agrees : Agrees c-write-file
+c-write-file-agrees κs a z z′ ws ws′ p q = (
+  agree (p .0) (q .0),
+  λ i. noneLeft (tt, (tt, (agree (p .1 .0) (q .1 .0) i, (agree (p .1 .1) (q .1 .1) i, tt)))),
+)
+
+pub c-read-file-agrees : Agrees c-read-file
+c-read-file-agrees κs a z z′ ws ws′ p q = (
+  agree (p .0) (q .0),
+  λ i. (tt, (agree (p .1 .0) (q .1 .0) i, (agree (p .1 .1 .0) (q .1 .1 .0) i, (agree (p .1 .1 .1 .0) (q .1 .1 .1 .0) i, (agree (p .1 .1 .1 .1) (q .1 .1 .1 .1) i, tt))))),
+)

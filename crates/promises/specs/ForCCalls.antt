@@ -29,6 +29,10 @@ use Rattle.bisquemop.proofs.bisquemop_index_again.Kinds as c-index-again-kinds
 use Rattle.bisquemop.proofs.bisquemop_index_again.Reads as c-index-again-reads
 use Rattle.bisquemop.proofs.bisquemop_find_line.Kinds as c-find-line-kinds
 use Rattle.bisquemop.proofs.bisquemop_find_line.Reads as c-find-line-reads
+use Rattle.bisquemop.proofs.bisquemop_write_file.Kinds as c-write-file-kinds
+use Rattle.bisquemop.proofs.bisquemop_write_file.Reads as c-write-file-reads
+use Rattle.bisquemop.proofs.bisquemop_read_file.Kinds as c-read-file-kinds
+use Rattle.bisquemop.proofs.bisquemop_read_file.Reads as c-read-file-reads
 
 -- bisquemop_check_settings
 abbrev pub c-check-settings : Call
@@ -85,3 +89,11 @@ c-index-again = callOf 3 c-index-again-kinds.ps c-index-again-kinds.r c-index-ag
 -- bisquemop_find_line
 abbrev pub c-find-line : Call
 c-find-line = callOf 3 c-find-line-kinds.ps c-find-line-kinds.r c-find-line-reads.Asked c-find-line-reads.Learnt
+
+-- bisquemop_write_file
+abbrev pub c-write-file : Call
+c-write-file = callOf 3 c-write-file-kinds.ps c-write-file-kinds.r c-write-file-reads.Asked c-write-file-reads.Learnt
+
+-- bisquemop_read_file
+abbrev pub c-read-file : Call
+c-read-file = callOf 5 c-read-file-kinds.ps c-read-file-kinds.r c-read-file-reads.Asked c-read-file-reads.Learnt

@@ -2,7 +2,7 @@
 -- Assumes nothing.
 use mathlib.Core.Path.{refl}
 use Rattle.promises.specs.Call.{AsksNothing, Agrees, agree}
-use Rattle.promises.specs.InsideCalls.{check-settings, check-text, tokenize, layout, layout-with-events, open-text, one-line, first-affected, lay-again, text-height, line-y, make-index, make-index-again, find-line}
+use Rattle.promises.specs.InsideCalls.{check-settings, check-text, tokenize, layout, layout-with-events, open-text, one-line, first-affected, lay-again, text-height, line-y, make-index, make-index-again, find-line, write-file, read-file}
 
 -- None of them has a `requires`.
 pub inside-asks-nothing : AsksNothing check-settings
@@ -19,7 +19,11 @@ pub inside-asks-nothing : AsksNothing check-settings
     × AsksNothing make-index
     × AsksNothing make-index-again
     × AsksNothing find-line
+    × AsksNothing write-file
+    × AsksNothing read-file
 inside-asks-nothing = (
+  λ κs a. tt,
+  λ κs a. tt,
   λ κs a. tt,
   λ κs a. tt,
   λ κs a. tt,
@@ -80,3 +84,12 @@ make-index-again-agrees κs a z z′ ws ws′ p q = (agree (p .0) (q .0), λ i. 
 
 pub find-line-agrees : Agrees find-line
 find-line-agrees κs a z z′ ws ws′ p q = (agree p q, refl)
+
+pub write-file-agrees : Agrees write-file
+write-file-agrees κs a z z′ ws ws′ p q = (agree (p .0) (q .0), λ i. (tt, (tt, (tt, (agree (p .1) (q .1) i, tt)))))
+
+pub read-file-agrees : Agrees read-file
+read-file-agrees κs a z z′ ws ws′ p q = (
+  agree (p .0) (q .0),
+  λ i. (tt, (agree (p .1 .0) (q .1 .0) i, (agree (p .1 .1) (q .1 .1) i, tt))),
+)

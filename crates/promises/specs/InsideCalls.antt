@@ -29,6 +29,10 @@ use Rattle.index.proofs.making.make_index_again.Kinds as make-index-again-kinds
 use Rattle.index.proofs.making.make_index_again.Reads as make-index-again-reads
 use Rattle.index.proofs.finding.find_line.Kinds as find-line-kinds
 use Rattle.index.proofs.finding.find_line.Reads as find-line-reads
+use Rattle.files.proofs.writer.write_file.Kinds as write-file-kinds
+use Rattle.files.proofs.writer.write_file.Reads as write-file-reads
+use Rattle.files.proofs.reader.read_file.Kinds as read-file-kinds
+use Rattle.files.proofs.reader.read_file.Reads as read-file-reads
 
 -- checks::settings::check_settings
 abbrev pub check-settings : Call
@@ -85,3 +89,11 @@ make-index-again = callOf 2 make-index-again-kinds.ps make-index-again-kinds.r m
 -- index::finding::find_line
 abbrev pub find-line : Call
 find-line = callOf 2 find-line-kinds.ps find-line-kinds.r find-line-reads.Asked find-line-reads.Learnt
+
+-- files::writer::write_file
+abbrev pub write-file : Call
+write-file = callOf 2 write-file-kinds.ps write-file-kinds.r write-file-reads.Asked write-file-reads.Learnt
+
+-- files::reader::read_file
+abbrev pub read-file : Call
+read-file = callOf 3 read-file-kinds.ps read-file-kinds.r read-file-reads.Asked read-file-reads.Learnt

@@ -17,3 +17,4 @@ pub mod LinesRise
 pub mod CharsBefore
 pub mod SpacesTold
 pub mod WordsKept
+pub mod FileTrips

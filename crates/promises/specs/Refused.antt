@@ -8,9 +8,10 @@ use lib.IntN.{ℤ}
 use contract.Lifetimes.{Lfts}
 use denote.Ref.{now}
 use Rattle.meaning.specs.Settings.{settingsOf}
-use Rattle.meaning.specs.Calls.{drawingAnswer, frameAnswer, relayAnswer, yAnswer, indexAfter, indexAgainAfter}
-use Rattle.meaning.specs.Answers.{tokensNumber, layoutNumber, drawingNumber, frameNumber, relayNumber, indexNumber}
+use Rattle.meaning.specs.Calls.{drawingAnswer, frameAnswer, relayAnswer, yAnswer, indexAfter, indexAgainAfter, readingAnswer}
+use Rattle.meaning.specs.Answers.{tokensNumber, layoutNumber, drawingNumber, frameNumber, relayNumber, indexNumber, writingNumber, readingNumber}
 use Rattle.meaning.specs.YIndex.{keptBefore}
+use Rattle.meaning.specs.Refusals.{numberOf}
 use Rattle.meaning.specs.declared.settings.Settings.{Settings}
 use Rattle.meaning.specs.declared.edit.Edit.{Edit}
 use Rattle.meaning.specs.declared.refusals.Refusal.{Refusal}
@@ -22,9 +23,11 @@ use Rattle.meaning.specs.declared.answers.Framed.the-variants as framed
 use Rattle.meaning.specs.declared.answers.Relaid.the-variants as relaid
 use Rattle.bisquemop.specs.Edits.{restFrom}
 use Rattle.promises.specs.Passed.{Lent, LentNumber, LentSigned, LentYs}
-use Rattle.promises.specs.Contracts.{Tokenize, Layout, LayoutWithEvents, OneLine, LayAgain, CTokens, CLayout, CLayoutEvents, COneLine, CLayAgain, CLineY, MakeIndex, MakeIndexAgain, CIndex, CIndexAgain}
-use Rattle.promises.specs.Unwritten.{tokens-kept, layout-kept, drawing-kept, frame-kept, relay-kept, drawing-counted, frame-rested, relay-counted, y-kept, index-kept}
+use Rattle.promises.specs.Contracts.{Tokenize, Layout, LayoutWithEvents, OneLine, LayAgain, CTokens, CLayout, CLayoutEvents, COneLine, CLayAgain, CLineY, MakeIndex, MakeIndexAgain, CIndex, CIndexAgain, WriteFile, ReadFile, CWriteFile, CReadFile}
+use Rattle.promises.specs.Unwritten.{tokens-kept, layout-kept, drawing-kept, frame-kept, relay-kept, drawing-counted, frame-rested, relay-counted, y-kept, index-kept, writing-kept, reading-kept, settings-kept, reading-counted, refusal-some}
 use Rattle.meaning.specs.declared.answers.Indexed.the-variants as indexed
+use Rattle.meaning.specs.declared.answers.FileWritten.the-variants as filed
+use Rattle.meaning.specs.declared.answers.FileRead.the-variants as fileread
 
 -- ---- the calls in Rattle
 
@@ -65,6 +68,20 @@ pub make-index-again-refused : (κs : Lfts 2) (s : Settings) (table : Lent) (lin
 unfolding indexAgainAfter
 make-index-again-refused κs s table lines first index r after p =
     p .1 ∙ index-kept s (now table) lines (keptBefore s first) (now index) (λ n e. let z : _≡_ {A = ℕ} 0 1 = cc in omega arith)
+
+pub write-file-refused : (κs : Lfts 2) (s : Settings) (table : Lent) (lines : ℕ) (file : Lent) (r : Refusal) (after : List ℕ)
+    → WriteFile κs s table lines file (filed.Refused r) after → after ≡ now file
+write-file-refused κs s table lines file r after p =
+    p .1 ∙ writing-kept s (now table) lines (now file) (λ n e. refusal-some r (ap writingNumber (p .0 ∙ e)))
+
+-- No line entry goes with a refusal, 12 among them, and settings go with 12 alone.
+pub read-file-refused : (κs : Lfts 3) (file settings table : Lent) (r : Refusal) (handed after : List ℕ)
+    → ReadFile κs file settings table (fileread.Refused r) handed after
+    → (after ≡ now table) × ((numberOf r ≡ 12 → ⊥) → handed ≡ now settings)
+read-file-refused κs file settings table r handed after p = (
+  p .1 .1 ∙ reading-kept (now file) (now settings) (now table) (λ n m e. refusal-some r (ap readingNumber (p .0 ∙ e))),
+  λ d. p .1 .0 ∙ settings-kept (now file) (now settings) (now table) (λ e. refusal-some r (ap readingNumber (p .0) ∙ e)) (λ e. d (ap readingNumber (p .0) ∙ e)),
+)
 
 -- ---- the calls for C: a refusal returns no 0
 
@@ -124,3 +141,18 @@ pub c-index-again-refused : (κs : Lfts 3) (s : Settings) (table : Lent) (lines 
 unfolding settingsOf indexAgainAfter
 c-index-again-refused κs s table lines first index value z after value′ p h =
     p .1 .0 ∙ index-kept s (now table) lines (keptBefore s first) (now index) (λ n e. omega (arith, p .0 ∙ ap indexNumber e))
+
+pub c-write-file-refused : (κs : Lfts 3) (s : Settings) (table : Lent) (lines : ℕ) (file : Lent) (value : LentNumber) (z : ℕ)
+    (after : List ℕ) (value′ : ℕ) → CWriteFile κs s table lines file value z after value′ → 0 < z → after ≡ now file
+unfolding settingsOf
+c-write-file-refused κs s table lines file value z after value′ p h =
+    p .1 .0 ∙ writing-kept s (now table) lines (now file) (λ n e. omega (arith, p .0 ∙ ap writingNumber e))
+
+pub c-read-file-refused : (κs : Lfts 5) (file settings table : Lent) (value bytes : LentNumber) (z : ℕ) (handed after : List ℕ)
+    (value′ bytes′ : ℕ) → CReadFile κs file settings table value bytes z handed after value′ bytes′ → 0 < z
+    → (after ≡ now table) × (bytes′ ≡ now bytes) × ((z ≡ 12 → ⊥) → handed ≡ now settings)
+c-read-file-refused κs file settings table value bytes z handed after value′ bytes′ p h = (
+  p .1 .1 .0 ∙ reading-kept (now file) (now settings) (now table) (λ n m e. omega (arith, p .0 ∙ ap readingNumber e)),
+  p .1 .1 .1 .1 ∙ reading-counted (readingAnswer (now file) (now settings) (now table)) (now bytes) (omega (arith, p .0)),
+  λ d. p .1 .0 ∙ settings-kept (now file) (now settings) (now table) (λ e. omega (arith, p .0 ∙ e)) (λ e. d (p .0 ∙ e)),
+)

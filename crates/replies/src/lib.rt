@@ -3,6 +3,8 @@ use checks::refusals::number;
 use checks::refusals::value;
 use meaning::answers::Affected;
 use meaning::answers::Framed;
+use meaning::answers::FileRead;
+use meaning::answers::FileWritten;
 use meaning::answers::FoundLine;
 use meaning::answers::Height;
 use meaning::answers::Indexed;
@@ -14,7 +16,7 @@ use meaning::answers::Relaid;
 use meaning::answers::Tokenized;
 use meaning::sizes::NO_LINE;
 ghost use mathlib.Core.Path.{_≡_};
-ghost use Rattle.meaning.specs.Answers.{tokensNumber, tokensValue, layoutNumber, layoutValue, drawingNumber, drawingValue, drawingCount, openNumber, openValue, frameNumber, frameValue, frameRestEnd, frameRestCount, affectedNumber, affectedValue, relayNumber, relayValue, relayCount, heightNumber, heightValue, yNumber, yValue, yPlace, indexNumber, indexValue, findNumber, findValue};
+ghost use Rattle.meaning.specs.Answers.{tokensNumber, tokensValue, layoutNumber, layoutValue, drawingNumber, drawingValue, drawingCount, openNumber, openValue, frameNumber, frameValue, frameRestEnd, frameRestCount, affectedNumber, affectedValue, relayNumber, relayValue, relayCount, heightNumber, heightValue, yNumber, yValue, yPlace, indexNumber, indexValue, findNumber, findValue, writingNumber, writingValue, readingNumber, readingValue, readingLength};
 
 pub fn tokens_number(a: Tokenized) -> u32
     ensures { λ r. ⌜ r ≡ tokensNumber a ⌝ }
@@ -272,5 +274,51 @@ pub fn find_value(a: FoundLine) -> u64
         FoundLine::Line(line) => line,
         FoundLine::NoLine => NO_LINE,
         FoundLine::Refused(refusal) => value(refusal),
+    }
+}
+
+pub fn writing_number(a: FileWritten) -> u32
+    ensures { λ r. ⌜ r ≡ writingNumber a ⌝ }
+{
+    match a {
+        FileWritten::Bytes(_) => 0,
+        FileWritten::Refused(refusal) => number(refusal),
+    }
+}
+
+pub fn writing_value(a: FileWritten) -> u64
+    ensures { λ r. ⌜ r ≡ writingValue a ⌝ }
+{
+    match a {
+        FileWritten::Bytes(n) => n,
+        FileWritten::Refused(refusal) => value(refusal),
+    }
+}
+
+pub fn reading_number(a: FileRead) -> u32
+    ensures { λ r. ⌜ r ≡ readingNumber a ⌝ }
+{
+    match a {
+        FileRead::Lines(_, _) => 0,
+        FileRead::Refused(refusal) => number(refusal),
+    }
+}
+
+pub fn reading_value(a: FileRead) -> u64
+    ensures { λ r. ⌜ r ≡ readingValue a ⌝ }
+{
+    match a {
+        FileRead::Lines(n, _) => n,
+        FileRead::Refused(refusal) => value(refusal),
+    }
+}
+
+// The length of the text, and where the call was refused the number that the caller had there.
+pub fn reading_length(a: FileRead, old: u64) -> u64
+    ensures { λ r. ⌜ r ≡ readingLength a old ⌝ }
+{
+    match a {
+        FileRead::Lines(_, bytes) => bytes,
+        FileRead::Refused(_) => old,
     }
 }

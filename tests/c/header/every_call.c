@@ -14,6 +14,9 @@ struct lent {
     uint32_t *table;
     uint64_t table_len;
     uint32_t *events;
+    uint8_t *file;
+    uint64_t file_len;
+    uint32_t numbers[BISQUEMOP_SETTINGS_NUMBERS];
     uint64_t lines, value, count;
     uint32_t rest_end, rest_count;
     int32_t y, *index;
@@ -25,6 +28,7 @@ uint32_t one_by_one(struct lent *l);
 uint32_t again(struct lent *l, uint32_t a, uint32_t b, uint32_t inserted);
 uint32_t heights(struct lent *l);
 uint32_t index_of(struct lent *l);
+uint32_t files(struct lent *l);
 uint32_t by_numbers(struct lent *l);
 
 uint32_t checks(struct lent *l)
@@ -100,6 +104,20 @@ uint32_t index_of(struct lent *l)
     return refused;
 }
 
+uint32_t files(struct lent *l)
+{
+    uint32_t refused = bisquemop_settings_write_file(&l->settings, l->table, l->table_len, l->lines, l->file, l->file_len,
+                                                     &l->value);
+    if (refused == BISQUEMOP_OK) {
+        refused = bisquemop_read_file(l->file, l->value, l->numbers, BISQUEMOP_SETTINGS_NUMBERS, l->table, l->table_len,
+                                      &l->lines, &l->count);
+    }
+    if (refused == BISQUEMOP_OK || refused == BISQUEMOP_RETIRED_SETTING) {
+        l->settings = bisquemop_settings_from(l->numbers);
+    }
+    return refused;
+}
+
 /* The same calls, without the struct. */
 #define SETTINGS 6, 30, 24, 10, 0, 8, 48, -2, BISQUEMOP_ALIGN_LEFT, BISQUEMOP_VERTICAL_TOP, 1, 0, BISQUEMOP_WRAP_WAIT
 
@@ -118,5 +136,6 @@ uint32_t by_numbers(struct lent *l)
     refused |= bisquemop_line_y(SETTINGS, l->table, l->table_len, l->lines, 0, &l->value, &l->y);
     refused |= bisquemop_index(SETTINGS, l->table, l->table_len, l->lines, l->index, l->lines, &l->value);
     refused |= bisquemop_index_again(SETTINGS, l->table, l->table_len, l->lines, 0, l->index, l->lines, &l->value);
+    refused |= bisquemop_write_file(SETTINGS, l->table, l->table_len, l->lines, l->file, l->file_len, &l->value);
     return refused;
 }

@@ -1,9 +1,9 @@
--- `layout::checked::check_room` meets its contract (refusal 1, refusal 2, refusal 3, refusal 4, refusal 8).
+-- `checks::room::check_room` meets its contract (refusal 8).
 -- Assumes nothing.
 use native.Mathlib.Omega.{arith}
 use Rattle.laws.specs.GoodChecks.{has-room, has-no-room}
-use Rattle.layout.proofs.checked.check_room.Statement.{statement}
-use Rattle.layout.proofs.checked.check_room.Tie as tie
+use Rattle.checks.proofs.room.check_room.Statement.{statement}
+use Rattle.checks.proofs.room.check_room.Tie as tie
 
 returns : tie.Need-returns
 returns c = has-no-room (c .before .args .room) (c .before .args .needed) (omega arith)
