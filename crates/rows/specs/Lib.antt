@@ -3,3 +3,4 @@ pub mod RowsFrom
 pub mod Writing
 pub mod Turns
 pub mod GoodInput
+pub mod Passing

@@ -26,6 +26,7 @@ ghost use Rattle.moves.specs.Fine.{FineSettings, FineSpaces};
 ghost use Rattle.steps.specs.Knowing.{KnownFits};
 ghost use Rattle.placing.specs.LineFrom.{lineFrom};
 ghost use Rattle.rows.specs.Standing.{isLast, rowOf};
+ghost use Rattle.rows.specs.Passing.{lineBy, LaidBy};
 ghost use Rattle.placing.specs.Laying.{LineReady, passedFrom, plainly, asMeasured, placedBy, laidAt};
 
 // A line that is laid: its entry, whether it ends the text, where the next line starts, how many characters it took up to there
@@ -36,6 +37,16 @@ pub struct LaidRow {
     pub next: Offset,
     pub chars: Chars,
     pub rest: Resumed,
+}
+
+// How a line's passes came out: where they placed it, how wide it is, how far the measuring looked, how the drawing ended and how many
+// characters it took. It is what goes through memory, so that a line of words, which has no pass, does not.
+pub struct Passes {
+    pub placed: Placed,
+    pub width: Pixels,
+    pub looked: Offset,
+    pub drawn: Ended,
+    pub chars: Chars,
 }
 
 // Nothing follows the line that ends the text.
@@ -144,32 +155,48 @@ fn laid_alike(
 }
 
 // The line in two passes. One that is placed as it was measured is drawn as it was.
-fn lay_twice(
-    text: &[u8],
-    s: Settings,
-    at: usize,
-    before: Chars,
-    rest: Resumed,
-    known: Known,
-) -> LaidRow
+fn lay_twice(text: &[u8], s: Settings, at: usize, rest: Resumed, known: Known) -> Passes
     requires { ⌜ LineReady s (now text) at rest × KnownFits (now text) known ⌝ }
-    ensures { λ r. ⌜ r ≡ rowOf (lineFrom s (now (text .entry)) at (before .0) rest) ⌝ }
+    ensures { λ r. ⌜ LaidBy s (now (text .entry)) at rest r ⌝ }
 {
     let first = pass_over(text, s, at, rest, placed_plainly(s), known);
     let m = first.measure;
     let width = m.width;
     let p = placed_by(s, first);
     let looked = first.reach;
-    let start = at as u32;
     if as_measured(s, p) {
         let next = first.next;
-        let n = chars_to(text, at, next);
-        return laid_at(Offset(start), before, rest, p, width, looked, first, n);
+        let chars = chars_to(text, at, next);
+        return Passes {
+            placed: p,
+            width,
+            looked,
+            drawn: first,
+            chars,
+        };
     }
     let drawn = pass_over(text, s, at, rest, p, known);
     let next = drawn.next;
-    let n = chars_to(text, at, next);
-    laid_at(Offset(start), before, rest, p, width, looked, drawn, n)
+    let chars = chars_to(text, at, next);
+    Passes {
+        placed: p,
+        width,
+        looked,
+        drawn,
+        chars,
+    }
+}
+
+// The line that its passes make.
+fn laid_by(at: Offset, before: Chars, rest: Resumed, x: Passes) -> LaidRow
+    ensures { λ r. ⌜ r ≡ rowOf (lineBy (at .0) (before .0) rest x) ⌝ }
+{
+    let p = x.placed;
+    let width = x.width;
+    let looked = x.looked;
+    let e = x.drawn;
+    let chars = x.chars;
+    laid_at(at, before, rest, p, width, looked, e, chars)
 }
 
 // The line at an offset of a text, behind so many characters and after a rest that it resumes, where a word may be known.
@@ -193,7 +220,9 @@ pub fn lay_line(
         if let Quick::Line(e, n) = cut_line(text, s, at, here) {
             return laid_alike(s, Offset(start), before, rest, e, n);
         }
-        return lay_twice(text, s, at, before, rest, here);
+        let x = lay_twice(text, s, at, rest, here);
+        return laid_by(Offset(start), before, rest, x);
     }
-    lay_twice(text, s, at, before, rest, known)
+    let x = lay_twice(text, s, at, rest, known);
+    laid_by(Offset(start), before, rest, x)
 }

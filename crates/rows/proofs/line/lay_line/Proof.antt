@@ -91,14 +91,20 @@ lay-twice-requires c κs =
     let k = c .before .before .before in
     (begin (unquick k) .pre .0, k .known-here .ensures)
 
+laid-by-requires : tie.Need-laid-by-requires
+laid-by-requires c κs = search needs
+
 returns-3 : tie.Need-returns-3
-returns-3 c = c .lay-twice .ensures
+returns-3 c = c .laid-by .ensures ∙ ap rowOf (c .before .lay-twice .ensures _)
 
 lay-twice-requires-2 : tie.Need-lay-twice-requires-2
 lay-twice-requires-2 c κs = search needs
 
+laid-by-requires-2 : tie.Need-laid-by-requires-2
+laid-by-requires-2 c κs = search needs
+
 returns-4 : tie.Need-returns-4
-returns-4 c = search needs
+returns-4 c = c .laid-by2 .ensures ∙ ap rowOf (c .before .lay-twice2 .ensures _)
 
 pub lay-line-spec : {M : Type 1} → statement M
 lay-line-spec =
@@ -117,6 +123,8 @@ lay-line-spec =
     returns-2
     enum-told-2
     lay-twice-requires
+    laid-by-requires
     returns-3
     lay-twice-requires-2
+    laid-by-requires-2
     returns-4)

@@ -6,9 +6,8 @@ use Rattle.placing.specs.Laying.{LineReady, passed-stretch}
 use Rattle.steps.specs.declared.step.Ended.{Ended}
 use Rattle.steps.specs.Knowing.{KnownFits}
 use native.Mathlib.Omega.{arith}
-use mathlib.Core.Path.{refl, sym, ap, subst, _∙_}
+use mathlib.Core.Path.{refl, sym, subst, _∙_}
 use borrow.Author.Needs.{needs}
-use Rattle.rows.specs.Standing.{rowOf}
 use Rattle.rows.proofs.line.lay_twice.Statement.{statement}
 use Rattle.rows.proofs.line.lay_twice.Tie as tie
 
@@ -41,9 +40,6 @@ placed-by-requires c κs =
     let f = c .before .before in
     (ready (f .before) .settings, few-spaces (ready (f .before)) _ _ (f .before .placed-plainly .ensures) (f .pass-over .ensures))
 
-cast-start : tie.Need-cast-start
-cast-start c = search needs
-
 as-measured-requires : tie.Need-as-measured-requires
 as-measured-requires c κs = search needs
 
@@ -53,20 +49,15 @@ chars-to-requires c κs =
     let r = ready (f .before) in
     (r .short, r .inside, stretch f)
 
-laid-at-requires : tie.Need-laid-at-requires
-laid-at-requires c κs = search needs
-
 returns : tie.Need-returns
 returns c =
-    let n = c .before in
-    let t = n .before .before in
+    let t = c .before .before in
     let i = t .before in
     let p = i .before .before in
     let f = p .before .before .before in
-    c .laid-at .ensures
-    ∙ ap rowOf
-    (laid-once (ready (f .before)) _ _ (f .before .placed-plainly .ensures) (f .pass-over .ensures) _ _ _ refl (p .placed-by .ensures)
-    _ _ (sym (i .as-measured .ensures) ∙ t .if1 .taken) (n .chars-to .ensures) refl)
+    λ before.
+    laid-once (ready (f .before)) _ _ (f .before .placed-plainly .ensures) (f .pass-over .ensures) _ _ _ refl (p .placed-by .ensures)
+    before _ (sym (i .as-measured .ensures) ∙ t .if1 .taken) (c .chars-to .ensures) refl
 
 pass-over-requires-2 : tie.Need-pass-over-requires-2
 pass-over-requires-2 c κs =
@@ -83,19 +74,14 @@ chars-to-requires-2 c κs =
     let r = ready (f .before) in
     (r .short, r .inside, subst (λ (e : Ended). Stretch (a .text .now) (a .at) (e .next .0)) (sym (d .pass-over2 .ensures)) (passed-stretch (a .s) (a .text .now) (a .at) (a .rest) _))
 
-laid-at-requires-2 : tie.Need-laid-at-requires-2
-laid-at-requires-2 c κs = search needs
-
 returns-2 : tie.Need-returns-2
 returns-2 c =
-    let n = c .before in
-    let d = n .before .before in
+    let d = c .before .before in
     let p = d .before .before .before .before in
     let f = p .before .before .before in
-    c .laid-at2 .ensures
-    ∙ ap rowOf
-    (laid-twice (ready (f .before)) _ _ (f .before .placed-plainly .ensures) (f .pass-over .ensures) _ _ _ refl (p .placed-by .ensures)
-    _ _ _ (d .pass-over2 .ensures) (n .chars-to2 .ensures) refl)
+    λ before.
+    laid-twice (ready (f .before)) _ _ (f .before .placed-plainly .ensures) (f .pass-over .ensures) _ _ _ refl (p .placed-by .ensures)
+    before _ _ (d .pass-over2 .ensures) (c .chars-to2 .ensures) refl
 
 pub lay-twice-spec : {M : Type 1} → statement M
 lay-twice-spec =
@@ -104,12 +90,9 @@ lay-twice-spec =
     placed-plainly-requires
     pass-over-requires
     placed-by-requires
-    cast-start
     as-measured-requires
     chars-to-requires
-    laid-at-requires
     returns
     pass-over-requires-2
     chars-to-requires-2
-    laid-at-requires-2
     returns-2)
