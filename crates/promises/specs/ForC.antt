@@ -69,9 +69,22 @@ pub c-one-line-agrees : Agrees c-one-line
 c-one-line-agrees κs a z z′ ws ws′ p q = (
   agree (p .0) (q .0),
   λ i.
-      noneLeft
-      (tt, (tt, (tt, (tt, (agree (p .1 .0) (q .1 .0) i,
-      (agree (p .1 .1 .0) (q .1 .1 .0) i, (agree (p .1 .1 .1 .0) (q .1 .1 .1 .0) i, (agree (p .1 .1 .1 .1) (q .1 .1 .1 .1) i, tt)))))))),
+      noneLeft (
+        tt,
+        (
+          tt,
+          (
+            tt,
+            (
+              tt,
+              (
+                agree (p .1 .0) (q .1 .0) i,
+                (agree (p .1 .1 .0) (q .1 .1 .0) i, (agree (p .1 .1 .1 .0) (q .1 .1 .1 .0) i, (agree (p .1 .1 .1 .1) (q .1 .1 .1 .1) i, tt))),
+              ),
+            ),
+          ),
+        ),
+      ),
 )
 
 pub c-first-affected-agrees : Agrees c-first-affected

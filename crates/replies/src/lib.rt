@@ -2,10 +2,10 @@
 use checks::refusals::number;
 use checks::refusals::value;
 use meaning::answers::Affected;
-use meaning::answers::Framed;
 use meaning::answers::FileRead;
 use meaning::answers::FileWritten;
 use meaning::answers::FoundLine;
+use meaning::answers::Framed;
 use meaning::answers::Height;
 use meaning::answers::Indexed;
 use meaning::answers::Laid;
