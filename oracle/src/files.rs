@@ -6,7 +6,7 @@ use crate::random;
 use shape::*;
 
 /// How many numbers a line has, and how many settings there are.
-const LINE: usize = 10;
+const LINE: usize = 11;
 const SETTINGS: usize = 13;
 
 const START: usize = 0;
@@ -14,6 +14,7 @@ const REST_END: usize = 1;
 const REST_COUNT: usize = 2;
 const END: usize = 3;
 const REACH: usize = 9;
+const BEFORE: usize = 10;
 
 const TRAILING: usize = 11;
 
@@ -100,7 +101,7 @@ fn parse(file: &[u8]) -> Result<Layout, Refusal> {
 fn check_settings(n: &[u32]) -> Result<(), Refusal> {
     let most = [64, 4096, 4096, 4096, 4096, 64, 4096];
     let sizes = n.iter().zip(most).all(|(&n, most)| n <= most) && n[0] > 0 && n[5] > 0;
-    let switches = n[10..].iter().all(|&n| n < 2);
+    let switches = n[10] < 2 && n[TRAILING] == 0 && n[12] < 2;
     if !sizes || !(-4096..=4096).contains(&(n[7] as i32)) || !switches {
         return Err(Refusal::SettingOutOfRange);
     }
@@ -117,10 +118,11 @@ fn is_good(lines: &[Vec<u32>], k: usize, bytes: u32) -> bool {
     let (start, end, count) = (line[START], line[REST_END], line[REST_COUNT]);
     let ending = line[END] < 4 && (line[END] == 2) == (k + 1 == lines.len());
     let placed = match k.checked_sub(1).map(|k| &lines[k]) {
-        None => start == 0 && (end, count) == (0, 0),
+        None => start == 0 && line[BEFORE] == 0 && (end, count) == (0, 0),
         Some(before) => {
             let rest = (end, count) == (0, 0) || start < end && end <= bytes.min(before[REACH]) && count <= end - start;
-            before[START] < start && start <= bytes.min(before[REACH]) && rest
+            let counted = before[BEFORE] < line[BEFORE] && line[BEFORE] <= start;
+            before[START] < start && start <= bytes.min(before[REACH]) && counted && rest
         }
     };
     placed && ending && line[REACH] <= bytes + 1
