@@ -30,6 +30,12 @@ use Rattle.meaning.specs.declared.answers.FileWritten.{FileWritten}
 use Rattle.meaning.specs.declared.answers.FileWritten.the-variants as filed
 use Rattle.meaning.specs.declared.answers.FileRead.{FileRead}
 use Rattle.meaning.specs.declared.answers.FileRead.the-variants as fileread
+use Rattle.meaning.specs.declared.answers.Chosen.{Chosen}
+use Rattle.meaning.specs.declared.answers.Chosen.the-variants as chosen
+use Rattle.meaning.specs.declared.answers.Paged.{Paged}
+use Rattle.meaning.specs.declared.answers.Paged.the-variants as paged
+use Rattle.meaning.specs.declared.answers.PagedAgain.{PagedAgain}
+use Rattle.meaning.specs.declared.answers.PagedAgain.the-variants as pagedagain
 
 abbrev pub tokensNumber : Tokenized → ℕ
 tokensNumber (tokenized.Tokens n) = 0
@@ -176,3 +182,46 @@ readingValue (fileread.Refused r) = besides r
 abbrev pub readingLength : FileRead → (old : ℕ) → ℕ
 readingLength (fileread.Lines n bytes) old = bytes
 readingLength (fileread.Refused r) old = old
+
+abbrev pub choosingNumber : Chosen → ℕ
+choosingNumber (chosen.Long n) = 0
+choosingNumber (chosen.Short n m) = 0
+choosingNumber (chosen.Refused r) = numberOf r
+
+-- The bytes of the part, from its text's front.
+abbrev pub choosingValue : Chosen → ℕ
+choosingValue (chosen.Long n) = n
+choosingValue (chosen.Short n m) = n
+choosingValue (chosen.Refused r) = besides r
+
+-- 0 the long text, 1 the short one; and the characters left out. Both are written only where the call was done.
+abbrev pub choosingWhich : Chosen → (old : ℕ) → ℕ
+choosingWhich (chosen.Long n) old = 0
+choosingWhich (chosen.Short n m) old = 1
+choosingWhich (chosen.Refused r) old = old
+
+abbrev pub choosingLeft : Chosen → (old : ℕ) → ℕ
+choosingLeft (chosen.Long n) old = 0
+choosingLeft (chosen.Short n m) old = m
+choosingLeft (chosen.Refused r) old = old
+
+abbrev pub pagingNumber : Paged → ℕ
+pagingNumber (paged.Pages n m) = 0
+pagingNumber (paged.Refused r) = numberOf r
+
+abbrev pub pagingValue : Paged → ℕ
+pagingValue (paged.Pages n m) = n
+pagingValue (paged.Refused r) = besides r
+
+-- The count of pages is written only where the call was done.
+abbrev pub pagingCount : Paged → (old : ℕ) → ℕ
+pagingCount (paged.Pages n m) old = m
+pagingCount (paged.Refused r) old = old
+
+abbrev pub pagingAgainNumber : PagedAgain → ℕ
+pagingAgainNumber (pagedagain.Pages m) = 0
+pagingAgainNumber (pagedagain.Refused r) = numberOf r
+
+abbrev pub pagingAgainValue : PagedAgain → ℕ
+pagingAgainValue (pagedagain.Pages m) = m
+pagingAgainValue (pagedagain.Refused r) = besides r

@@ -43,6 +43,10 @@ checkSettings s =
     (Refused (UnknownAlignment (s .alignment))))
     (Refused SettingOutOfRange)
 
+-- 1: a limit of so many lines lets no line in.
+unfoldable pub checkLimit : (h : ℕ) → Checked
+checkLimit h = refuseIf (eqb h 0) SettingOutOfRange
+
 -- The most bytes that a text has.
 abbrev pub textLimit : ℕ
 textLimit = 65535

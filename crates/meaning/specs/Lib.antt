@@ -19,7 +19,9 @@ pub mod Height
 pub mod YIndex
 pub mod LayoutFile
 pub mod ReadFile
+pub mod Pages
 pub mod Calls
+pub mod PageCalls
 pub mod Answers
 pub mod Examples
 pub mod EditExamples
@@ -27,4 +29,5 @@ pub mod FrameExamples
 pub mod FileExamples
 pub mod SmallExamples
 pub mod IndexExamples
+pub mod PageExamples
 pub mod StarredExamples

@@ -191,7 +191,7 @@ heights-hold = refl
 
 -- ---- the order of the refusals, by the fresh layout
 
-abbrev set : (glyph alignment vertical : ℕ) → Settings
+abbrev pub set : (glyph alignment vertical : ℕ) → Settings
 set glyph alignment vertical =
     record {
       glyph = record { 0 = glyph };
@@ -218,7 +218,7 @@ pub record CallExample : Type 0 where
 abbrev answers : Settings → List ℕ → List ℕ → Laid → CallExample
 answers s t table a = record { settings = s; text = t; table = table; answer = a }
 
-abbrev eleven : List ℕ
+abbrev pub eleven : List ℕ
 eleven = 1 ∷ 2 ∷ 3 ∷ 4 ∷ 5 ∷ 6 ∷ 7 ∷ 8 ∷ 9 ∷ 10 ∷ 11 ∷ []
 
 abbrev pub callExamples : List CallExample

@@ -83,3 +83,23 @@ pub enum FileRead {
     Lines(u64, u64),
     Refused(Refusal),
 }
+
+// Which of two texts fits so many lines: the long one whole, by its bytes; or the beginning of the short one, by its bytes, and how many
+// characters of it are left out.
+pub enum Chosen {
+    Long(u64),
+    Short(u64, u64),
+    Refused(Refusal),
+}
+
+// How many lines were laid, and how many pages were listed.
+pub enum Paged {
+    Pages(u64, u64),
+    Refused(Refusal),
+}
+
+// How many pages the list now holds.
+pub enum PagedAgain {
+    Pages(u64),
+    Refused(Refusal),
+}

@@ -5,6 +5,7 @@ pub mod cursor;
 pub mod edit;
 pub mod fields;
 pub mod line;
+pub mod page;
 pub mod refusals;
 pub mod settings;
 pub mod sizes;

@@ -1,13 +1,15 @@
-// How many numbers a line, an event and a token are in a lent buffer, where each number of a line stands, and how long a
-// text may be. `entryNumbers`, `eventNumbers`, `tokenNumbers` and `textLimit` of specs/ say the same.
+// How many numbers a line, an event, a token and a page are in a lent buffer, where each number of a line stands, and how long a
+// text may be. `entryNumbers`, `eventNumbers`, `tokenNumbers`, `pageNumbers` and `textLimit` of specs/ say the same.
 // Rule 3, rule 12, rule 13, refusal 3.
 
-// The numbers of a line entry, of an event and of a token.
+// The numbers of a line entry, of an event, of a token and of a page.
 pub const ENTRY_NUMBERS: usize = 11;
 
 pub const EVENT_NUMBERS: usize = 6;
 
 pub const TOKEN_NUMBERS: usize = 4;
+
+pub const PAGE_NUMBERS: usize = 3;
 
 // The most bytes of a text, and the farthest that a line reaches: the end of such a text counts as one byte more.
 pub const TEXT_LIMIT: usize = 65535;
