@@ -2,6 +2,8 @@ pub mod Affected
 pub mod Agree
 pub mod CharsBefore
 pub mod FirstLines
+pub mod PageLaws
+pub mod PageStretches
 pub mod PartChars
 pub mod Between
 pub mod Classes
