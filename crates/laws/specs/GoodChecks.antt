@@ -1,6 +1,6 @@
 -- Checks that refuse nothing: of a text that is short enough, of one that is UTF-8, and of a table that is large enough or
 -- holds a layout.
--- Refusal 3, refusal 4, refusal 5, refusal 8.
+-- Refusal 1, refusal 3, refusal 4, refusal 5, refusal 8.
 -- Assumes nothing.
 use Prim.Native.Nat.{ℕ, _*_, _≤_, _<_}
 use native.Mathlib.Omega.{arith}
@@ -8,13 +8,13 @@ use mathlib.Core.Path.{_≡_, refl, _∙_}
 use mathlib.Core.Bool.{Bool, true, false, not}
 use mathlib.Core.List.{List}
 use lib.ListN.{length}
-use borrow.Author.Tests.{lt-ltb, le-ltb, le-leb, eq-eqb, ltb-false}
+use borrow.Author.Tests.{lt-ltb, le-ltb, le-leb, eq-eqb, ne-eqb, ltb-false}
 use lib.Dec.{ltb}
 use Rattle.basis.specs.Choice.{pick, pick-true, pick-false}
 use Rattle.unicode.specs.Scalar.{Scalars}
 use Rattle.unicode.specs.Encoding.{size, encodeAll}
 use Rattle.unicode.specs.Prefix.{prefix-whole}
-use Rattle.meaning.specs.Checks.{refuseIf, checkLength, checkUtf8, checkRoom}
+use Rattle.meaning.specs.Checks.{refuseIf, checkLimit, checkLength, checkUtf8, checkRoom}
 use Rattle.meaning.specs.Layout.{layout}
 use Rattle.meaning.specs.Table.{entryNumbers, capacityOf, entriesIn}
 use Rattle.meaning.specs.WellFormed.{checkTable}
@@ -38,6 +38,11 @@ refuse-good true r e = absurd (let z : _≡_ {A = ℕ} 0 1 = cc in omega arith)
 
 pub refuse-unless : (t : Bool) (r : Refusal) → t ≡ true → refuseIf (not t) r ≡ Good
 refuse-unless t r e = refuse-not (not t) r (rw e)
+
+-- A limit of a line or more lets lines in.
+pub limit-good : (h : ℕ) → 1 ≤ h → checkLimit h ≡ Good
+unfolding checkLimit
+limit-good h some = refuse-not _ _ (ne-eqb h 0 (λ e. omega arith))
 
 pub length-good : (n : ℕ) → n ≤ 65535 → checkLength n ≡ Good
 unfolding checkLength

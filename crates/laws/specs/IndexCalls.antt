@@ -23,7 +23,7 @@ use Rattle.laws.specs.Indexes.{index-length, index-good}
 use Rattle.laws.specs.WrittenYs.{written-held}
 
 -- Three tests, none of which refuses.
-three-good : (a b c : Checked) → firstOf (a ∷ b ∷ c ∷ []) ≡ Good → (a ≡ Good) × (b ≡ Good) × (c ≡ Good)
+pub three-good : (a b c : Checked) → firstOf (a ∷ b ∷ c ∷ []) ≡ Good → (a ≡ Good) × (b ≡ Good) × (c ≡ Good)
 unfolding firstOf
 three-good Good Good c e = (refl, refl, sym (first-alone c) ∙ e)
 three-good Good (Refused r) c e = absurd (let z : _≡_ {A = ℕ} 0 1 = cc in omega arith)

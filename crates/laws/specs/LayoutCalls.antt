@@ -32,7 +32,7 @@ module _ (s : Settings) (cs : List ℕ) (al : Scalars cs) where
   text-layout = rw text-rows
 
   module _ (good : checkSettings s ≡ Good) (short : size cs ≤ 65535) (table : List ℕ) (room : entryNumbers * length (layout s cs) ≤ length table) where
-    layout-checked : checkLayout s (encodeAll cs) table ≡ Good
+    pub layout-checked : checkLayout s (encodeAll cs) table ≡ Good
     unfolding checkLayout firstOf
     layout-checked =
         let n : length (encodeAll cs) ≡ size cs = sym (size-is cs) in

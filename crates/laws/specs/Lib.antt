@@ -4,6 +4,8 @@ pub mod CharsBefore
 pub mod FirstLines
 pub mod PageLaws
 pub mod PageStretches
+pub mod PagesAgain
+pub mod PagesKept
 pub mod PartChars
 pub mod Between
 pub mod Classes
@@ -54,6 +56,7 @@ pub mod Rests
 pub mod RowInduction
 pub mod Runs
 pub mod SameLines
+pub mod SamePages
 pub mod SamePrints
 pub mod Shift
 pub mod SideBySide
@@ -75,4 +78,5 @@ pub mod TestOrder
 pub mod TokenLaws
 pub mod TokensAgree
 pub mod WellFormedLayout
+pub mod WrittenPast
 pub mod WrittenYs

@@ -9,10 +9,12 @@ use mathlib.Core.List.{List, [], _∷_, _++_, append-assoc}
 use native.Mathlib.Nat.{mul-zero, mul-suc, mul-comm, le-div-iff-mul-le}
 use native.Mathlib.Omega.{arith}
 use lib.ListN.{length, getD, take, drop, length-append, length-drop}
-use lib.Seq.{take-at, drop-at, drop-append-seam, take-add}
+use lib.Seq.{take-at, drop-at, take-nil, take-append-add, drop-append-seam, take-add}
 use Rattle.meaning.specs.Table.{entryNumbers, eventNumbers, tokenNumbers, ofEntry, ofEvent, ofToken, ofAll, capacityOf, written, entryIn, entriesIn}
+use Rattle.meaning.specs.Pages.{pageNumbers, ofPage}
 use Rattle.meaning.specs.declared.line.Entry.{Entry}
 use Rattle.meaning.specs.declared.line.Event.{Event}
+use Rattle.meaning.specs.declared.page.Page.{Page}
 use Rattle.meaning.specs.declared.tokens.Token.{Token}
 
 -- ---- how many numbers there are
@@ -29,6 +31,10 @@ pub token-numbers : (t : Token) → length (ofToken t) ≡ tokenNumbers
 unfolding ofToken
 token-numbers t = refl
 
+pub page-numbers : (p : Page) → length (ofPage p) ≡ pageNumbers
+unfolding ofPage
+page-numbers p = refl
+
 -- Where each has n numbers, all have n times as many as they are.
 pub all-numbers {ℓ} : {X : Type ℓ} (f : X → List ℕ) (n : ℕ) → ((x : X) → length (f x) ≡ n) → (xs : List X)
     → length (ofAll f xs) ≡ n * length xs
@@ -44,6 +50,19 @@ events-numbers = all-numbers ofEvent eventNumbers event-numbers
 
 pub tokens-numbers : (ts : List Token) → length (ofAll ofToken ts) ≡ tokenNumbers * length ts
 tokens-numbers = all-numbers ofToken tokenNumbers token-numbers
+
+pub pages-numbers : (ps : List Page) → length (ofAll ofPage ps) ≡ pageNumbers * length ps
+pages-numbers = all-numbers ofPage pageNumbers page-numbers
+
+-- And the first k have the first n * k.
+pub all-first {ℓ} : {X : Type ℓ} (f : X → List ℕ) (n : ℕ) → ((x : X) → length (f x) ≡ n) → (k : ℕ) (xs : List X)
+    → take (n * k) (ofAll f xs) ≡ ofAll f (take k xs)
+unfolding ofAll
+all-first f n h zero xs = rw mul-zero
+all-first f n h (suc k) [] = take-nil (n * suc k)
+all-first f n h (suc k) (x ∷ xs) =
+    let e : n * suc k ≡ length (f x) + n * k = rw mul-suc (omega (arith, h x)) in
+    rw (e, take-append-add, all-first f n h k xs)
 
 -- A buffer holds k of n numbers each exactly if it is at least so long.
 pub capacity-is : (n k : ℕ) (t : List ℕ) → 0 < n → (k ≤ capacityOf n t) ↔ (n * k ≤ length t)
