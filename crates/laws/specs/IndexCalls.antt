@@ -3,7 +3,7 @@
 -- Assumes nothing.
 use Prim.Native.Nat.{ℕ, _≤_}
 use mathlib.Core.Path.{_≡_, refl, sym, ap, _∙_}
-use mathlib.Core.List.{List, [], _∷_}
+use mathlib.Core.List.{List}
 use native.Mathlib.Omega.{arith}
 use lib.IntN.{ℤ}
 use lib.ListN.{length, take}
@@ -17,17 +17,10 @@ use Rattle.meaning.specs.declared.refusals.Checked.{Checked}
 use Rattle.meaning.specs.declared.refusals.Checked.the-variants.{Good, Refused}
 use Rattle.meaning.specs.declared.answers.Indexed.the-variants as indexed
 use Rattle.laws.specs.GoodChecks.{room-is}
-use Rattle.laws.specs.TestOrder.{first-alone}
+use Rattle.laws.specs.TestOrder.{three-good}
 use Rattle.laws.specs.TableLaws.{entries-length}
 use Rattle.laws.specs.Indexes.{index-length, index-good}
 use Rattle.laws.specs.WrittenYs.{written-held}
-
--- Three tests, none of which refuses.
-pub three-good : (a b c : Checked) → firstOf (a ∷ b ∷ c ∷ []) ≡ Good → (a ≡ Good) × (b ≡ Good) × (c ≡ Good)
-unfolding firstOf
-three-good Good Good c e = (refl, refl, sym (first-alone c) ∙ e)
-three-good Good (Refused r) c e = absurd (let z : _≡_ {A = ℕ} 0 1 = cc in omega arith)
-three-good (Refused r) b c e = absurd (let z : _≡_ {A = ℕ} 0 1 = cc in omega arith)
 
 done : (c : Checked) (n k : ℕ) → answered c (indexed.Lines k) indexed.Refused ≡ indexed.Lines n → (c ≡ Good) × (n ≡ k)
 done Good n k e = let same : n ≡ k = cc in (refl, same)

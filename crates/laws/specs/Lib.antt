@@ -2,12 +2,14 @@ pub mod Affected
 pub mod Agree
 pub mod CharsBefore
 pub mod FirstLines
+pub mod PageBoundaries
 pub mod PageLaws
 pub mod PageStretches
 pub mod PagesAgain
 pub mod PagesKept
 pub mod PartChars
 pub mod Between
+pub mod Choosing
 pub mod Classes
 pub mod Cuts
 pub mod Demand3

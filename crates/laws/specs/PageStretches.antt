@@ -161,19 +161,23 @@ risen-there (e ∷ es) h = omega arith
 pub layout-there : (s : Settings) (cs : List ℕ) → 1 ≤ length (layout s cs)
 layout-there s cs = risen-there (layout s cs) (layout-rises-to-end s cs)
 
-module _ (s : Settings) (h : ℕ) (some : 1 ≤ h) (cs : List ℕ) where
-  lines-good : checkLines (textLength (layout s cs)) 0 nothing (layout s cs) ≡ Good
-  lines-good = rw (layout-length s cs) (layout-lines s cs 0)
+lines-good : (s : Settings) (cs : List ℕ) → checkLines (textLength (layout s cs)) 0 nothing (layout s cs) ≡ Good
+lines-good s cs = rw (layout-length s cs) (layout-lines s cs 0)
 
+-- The first line starts at 0.
+pub layout-starts : (s : Settings) (cs : List ℕ) → endBefore (textLength (layout s cs)) (layout s cs) ≡ 0
+layout-starts s cs = starts-first (textLength (layout s cs)) 0 (layout s cs) (lines-good s cs) (layout-there s cs)
+
+module _ (s : Settings) (h : ℕ) (some : 1 ≤ h) (cs : List ℕ) where
   -- The first i pages of a layout take what stands before line i * h of the text.
   pub layout-before : (t : List ℕ) (i : ℕ) → joined t (take i (pagesOf h (layout s cs))) ≡ take (endBefore (size cs) (drop (i * h) (layout s cs))) t
   layout-before t i =
-      pages-before h some (layout s cs) (layout-there s cs) lines-good t i
+      pages-before h some (layout s cs) (layout-there s cs) (lines-good s cs) t i
       ∙ rw (layout-length s cs)
 
   pub layout-joins : joined (encodeAll cs) (pagesOf h (layout s cs)) ≡ encodeAll cs
   layout-joins =
-      pages-join h some (layout s cs) (layout-there s cs) lines-good (encodeAll cs) (rw (layout-length s cs) (sym (size-is cs)))
+      pages-join h some (layout s cs) (layout-there s cs) (lines-good s cs) (encodeAll cs) (rw (layout-length s cs) (sym (size-is cs)))
 
 -- Of the bytes that a caller lends, which are UTF-8.
 pub text-joins : (s : Settings) (h : ℕ) → 1 ≤ h → (t : List ℕ) → checkUtf8 t ≡ Good → joined t (textPages s h t) ≡ t

@@ -16,9 +16,9 @@ use Rattle.meaning.specs.PageCalls.{tablePages, checkPagingAgain, pagingAgainLi
 use Rattle.meaning.specs.declared.refusals.Checked.{Checked}
 use Rattle.meaning.specs.declared.refusals.Checked.the-variants.{Good, Refused}
 use Rattle.laws.specs.GoodChecks.{room-is}
-use Rattle.laws.specs.IndexCalls.{three-good}
 use Rattle.laws.specs.PageLaws.{pages-few}
 use Rattle.laws.specs.TableLaws.{entries-length, capacity-is, pages-numbers}
+use Rattle.laws.specs.TestOrder.{three-good}
 use Rattle.laws.specs.WrittenPast.{past-none, past-all, past-kept}
 
 -- How many are kept.

@@ -15,7 +15,7 @@ use Rattle.unicode.specs.Decoding.{validPrefix, decodeAll}
 use Rattle.unicode.specs.Places.{boundary, boundaryAt, countChars}
 use Rattle.unicode.specs.Sizes.{size-is, take-encoded}
 use Rattle.unicode.specs.Prefix.{prefix-whole, text-decode}
-use Rattle.unicode.specs.Walk.{decode-all-scalars}
+use Rattle.unicode.specs.Walk.{decode-all-encode, decode-all-scalars}
 use Rattle.unicode.specs.Boundaries.{boundary-is, boundary-bytes, count-text}
 use Rattle.meaning.specs.Checks.{checkUtf8}
 use Rattle.meaning.specs.Edit.{charsIn}
@@ -61,11 +61,19 @@ module _ (t : List ℕ) (good : checkUtf8 t ≡ Good) where
     pub cut-within : n ≤ length t
     cut-within = omega (arith, cut-size, size-take (charsIn cs n) cs, part-size)
 
+    -- The bytes up to it are those characters'.
+    bytes-before : take n t ≡ encodeAll (take (charsIn cs n) cs)
+    bytes-before =
+        let k = charsIn cs n in
+        ap (take n) (sym encoded ∙ ap encodeAll (sym (take-append-drop k cs)))
+        ∙ ap (λ (m : ℕ). take m (encodeAll (take k cs ++ drop k cs))) cut-size
+        ∙ take-encoded (take k cs) (drop k cs)
+
+    pub chars-before : decodeAll (take n t) ≡ take (charsIn cs n) cs
+    chars-before =
+        let k = charsIn cs n in ap decodeAll bytes-before ∙ decode-all-encode (take k cs) (scalars-take k cs (decode-all-scalars t))
+
     pub cut-count : countChars (take n t) ≡ charsIn cs n
     cut-count =
         let k = charsIn cs n in
-        ap (λ (x : List ℕ). countChars (take n x)) (sym encoded ∙ ap encodeAll (sym (take-append-drop k cs)))
-        ∙ ap (λ (m : ℕ). countChars (take m (encodeAll (take k cs ++ drop k cs)))) cut-size
-        ∙ ap countChars (take-encoded (take k cs) (drop k cs))
-        ∙ count-text (take k cs) (scalars-take k cs (decode-all-scalars t))
-        ∙ length-take-le k cs (chars-within cs n)
+        ap countChars bytes-before ∙ count-text (take k cs) (scalars-take k cs (decode-all-scalars t)) ∙ length-take-le k cs (chars-within cs n)

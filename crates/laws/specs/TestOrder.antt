@@ -13,6 +13,19 @@ unfolding firstOf
 first-alone Good = refl
 first-alone (Refused r) = refl
 
+-- Where none refuses, the first does not, and none of the others.
+pub none-refuses : (c : Checked) (more : List Checked) → firstOf (c ∷ more) ≡ Good → (c ≡ Good) × (firstOf more ≡ Good)
+unfolding firstOf
+none-refuses Good more e = (refl, e)
+none-refuses (Refused r) more e = (cc, cc)
+
+-- Three tests, none of which refuses.
+pub three-good : (a b c : Checked) → firstOf (a ∷ b ∷ c ∷ []) ≡ Good → (a ≡ Good) × (b ≡ Good) × (c ≡ Good)
+three-good a b c e =
+    let p = none-refuses a (b ∷ c ∷ []) e in
+    let q = none-refuses b (c ∷ []) (p .1) in
+    (p .0, q .0, none-refuses c [] (q .1) .0)
+
 -- What one of the first two refuses is refused, whatever follows.
 pub first-refused : (a b : Checked) (more : List Checked) (r : Refusal) → firstOf (a ∷ b ∷ []) ≡ Refused r → firstOf (a ∷ b ∷ more) ≡ Refused r
 unfolding firstOf
