@@ -10,6 +10,7 @@ pub mod PagesKept
 pub mod PartChars
 pub mod Between
 pub mod Choosing
+pub mod ChoosingCalls
 pub mod Classes
 pub mod Cuts
 pub mod Demand3
