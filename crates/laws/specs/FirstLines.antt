@@ -1,9 +1,9 @@
 -- A text laid line by line: stopping after k lines gives the first k of the layout (rule 10).
 -- Assumes nothing.
-use Prim.Native.Nat.{ℕ, zero, suc, _+_, _-_, _≤_}
+use Prim.Native.Nat.{ℕ, zero, suc, _+_, _-_, _≤_, _<_}
 use native.Mathlib.Omega.{arith}
 use mathlib.Core.Path.{_≡_, refl, sym, ap, _∙_}
-use mathlib.Core.List.{List, [], _∷_, _++_, map}
+use mathlib.Core.List.{List, [], _∷_, map}
 use lib.Dec.{eqb}
 use lib.ListN.{length, take, drop}
 use lib.Seq.{drop-append-seam}
@@ -14,8 +14,7 @@ use Rattle.unicode.specs.Encoding.{size}
 use Rattle.meaning.specs.LineIter.{Held, nothingHeld}
 use Rattle.meaning.specs.Line.{layLine, restOf, endNumber, entryAt}
 use Rattle.meaning.specs.Layout.{Row, rowAt, unlessEnded, rowsBy, mostLines, rows, entryOfRow, layout}
-use Rattle.meaning.specs.Edit.{charsIn}
-use Rattle.meaning.specs.Frames.{isNone, noneResumed, onward, heldBy, OneLine, oneLine, firstLines}
+use Rattle.meaning.specs.Frames.{isNone, noneResumed, onward, heldBy, oneLine, firstLines}
 use Rattle.meaning.specs.declared.settings.Settings.{Settings}
 use Rattle.meaning.specs.declared.line.LineEnd.{LineEnd}
 use Rattle.meaning.specs.declared.line.LineEnd.the-variants.{NewLine, CarriageReturn, EndOfText, LineBreak}
@@ -112,15 +111,20 @@ module _ (s : Settings) (text : List ℕ) where
       (lines-are k next (before + l .chars) (l .held) rest (line-rest s h cs (f .0) (f .1), line-held s h cs (f .0) (f .1))
       (next-front s text start before h cs f p))))
 
+  -- Stopping after k lines, from any place on, where n lines are enough for what the text has from there on.
+  pub lines-from : (k n start before : ℕ) (h : Held) (cs : List ℕ) → FitsIn cs h → Front text start before cs → length cs < n
+      → firstLines k s text start (restOf start h cs) ≡ take k (map entryOfRow (rowsBy n s start before h cs))
+  lines-from k n start before h cs f p enough =
+      lines-are k start before h cs f p
+      ∙ ap (map entryOfRow)
+      (first-rows k n s start before h cs
+      ∙ ap (take k) (rows-fuel (k + n) n s start before h cs (f .0) (f .1) (omega arith) enough))
+      ∙ take-map entryOfRow k (rowsBy n s start before h cs)
+
   -- For every k. A k of more lines than there are gives all of them.
   pub first-lines : (k : ℕ) → firstLines k s text 0 noneResumed ≡ take k (layout s text)
   unfolding layout rows size
   first-lines k =
       let front : Front text 0 0 text = record { front = []; is = refl; at = refl; counted = refl } in
       ap (firstLines k s text 0) (sym (rest-none 0 nothingHeld text refl))
-      ∙ lines-are k 0 0 nothingHeld text (omega arith, omega arith) front
-      ∙ ap (map entryOfRow)
-      (first-rows k (mostLines text) s 0 0 nothingHeld text
-      ∙ ap (take k)
-      (rows-fuel (k + mostLines text) (mostLines text) s 0 0 nothingHeld text (omega arith) (omega arith) (omega arith) (omega arith)))
-      ∙ take-map entryOfRow k (rowsBy (mostLines text) s 0 0 nothingHeld text)
+      ∙ lines-from k (mostLines text) 0 0 nothingHeld text (omega arith, omega arith) front (omega arith)

@@ -4,6 +4,7 @@ pub mod CharsBefore
 pub mod FirstLines
 pub mod PageBoundaries
 pub mod PageLaws
+pub mod PageLines
 pub mod PageStretches
 pub mod PagesAgain
 pub mod PagesKept

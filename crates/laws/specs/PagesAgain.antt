@@ -67,6 +67,10 @@ module _ {s : Settings} {ed : Edit} {old new table : List ℕ} {lines : ℕ} {pa
   abbrev first : ℕ
   first = length (unaffected (ed .from .0) (layout s old))
 
+  -- The pages before the one that holds it.
+  abbrev kept : ℕ
+  kept = first / h
+
   starts : SameStarts (suc first) (layout s old) (layout s new)
   starts = rw (k .old-is, k .new-is) (edit-starts s ed (k .pre) (k .mid) (k .ins) (k .post) (k .replaces))
 
@@ -74,30 +78,29 @@ module _ {s : Settings} {ed : Edit} {old new table : List ℕ} {lines : ℕ} {pa
   there = same-long (suc first) (layout s old) (layout s new) starts
 
   -- Of the pages before the one that holds the first affected line, the last ends where a line starts that is not behind that one.
-  same-kept : take (first / h) (pagesOf h (layout s old)) ≡ take (first / h) (pagesOf h (layout s new))
+  same-kept : take kept (pagesOf h (layout s old)) ≡ take kept (pagesOf h (layout s new))
   same-kept =
-      let n = suc (first / h * h) in
-      same-pages h (first / h) (layout s old) (layout s new) some
+      let n = suc (kept * h) in
+      same-pages h kept (layout s old) (layout s new) some
       (same-onward 0 n (suc first) (layout s old) (layout s new) (omega (arith, div-mul-le-self first h)) starts)
 
-  few-kept : first / h < length (pagesOf h (layout s old))
-  few-kept = page-there h some (first / h) (layout s old) (omega (arith, there, div-mul-le-self first h))
+  few-kept : kept < length (pagesOf h (layout s old))
+  few-kept = page-there h some kept (layout s old) (omega (arith, there, div-mul-le-self first h))
 
   -- A list that held the pages of the old layout, written again from the page of the first affected line on, is one made afresh.
   pub pages-again : (pages : List ℕ) → take (pageNumbers * length (pagesOf h (layout s old))) pages ≡ ofAll ofPage (pagesOf h (layout s old))
       → writtenPast (pageNumbers * keptPages h first (length (layout s new))) pages (ofAll ofPage (pagesOf h (layout s new)))
       ≡ written pages (ofAll ofPage (pagesOf h (layout s new)))
   pages-again pages held =
-      let q = first / h in
       let was = pagesOf h (layout s old) in
       let now = pagesOf h (layout s new) in
-      let right : take (pageNumbers * q) pages ≡ take (pageNumbers * q) (ofAll ofPage now) =
-      sym (take-take (pageNumbers * q) (pageNumbers * length was) pages (omega (arith, few-kept)))
-      ∙ ap (take (pageNumbers * q)) held
-      ∙ all-first ofPage pageNumbers page-numbers q was
+      let right : take (pageNumbers * kept) pages ≡ take (pageNumbers * kept) (ofAll ofPage now) =
+      sym (take-take (pageNumbers * kept) (pageNumbers * length was) pages (omega (arith, few-kept)))
+      ∙ ap (take (pageNumbers * kept)) held
+      ∙ all-first ofPage pageNumbers page-numbers kept was
       ∙ ap (ofAll ofPage) same-kept
-      ∙ sym (all-first ofPage pageNumbers page-numbers q now) in
-      rw (kept-some h first (length (layout s new)) (there .1)) (past-right (pageNumbers * q) pages (ofAll ofPage now) right)
+      ∙ sym (all-first ofPage pageNumbers page-numbers kept now) in
+      rw (kept-some h first (length (layout s new)) (there .1)) (past-right (pageNumbers * kept) pages (ofAll ofPage now) right)
 
   -- So the call that lists them again from that line on leaves what it leaves from the first line on, for a table that holds the
   -- new layout.
