@@ -8,6 +8,7 @@ pub mod PageLines
 pub mod PageStretches
 pub mod PagesAgain
 pub mod PagesKept
+pub mod PagingCalls
 pub mod PartChars
 pub mod Between
 pub mod Choosing

@@ -10,7 +10,9 @@ use Rattle.unicode.specs.Encoding.{size}
 use Rattle.meaning.specs.LineIter.{Held, nothingHeld}
 use Rattle.meaning.specs.Line.{layLine, entryAt}
 use Rattle.meaning.specs.Layout.{Row, rowAt, rowsBy, mostLines, rows, entryOfRow, layout}
-use Rattle.meaning.specs.Frames.{firstLines}
+use Rattle.meaning.specs.Edit.{charsIn}
+use Rattle.meaning.specs.Frames.{isNone, noneResumed, onward, heldBy, oneLine, firstLines}
+use Rattle.meaning.specs.Examples.{codes, linesOf, box}
 use Rattle.meaning.specs.declared.settings.Settings.{Settings}
 use Rattle.meaning.specs.declared.line.Entry.{Entry}
 use Rattle.laws.specs.CharsBefore.{Front, next-front}
@@ -51,3 +53,10 @@ module _ (s : Settings) (text : List ℕ) where
   pub page-lines : (h i : ℕ) (p : PageSaid h i (layout s text))
       → firstLines h s text (p .page .start .0) (p .line .rest) ≡ take h (drop (i * h) (layout s text))
   page-lines h i p = rw (p .start, p .lines) ((rw (p .lines) at (lines-onward (i * h))) h)
+
+-- Laid alone they may be others. Of the run of spaces in this text, which holds a U+200B, two spaces are left for the second line, and "d"
+-- fits behind them; the bytes have three, behind which it does not.
+pub alone-breaks : (length (drop 1 (layout (box 18) (codes "ab \u{200b}   d"))) ≡ 1)
+    × (length (firstLines 9 (box 18) (codes "ab \u{200b}   d") 6 noneResumed) ≡ 2)
+unfolding codes linesOf charsIn isNone onward heldBy oneLine firstLines
+alone-breaks = (refl, refl)

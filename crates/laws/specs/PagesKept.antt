@@ -6,7 +6,7 @@ use mathlib.Core.List.{List}
 use native.Mathlib.Nat.{zero-div}
 use native.Mathlib.Omega.{arith}
 use borrow.Author.Tests.{lt-ltb, le-ltb}
-use lib.ListN.{length, take}
+use lib.ListN.{length, take, drop}
 use Rattle.basis.specs.Choice.{pick}
 use Rattle.meaning.specs.Checks.{afterwards, checkLimit, checkRoom}
 use Rattle.meaning.specs.Table.{ofAll, capacityOf, written, entriesIn}
@@ -19,7 +19,7 @@ use Rattle.laws.specs.GoodChecks.{room-is}
 use Rattle.laws.specs.PageLaws.{pages-few}
 use Rattle.laws.specs.TableLaws.{entries-length, capacity-is, pages-numbers}
 use Rattle.laws.specs.TestOrder.{three-good}
-use Rattle.laws.specs.WrittenPast.{past-none, past-all, past-kept}
+use Rattle.laws.specs.WrittenPast.{past-none, past-all, past-kept, past-behind}
 
 -- How many are kept.
 pub kept-some : (h first lines : ℕ) → first < lines → keptPages h first lines ≡ first / h
@@ -56,7 +56,15 @@ module _ (table : List ℕ) (lines h : ℕ) (pages : List ℕ) where
       once-good (λ (l : List ℕ). take k l ≡ take k pages) (checkPagingAgain table lines h pages) (writtenPast k pages numbers) pages
       (λ g. past-kept k pages numbers (room-for g)) refl
 
-  -- Where there is no such line, none is.
+  -- Nor is anything past the last page.
+  pub pages-past : (first : ℕ) → drop (length numbers) (pagingAgainList table lines h first pages) ≡ drop (length numbers) pages
+  unfolding pagingAgainList
+  pages-past first =
+      let k = pageNumbers * keptPages h first lines in
+      once-good (λ (l : List ℕ). drop (length numbers) l ≡ drop (length numbers) pages) (checkPagingAgain table lines h pages)
+      (writtenPast k pages numbers) pages (λ g. past-behind k pages numbers (room-for g)) refl
+
+  -- Where there is no such line, none is written.
   pub pages-untouched : (first : ℕ) → lines ≤ first → pagingAgainList table lines h first pages ≡ pages
   unfolding pagingAgainList tablePages
   pages-untouched first p =

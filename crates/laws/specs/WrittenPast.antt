@@ -1,11 +1,11 @@
 -- A buffer with numbers written to its front, but for the first ones, which are kept: what it then holds, and what it keeps.
 -- Assumes nothing.
-use Prim.Native.Nat.{ℕ, zero, suc, _≤_}
-use mathlib.Core.Path.{_≡_, refl, ap}
+use Prim.Native.Nat.{ℕ, zero, suc, _≤_, _<_}
+use mathlib.Core.Path.{_≡_, refl, ap, _∙_}
 use mathlib.Core.List.{List, [], _∷_, _++_, append-assoc, append-nil}
 use native.Mathlib.Omega.{arith}
-use lib.ListN.{length, take, drop, take-append-drop, drop-of-length-le}
-use lib.Seq.{take-at, length-take-le}
+use lib.ListN.{length, take, drop, length-append, length-drop, take-append-drop, drop-of-length-le}
+use lib.Seq.{take-at, drop-at, length-take-le}
 use Rattle.basis.specs.Order.{by-le}
 use Rattle.meaning.specs.Table.{written}
 use Rattle.meaning.specs.Pages.{writtenPast}
@@ -37,3 +37,16 @@ past-kept k buffer xs h =
   where
     inside : k ≤ length buffer → take k (writtenPast k buffer xs) ≡ take k buffer
     inside p = rw append-assoc (take-at (take k buffer) _ k (length-take-le k buffer p))
+
+-- So is what lies past the last one.
+pub past-behind : (k : ℕ) (buffer xs : List ℕ) → length xs ≤ length buffer
+    → drop (length xs) (writtenPast k buffer xs) ≡ drop (length xs) buffer
+unfolding writtenPast written
+past-behind k buffer xs h = by-le (length xs) k (λ p. ap (drop (length xs)) (past-all k buffer xs p)) inside
+  where
+    inside : k < length xs → drop (length xs) (writtenPast k buffer xs) ≡ drop (length xs) buffer
+    inside q =
+        let ys = take k buffer ++ drop k xs in
+        let e : length ys ≡ length xs =
+        rw length-append (omega (arith, length-take-le k buffer (omega arith), length-drop k xs)) in
+        drop-at ys (drop (length ys) buffer) (length xs) e ∙ ap (λ (m : ℕ). drop m buffer) e
