@@ -80,7 +80,7 @@ pages-none zero h k b = refl
 pages-none (suc n) h k b = refl
 
 -- The pages from the i-th on are those of the lines from line i * h on.
-pages-onward : (i n h k b : ℕ) (es : List Entry) → drop i (pagesBy n h k b es) ≡ pagesBy (n - i) h (k + i * h) b (drop (i * h) es)
+pub pages-onward : (i n h k b : ℕ) (es : List Entry) → drop i (pagesBy n h k b es) ≡ pagesBy (n - i) h (k + i * h) b (drop (i * h) es)
 unfolding pagesBy
 pages-onward zero n h k b es = rw (zero-mul, add-zero, sub-zero)
 pages-onward (suc i) zero h k b es = let e : 0 - suc i ≡ 0 = omega arith in rw e

@@ -1,5 +1,5 @@
--- After an edit, a list of pages that is written again from the page of the first affected line on is the one made afresh, and nothing
--- before that page is written (rule 10, laying again).
+-- After an edit, a list of pages that is written again from the page of the first affected line on is the one made afresh (rule 10, laying
+-- again).
 -- Assumes nothing.
 use Prim.Native.Nat.{ℕ, zero, suc, _*_, _/_, _≤_, _<_}
 use mathlib.Core.Path.{_≡_, refl, sym, ap, _∙_}

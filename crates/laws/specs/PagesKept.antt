@@ -1,4 +1,5 @@
--- Pages that are listed again from a line on: those before the page that holds it are kept (rule 10).
+-- Pages that are listed again from a line on: those before the page that holds it are kept, and nothing past the last one is written
+-- (rule 10).
 -- Assumes nothing.
 use Prim.Native.Nat.{ℕ, _*_, _/_, _≤_, _<_}
 use mathlib.Core.Path.{_≡_, refl}
