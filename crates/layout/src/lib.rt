@@ -1,5 +1,5 @@
 // The public calls that lay a text.
-mod checked;
+pub mod checked;
 pub mod drawn;
 mod events;
 pub mod fresh;
