@@ -1,0 +1,2 @@
+// Pages of h lines, and the part of a text that its first h lines take (rule 10).
+pub mod taken;
