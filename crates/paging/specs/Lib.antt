@@ -1,4 +1,7 @@
 pub mod PageLaws
+pub mod PageCounts
+pub mod PastWriting
+pub mod PageTurns
 pub mod LineStarts
 pub mod CharsBehind
 pub mod AllGood
