@@ -7,3 +7,6 @@ pub mod CharsBehind
 pub mod AllGood
 pub mod Taking
 pub mod Choosing
+pub mod SomeLines
+pub mod Listing
+pub mod ListingAgain
