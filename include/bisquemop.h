@@ -18,6 +18,9 @@
  *   bisquemop_find_line        the line under a y, as a tap has one
  *   bisquemop_write_file       settings and a table as the bytes of a layout file, which another machine can read
  *   bisquemop_read_file        settings and a table from such bytes
+ *   bisquemop_choose           a long text if it has at most so many lines, else as much of a short one
+ *   bisquemop_pages            lays a text, and lists its pages of so many lines each
+ *   bisquemop_pages_again      after an edit, the pages that changed
  *
  * Those that take thirteen settings have a twin bisquemop_settings_.. that takes a struct of them.
  *
@@ -61,15 +64,15 @@ typedef char bisquemop_pointers_have_32_or_64_bits[sizeof(void *) == 4 || sizeof
    for a file: there 9 and 11 come first, and 12 after 2. */
 enum bisquemop_refusal {
     BISQUEMOP_OK = 0,                   /* the call is done, and says what *value is */
-    BISQUEMOP_SETTING_OUT_OF_RANGE = 1, /* 0 */
+    BISQUEMOP_SETTING_OUT_OF_RANGE = 1, /* 0; a limit of no lines is out of range too */
     BISQUEMOP_UNKNOWN_ALIGNMENT = 2,    /* the number that was given for it */
     BISQUEMOP_TEXT_TOO_LONG = 3,        /* the text's length in bytes */
     BISQUEMOP_NOT_UTF8 = 4,             /* the length in bytes of its longest prefix that is UTF-8 */
     BISQUEMOP_BAD_LINE = 5,             /* the first bad line of the table; 0 for one line's bad start or bad rest */
     BISQUEMOP_BAD_EDIT = 6,             /* 0 */
     /* 7 is not used. It was for a line that breaks without taking a character, and there is none: that is proved */
-    BISQUEMOP_TOO_SMALL = 8,            /* how many lines, tokens, events, ys, settings or bytes the buffer must have
-                                           room for */
+    BISQUEMOP_TOO_SMALL = 8,            /* how many lines, tokens, events, ys, settings, bytes or pages the buffer must
+                                           have room for */
     BISQUEMOP_BAD_FIELD = 9,            /* the offset in the file of the first field that is not as it should be */
     BISQUEMOP_BAD_INDEX = 10,           /* the index's length if it is not the count of lines; else the first line whose
                                            y is smaller than that of the line before it */
@@ -156,6 +159,20 @@ enum bisquemop_showing {
 
 /* What *value is where a call looked for a line and there is none. */
 #define BISQUEMOP_NONE UINT64_MAX
+
+/* The columns of a page: page k's number of a column stands at BISQUEMOP_PAGE_NUMBERS * k + the column. */
+enum bisquemop_page_column {
+    BISQUEMOP_PAGE_LINE = 0,  /* its first line */
+    BISQUEMOP_PAGE_START = 1, /* the offset where that line starts */
+    BISQUEMOP_PAGE_END = 2    /* the offset where the next page starts; of the last page the text's length */
+};
+#define BISQUEMOP_PAGE_NUMBERS 3 /* how many numbers a page has in a list */
+
+/* Which of two texts was chosen. */
+enum bisquemop_which {
+    BISQUEMOP_LONG_TEXT = 0,
+    BISQUEMOP_SHORT_TEXT = 1
+};
 
 /* The columns of a token: token k's number of a column stands at BISQUEMOP_TOKEN_NUMBERS * k + the column. */
 enum bisquemop_token_column {
@@ -638,6 +655,82 @@ static inline struct bisquemop_settings bisquemop_settings_from(const uint32_t *
     s.wrap = numbers[12];
     return s;
 }
+
+/*
+ * Chooses between a long text and a short one for a place that has `h` lines. If the layout of the `long_len` bytes at
+ * `long_text` has at most `h` lines, the choice is all of it. Otherwise it is the beginning of the `short_len` bytes at
+ * `short_text` that its first `h` lines take, which is all of it if it has no more lines. The choice is a part of the
+ * text that it comes from: its first *value bytes. *which, a uint32_t of the caller's, is one of enum bisquemop_which,
+ * and *left_out, a uint64_t of the caller's, is how many characters of that text come after the part, 0 for the long
+ * text. Neither may be NULL, and both keep what they held if the call refuses. The short text is checked in any case.
+ * No table is needed, and of neither text more than `h` lines are laid. Returns
+ *   BISQUEMOP_OK                    done; *value is how many bytes the part has
+ *   BISQUEMOP_SETTING_OUT_OF_RANGE  `h` is 0, or as by bisquemop_check_settings; *value is 0
+ *   BISQUEMOP_UNKNOWN_ALIGNMENT     as by bisquemop_check_settings; *value is the number that was given
+ *   BISQUEMOP_TEXT_TOO_LONG         as by bisquemop_check_text; *value is that text's length. The long text is looked
+ *                                   at first, for this and for the next; then the short one
+ *   BISQUEMOP_NOT_UTF8              as by bisquemop_check_text; *value is the length of its longest valid prefix
+ */
+uint32_t bisquemop_choose(uint32_t glyph, uint32_t width, uint32_t tab, uint32_t spacing, uint32_t paragraph,
+                          uint32_t base, uint32_t height, int32_t top, uint32_t alignment, uint32_t vertical,
+                          uint32_t leading, uint32_t trailing, uint32_t wrap, const uint8_t *long_text,
+                          uint64_t long_len, const uint8_t *short_text, uint64_t short_len, uint32_t h, uint64_t *value,
+                          uint32_t *which, uint64_t *left_out);
+
+/* The same for settings in a struct, which must not be NULL. */
+static inline uint32_t bisquemop_settings_choose(const struct bisquemop_settings *s, const uint8_t *long_text,
+                                                 uint64_t long_len, const uint8_t *short_text, uint64_t short_len,
+                                                 uint32_t h, uint64_t *value, uint32_t *which, uint64_t *left_out)
+{
+    return bisquemop_choose(s->glyph, s->width, s->tab, s->spacing, s->paragraph, s->base, s->height, s->top,
+                            s->alignment, s->vertical, s->leading, s->trailing, s->wrap, long_text, long_len,
+                            short_text, short_len, h, value, which, left_out);
+}
+
+/*
+ * The same as bisquemop_layout, and writes three numbers (enum bisquemop_page_column) for each page of `h` lines to
+ * `pages`, which has `pages_len` numbers. The last page has 1 to `h` lines. Pages are cuts of the whole text's layout:
+ * their stretches follow one another and cover the text, and a page's lines are those of the table, whose first may
+ * start with a rest. One page for each line is surely enough, and (lines + h - 1) / h are needed. Numbers past the last
+ * page written keep what they held. *page_count, a uint64_t of the caller's that must not be NULL, is how many pages
+ * were written, and keeps what it held if the call refuses. Returns
+ *   BISQUEMOP_OK                    done; *value is how many lines were written
+ *   BISQUEMOP_SETTING_OUT_OF_RANGE  `h` is 0, or as by bisquemop_check_settings; *value is 0
+ *   BISQUEMOP_UNKNOWN_ALIGNMENT     as by bisquemop_check_settings; *value is the number that was given
+ *   BISQUEMOP_TEXT_TOO_LONG         as by bisquemop_check_text; *value is `len`
+ *   BISQUEMOP_NOT_UTF8              as by bisquemop_check_text; *value is the length of its longest valid prefix
+ *   BISQUEMOP_TOO_SMALL             `table` has no room for all lines; *value is how many there are. Or it has, and
+ *                                   `pages` has no room for all pages; *value is how many of these there are
+ */
+uint32_t bisquemop_pages(uint32_t glyph, uint32_t width, uint32_t tab, uint32_t spacing, uint32_t paragraph,
+                         uint32_t base, uint32_t height, int32_t top, uint32_t alignment, uint32_t vertical,
+                         uint32_t leading, uint32_t trailing, uint32_t wrap, const uint8_t *text, uint64_t len,
+                         uint32_t h, uint32_t *table, uint64_t table_len, uint32_t *pages, uint64_t pages_len,
+                         uint64_t *value, uint64_t *page_count);
+
+/* The same for settings in a struct, which must not be NULL. */
+static inline uint32_t bisquemop_settings_pages(const struct bisquemop_settings *s, const uint8_t *text, uint64_t len,
+                                                uint32_t h, uint32_t *table, uint64_t table_len, uint32_t *pages,
+                                                uint64_t pages_len, uint64_t *value, uint64_t *page_count)
+{
+    return bisquemop_pages(s->glyph, s->width, s->tab, s->spacing, s->paragraph, s->base, s->height, s->top,
+                           s->alignment, s->vertical, s->leading, s->trailing, s->wrap, text, len, h, table, table_len,
+                           pages, pages_len, value, page_count);
+}
+
+/*
+ * Brings a list of pages up to date after an edit. `table` and `lines` are those of the new text, as
+ * bisquemop_lay_again left them; `first` is the first affected line, as bisquemop_first_affected answered it; `pages`
+ * holds the pages of the old text, by the same `h`. It then holds exactly what bisquemop_pages lists for the new text.
+ * Only the pages from the one that holds line `first` on are written: where `first` is past the last line, none. With 0
+ * for `first` it lists the pages of any table. The table is only read. Returns
+ *   BISQUEMOP_OK                    done; *value is how many pages there are now
+ *   BISQUEMOP_SETTING_OUT_OF_RANGE  `h` is 0; *value is 0
+ *   BISQUEMOP_BAD_LINE              as by bisquemop_first_affected; *value is the first bad line
+ *   BISQUEMOP_TOO_SMALL             `pages` has no room for all; *value is how many pages there are
+ */
+uint32_t bisquemop_pages_again(const uint32_t *table, uint64_t table_len, uint64_t lines, uint32_t h, uint64_t first,
+                               uint32_t *pages, uint64_t pages_len, uint64_t *value);
 
 #ifdef __cplusplus
 }
