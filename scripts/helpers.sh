@@ -124,7 +124,11 @@ build_program() { # NAME
 
 # Runs a program for x86-64 that needs nothing but this machine, and one that `rt check` made.
 emulated() { ${emulator:+"$emulator"} "$@"; } # PROGRAM WORD..
-run_program() { emulated "$tools/lib/ld-linux-x86-64.so.2" --library-path "$tools/lib" "$root/target/bin/$1"; } # NAME
+run_program() { # NAME WORD..
+    program=$1
+    shift
+    emulated "$tools/lib/ld-linux-x86-64.so.2" --library-path "$tools/lib" "$root/target/bin/$program" "$@"
+}
 
 # Runs a command in the repository's folder.
 in_root() { (cd "$root" && "$@"); }

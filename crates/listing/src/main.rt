@@ -1,88 +1,23 @@
 // Lays the text on standard input and lists its lines: 'lines N', and the eleven numbers of each line; or 'refused N V', the
 // number of the refusal and what goes besides it. The settings are those of the scope's examples, in a box 30 wide.
-mod input;
-
-use crate::input::count_rest;
-use crate::input::fill;
-use checks::refusals::number;
-use checks::refusals::value;
+use console::input::fill;
+use console::sample::sample_settings;
+use console::saying::refuse;
+use console::saying::say;
+use console::saying::say_number;
+use console::saying::say_unread;
 use layout::fresh::layout;
-use libc::STDERR_FILENO;
-use libc::STDOUT_FILENO;
 use meaning::answers::Laid;
-use meaning::counts::Pixels;
-use meaning::refusals::Refusal;
-use meaning::settings::Settings;
 use meaning::sizes::ENTRY_NUMBERS;
 ghost use Prim.Native.Nat.{_+_, _*_, _≤_};
 ghost use lib.ListN.{length};
 ghost use Rattle.meaning.specs.Table.{entryNumbers};
-
-// The refusal whose value this program has to count.
-const TEXT_TOO_LONG: u32 = 3;
 
 // The most lines that it lists.
 const LINES: usize = 1024;
 
 // The place of a line's last number.
 const LAST: usize = ENTRY_NUMBERS - 1;
-
-// Left aligned, leading spaces on. Nothing here asks for heights.
-fn settings() -> Settings {
-    Settings {
-        glyph: Pixels(6),
-        width: Pixels(30),
-        tab: Pixels(24),
-        spacing: Pixels(0),
-        paragraph: Pixels(0),
-        base: Pixels(1),
-        height: Pixels(0),
-        top: 0,
-        alignment: 0,
-        vertical: 0,
-        leading: 1,
-        trailing: 0,
-        wrap: 0,
-    }
-}
-
-fn say_number(n: u64, after: &[u8]) {
-    io::print_decimal(STDOUT_FILENO, n);
-    io::write_all(STDOUT_FILENO, after);
-}
-
-fn say_refused(number: u32, value: u64) {
-    io::write_all(STDOUT_FILENO, b"refused ");
-    say_number(number as u64, b" ");
-    say_number(value, b"\n");
-}
-
-fn say_failed() {
-    io::write_all(STDERR_FILENO, b"listing: standard input cannot be read\n");
-}
-
-// The text goes on after its first bytes, which filled the buffer: its length is counted to the end.
-fn say_too_long(number: u32, first: usize)
-    requires { ⌜ first ≤ 65536 ⌝ }
-{
-    let rest = count_rest();
-    if rest.failed {
-        say_failed();
-        return;
-    }
-    say_refused(number, (first + rest.bytes) as u64);
-}
-
-fn refuse(refusal: Refusal, length: usize)
-    requires { ⌜ length ≤ 65536 ⌝ }
-{
-    let number = number(refusal);
-    if number == TEXT_TOO_LONG {
-        say_too_long(number, length);
-        return;
-    }
-    say_refused(number, value(refusal));
-}
 
 fn wide(n: u32) -> u64 {
     n as u64
@@ -103,7 +38,7 @@ fn say_line(table: &[u32], from: usize)
 fn say_lines(table: &[u32], n: usize)
     requires { ⌜ entryNumbers * n ≤ length (now table) ⌝ }
 {
-    io::write_all(STDOUT_FILENO, b"lines ");
+    say(b"lines ");
     say_number(n as u64, b"\n");
     let mut k: usize = 0;
     while k < n {
@@ -112,18 +47,18 @@ fn say_lines(table: &[u32], n: usize)
     }
 }
 
-fn say(text: &[u8])
+fn list(text: &[u8])
     requires { ⌜ length (now text) ≤ 65536 ⌝ }
 {
     let mut table = [0u32; LINES * ENTRY_NUMBERS];
-    match layout(settings(), text, &mut table) {
+    match layout(sample_settings(), text, &mut table) {
         Laid::Lines(n) => {
             // the layout wrote no more than the table holds
             if n <= LINES as u64 {
                 say_lines(&table, n as usize);
             }
         }
-        Laid::Refused(refusal) => refuse(refusal, text.len()),
+        Laid::Refused(refusal) => refuse(b"listing", refusal, text.len()),
     }
 }
 
@@ -132,9 +67,9 @@ fn main() {
     let mut text = io::large_buffer();
     let read = fill(&mut text);
     if read.failed {
-        say_failed();
+        say_unread(b"listing");
         return;
     }
     let n = read.bytes;
-    say(&text[..n]);
+    list(&text[..n]);
 }

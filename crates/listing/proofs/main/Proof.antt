@@ -18,8 +18,11 @@ slice-aggregate-fill c = search needs
 fill-requires : tie.Need-fill-requires
 fill-requires c κs = search needs
 
-say-failed-requires : tie.Need-say-failed-requires
-say-failed-requires c κs = search needs
+slice-aggregate-say-unread : tie.Need-slice-aggregate-say-unread
+slice-aggregate-say-unread c = search needs
+
+say-unread-requires : tie.Need-say-unread-requires
+say-unread-requires c κs = search needs
 
 returns : tie.Need-returns
 returns c = search needs
@@ -34,11 +37,11 @@ few c = omega (arith, c .fill .ensures, c .before .before .large-buffer .ensures
 long : (c : tie.After-fill) → length (take (c .fill .result .bytes) (c .fill .last .0)) ≡ c .fill .result .bytes
 long c = length-take-le (c .fill .result .bytes) (c .fill .last .0) (omega (arith, c .fill .ensures, c .fill .kept .0))
 
-slice-aggregate-say : tie.Need-slice-aggregate-say
-slice-aggregate-say c = sym (long (c .before .before .before))
+slice-aggregate-list : tie.Need-slice-aggregate-list
+slice-aggregate-list c = sym (long (c .before .before .before))
 
-say-requires : tie.Need-say-requires
-say-requires c κs = let f = c .before .before .before in omega (arith, long f, few f)
+list-requires : tie.Need-list-requires
+list-requires c κs = let f = c .before .before .before in omega (arith, long f, few f)
 
 returns-2 : tie.Need-returns-2
 returns-2 c = search needs
@@ -50,9 +53,10 @@ main-spec =
     large-buffer-requires
     slice-aggregate-fill
     fill-requires
-    say-failed-requires
+    slice-aggregate-say-unread
+    say-unread-requires
     returns
     array-share-prefix-text
-    slice-aggregate-say
-    say-requires
+    slice-aggregate-list
+    list-requires
     returns-2)

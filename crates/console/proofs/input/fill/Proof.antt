@@ -1,11 +1,11 @@
--- `listing::input::fill` meets its contract.
+-- `console::input::fill` meets its contract.
 -- Assumes nothing.
 use Prim.Native.Nat.{_≤_, _-_}
 use mathlib.Core.Path.{_≡_}
 use lib.ListN.{length}
 use borrow.Author.Needs.{needs}
-use Rattle.listing.proofs.input.fill.Statement.{statement}
-use Rattle.listing.proofs.input.fill.Tie as tie
+use Rattle.console.proofs.input.fill.Statement.{statement}
+use Rattle.console.proofs.input.fill.Tie as tie
 
 abbrev Inv-loop : tie.InvT-loop
 Inv-loop buffer₀ bytes₀ buffer bytes = (length buffer ≡ length buffer₀) × (bytes ≤ length buffer₀)

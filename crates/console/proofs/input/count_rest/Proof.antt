@@ -1,9 +1,9 @@
--- `listing::input::count_rest` meets its contract.
+-- `console::input::count_rest` meets its contract.
 -- Assumes nothing.
 use Prim.Native.Nat.{_≤_, _-_, _+_, _^_}
 use borrow.Author.Needs.{needs}
-use Rattle.listing.proofs.input.count_rest.Statement.{statement}
-use Rattle.listing.proofs.input.count_rest.Tie as tie
+use Rattle.console.proofs.input.count_rest.Statement.{statement}
+use Rattle.console.proofs.input.count_rest.Tie as tie
 
 abbrev Inv-loop : tie.InvT-loop
 Inv-loop bytes₀ bytes = bytes ≤ 2 ^ 62 + 2 ^ 16
