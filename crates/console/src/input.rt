@@ -2,6 +2,7 @@
 use libc::STDIN_FILENO;
 ghost use Prim.Native.Nat.{_+_, _^_, _≤_};
 ghost use lib.ListN.{length};
+ghost use Rattle.io.specs.Counts.{Counts};
 
 // How many bytes were read, and whether a read failed after them.
 pub struct Read {
@@ -12,6 +13,7 @@ pub struct Read {
 // Reads until the buffer is full or the input ends.
 pub fn fill(buffer: &mut [u8]) -> Read
     ensures { λ r. ⌜ r .bytes ≤ length (now (buffer .entry)) ⌝ }
+    ensures { λ r. ⌜ Counts (r .bytes) (now (buffer .exit)) ⌝ }
 {
     let mut bytes: usize = 0;
     while bytes < buffer.len() {

@@ -1,9 +1,12 @@
 -- `console::input::fill` meets its contract.
 -- Assumes nothing.
-use Prim.Native.Nat.{_≤_, _-_}
-use mathlib.Core.Path.{_≡_}
+use Prim.Native.Nat.{ℕ, _≤_, _-_}
+use mathlib.Core.Path.{_≡_, sym}
+use mathlib.Core.List.{List}
 use lib.ListN.{length}
+use lib.Seq.{length-take-le}
 use borrow.Author.Needs.{needs}
+use Rattle.io.specs.Counts.{Counts}
 use Rattle.console.proofs.input.fill.Statement.{statement}
 use Rattle.console.proofs.input.fill.Tie as tie
 
@@ -12,6 +15,9 @@ Inv-loop buffer₀ bytes₀ buffer bytes = (length buffer ≡ length buffer₀) 
 
 abbrev μ-loop : tie.MeasureT-loop
 μ-loop buffer₀ bytes₀ buffer bytes = length buffer₀ - bytes
+
+counts : (n : ℕ) (xs : List ℕ) → n ≤ length xs → Counts n xs
+counts n xs h = (h, sym (length-take-le n xs h))
 
 loop-holds : tie.Need-loop-holds Inv-loop μ-loop
 loop-holds c = search needs
@@ -32,7 +38,7 @@ same-length : tie.Need-same-length Inv-loop μ-loop
 same-length c = search needs
 
 returns : tie.Need-returns Inv-loop μ-loop
-returns c = search needs
+returns c = (search needs, counts _ _ (search needs))
 
 sub-count : tie.Need-sub-count Inv-loop μ-loop
 sub-count c = search needs
@@ -59,13 +65,13 @@ same-length-2 : tie.Need-same-length-2 Inv-loop μ-loop
 same-length-2 c = search needs
 
 returns-2 : tie.Need-returns-2 Inv-loop μ-loop
-returns-2 c = search needs
+returns-2 c = (search needs, counts _ _ (search needs))
 
 same-length-3 : tie.Need-same-length-3 Inv-loop μ-loop
 same-length-3 c = search needs
 
 returns-3 : tie.Need-returns-3 Inv-loop μ-loop
-returns-3 c = search needs
+returns-3 c = (search needs, counts _ _ (search needs))
 
 pub fill-spec : {M : Type 1} → statement M
 fill-spec =
