@@ -2,9 +2,8 @@
 -- Rule 10, refusal 1, refusal 2, refusal 3, refusal 4.
 -- Assumes nothing.
 use Prim.Native.Nat.{ℕ, _≤_}
-use native.Mathlib.Omega.{arith}
 use mathlib.Core.Path.{_≡_, sym, ap, subst, _∙_}
-use mathlib.Core.Bool.{Bool, true, false}
+use mathlib.Core.Bool.{true, false}
 use mathlib.Core.List.{List, [], _∷_}
 use lib.ListN.{length, take}
 use lib.Seq.{length-take-le}
@@ -17,7 +16,6 @@ use Rattle.meaning.specs.Pages.{withinLines, takenBytes, leftOut}
 use Rattle.meaning.specs.PageCalls.{checkChoosing, chosenPart, chosenOf, choosingAnswer}
 use Rattle.meaning.specs.declared.settings.Settings.{Settings}
 use Rattle.meaning.specs.declared.refusals.Refusal.{Refusal}
-use Rattle.meaning.specs.declared.refusals.Checked.{Checked}
 use Rattle.meaning.specs.declared.refusals.Checked.the-variants.{Good, Refused}
 use Rattle.meaning.specs.declared.answers.Chosen.the-variants as chosen
 use Rattle.laws.specs.TestOrder.{first-alone}

@@ -4,14 +4,14 @@ use Prim.Native.Nat.{ℕ, zero, suc}
 use native.Mathlib.Omega.{arith}
 use mathlib.Core.Path.{_≡_, refl, sym, ap, _∙_}
 use mathlib.Core.Bool.{true}
-use mathlib.Core.List.{List, [], _∷_, _++_, map}
+use mathlib.Core.List.{List, [], _∷_, map}
 use lib.ListN.{length, take, drop, length-append}
 use lib.Seq.{take-length, take-append-seam}
 use Rattle.unicode.specs.Encoding.{size}
 use Rattle.unicode.specs.Places.{boundary}
 use Rattle.unicode.specs.Boundaries.{boundary-is}
 use Rattle.meaning.specs.LineIter.{Held, nothingHeld}
-use Rattle.meaning.specs.Line.{layLine, entryAt}
+use Rattle.meaning.specs.Line.{entryAt}
 use Rattle.meaning.specs.Layout.{Row, rowAt, mostLines, rows, entryOfRow, layout}
 use Rattle.meaning.specs.Pages.{endBefore, takenBytes}
 use Rattle.meaning.specs.declared.settings.Settings.{Settings}

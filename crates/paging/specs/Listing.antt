@@ -3,8 +3,8 @@
 -- Assumes nothing.
 use Prim.Native.Nat.{ℕ, _+_, _*_, _≤_}
 use native.Mathlib.Omega.{arith}
-use mathlib.Core.Path.{_≡_, refl, sym, ap, _∙_}
-use mathlib.Core.List.{List, [], _∷_}
+use mathlib.Core.Path.{_≡_, sym, ap, _∙_}
+use mathlib.Core.List.{List}
 use lib.ListN.{length}
 use Rattle.unicode.specs.Decoding.{decodeAll}
 use Rattle.meaning.specs.Checks.{firstOf, checkLimit, checkRoom}
@@ -24,7 +24,7 @@ use Rattle.laws.specs.GoodChecks.{has-room}
 use Rattle.laws.specs.TableLaws.{entries-written}
 use Rattle.laws.specs.TestOrder.{first-alone}
 use Rattle.checks.specs.LimitLaws.{limit-some}
-use Rattle.rows.specs.RowsFrom.{TextReady, entriesOf, entries-are, few-entries}
+use Rattle.rows.specs.RowsFrom.{entriesOf, entries-are, few-entries}
 use Rattle.layout.specs.Checking.{long-enough, good-ready}
 use Rattle.paging.specs.AllGood.{head-good, rest-good}
 use Rattle.paging.specs.SomeLines.{layout-there}

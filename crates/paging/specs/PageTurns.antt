@@ -1,13 +1,13 @@
 -- One turn of the loop that writes pages: what is written when those that are left are written stays the same (rule 10).
 -- Assumes nothing.
-use Prim.Native.Nat.{ℕ, suc, _+_, _*_, _≤_, _<_}
+use Prim.Native.Nat.{ℕ, _+_, _*_, _≤_, _<_}
 use mathlib.Core.Path.{_≡_, refl, sym, ap, _∙_}
 use mathlib.Core.List.{List, [], _∷_}
 use native.Mathlib.Nat.{suc-mul}
 use native.Mathlib.Numerals.{add-one}
 use native.Mathlib.Omega.{arith}
 use lib.ListN.{length, getD, drop, drop-of-length-le}
-use Rattle.meaning.specs.Table.{entryNumbers, entryIn, entriesIn, ofAll}
+use Rattle.meaning.specs.Table.{entryNumbers, entriesIn, ofAll}
 use Rattle.meaning.specs.WellFormed.{textLength}
 use Rattle.meaning.specs.Pages.{endBefore, pagesOf, pageNumbers, ofPage, writtenPast}
 use Rattle.meaning.specs.declared.counts.Offset.{Offset}

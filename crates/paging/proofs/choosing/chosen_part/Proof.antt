@@ -1,8 +1,7 @@
 -- `paging::choosing::chosen_part` meets its contract (rule 10).
 -- Assumes nothing.
 use native.Mathlib.Omega.{arith}
-use mathlib.Core.Path.{sym, ap, _∙_}
-use lib.ListN.{length, take}
+use mathlib.Core.Path.{sym, _∙_}
 use lib.Seq.{length-take-le}
 use Rattle.paging.specs.Choosing.{bytes-within, end-is, part-long, part-short}
 use borrow.Author.Needs.{needs}

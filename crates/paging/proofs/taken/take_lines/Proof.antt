@@ -41,7 +41,8 @@ returns-2 : tie.Need-returns-2 Inv-loop μ-loop
 returns-2 c =
     let i = c .before in
     let r = i .before .before in
-    take-part _ _ _ _ (r .before .loop .inv .0) _ (r .lay-row .ensures) _ (i .before .if1 .left) (i .if2 .taken)
+    let l = r .before in
+    take-part _ _ (l .loop .n) _ (l .loop .inv .0) _ (r .lay-row .ensures) (l .before .before .before .args .h) (i .before .if1 .left) (omega arith)
 
 next-stand-requires : tie.Need-next-stand-requires Inv-loop μ-loop
 next-stand-requires c κs = let r = c .before .before in next-ready _ _ _ (r .before .loop .inv .0 .ready) _ (r .lay-row .ensures)

@@ -1,6 +1,5 @@
 -- `paging::writing::page_at` meets its contract (rule 10).
 -- Assumes nothing.
-use native.Mathlib.Omega.{arith}
 use Prim.Native.Nat.{_*_}
 use lib.ListN.{getD}
 use Rattle.meaning.specs.Table.{entryNumbers}

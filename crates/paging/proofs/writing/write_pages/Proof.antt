@@ -1,16 +1,14 @@
 -- `paging::writing::write_pages` meets its contract. The invariant: what is written when the pages that are left are written stays the
 -- same (rule 10).
 -- Assumes nothing.
-use Prim.Native.Nat.{ℕ, _+_, _-_, _*_, _≤_}
+use Prim.Native.Nat.{ℕ, _-_, _*_}
 use native.Mathlib.Omega.{arith}
-use mathlib.Core.Path.{_≡_, refl, sym, ap, _∙_}
-use lib.ListN.{length}
-use mathlib.Core.List.{List}
+use mathlib.Core.Path.{ap, _∙_}
 use Rattle.meaning.specs.Pages.{pageNumbers, ofPage}
 use Rattle.meaning.specs.declared.page.Page.{Page}
 use Rattle.table.specs.Numbers.{putNumbers}
 use Rattle.paging.specs.PageCounts.{begins-within}
-use Rattle.paging.specs.PageTurns.{pageHere, Listable, Listed, all-kept, list-start, list-end, page-room, page-low, list-next}
+use Rattle.paging.specs.PageTurns.{pageHere, Listed, all-kept, list-start, list-end, page-room, page-low, list-next}
 use borrow.Author.Needs.{needs}
 use Rattle.paging.proofs.writing.write_pages.Statement.{statement}
 use Rattle.paging.proofs.writing.write_pages.Tie as tie
