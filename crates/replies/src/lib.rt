@@ -1,4 +1,6 @@
 // Each answer as C gets it: 0 or the refusal's number, and the value that goes with it.
+pub mod paged;
+
 use checks::refusals::number;
 use checks::refusals::value;
 use meaning::answers::Affected;
