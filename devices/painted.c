@@ -18,7 +18,7 @@ enum { PAINTED_WORDS = 4096, PAINT = 0x5AFE5AFE, CHARACTERS = 100, TEXT_ROOM = 8
 #define CALLS(DO) \
     DO(check_settings) DO(check_text) DO(tokens) DO(layout) DO(layout_events) DO(open) DO(one_line) \
     DO(first_affected) DO(lay_again) DO(height) DO(line_y) DO(index) DO(index_again) DO(find_line) \
-    DO(write_file) DO(read_file)
+    DO(write_file) DO(read_file) DO(choose) DO(pages) DO(pages_again)
 #define NUMBER(call) AT_##call,
 #define NAME(call) "bisquemop_" #call,
 enum { CALLS(NUMBER) CALL_COUNT };
@@ -62,10 +62,12 @@ __attribute__((always_inline)) static inline unsigned used(volatile uint32_t *to
 static uint8_t text[TEXT_ROOM], edited[TEXT_ROOM], inserted[TEXT_ROOM];
 static uint32_t table[BISQUEMOP_LINE_NUMBERS * (TEXT_ROOM + 1)], numbers[BISQUEMOP_EVENT_NUMBERS * TEXT_ROOM];
 static int32_t ys[TEXT_ROOM + 1];
+static uint32_t pages[BISQUEMOP_PAGE_NUMBERS * (TEXT_ROOM + 1)];
 static uint8_t file[65 + (3 + 4 * BISQUEMOP_LINE_NUMBERS) * (TEXT_ROOM + 1)];
 #define TABLE table, sizeof table / sizeof table[0]
 #define NUMBERS numbers, sizeof numbers / sizeof numbers[0]
 #define INDEX ys, sizeof ys / sizeof ys[0]
+#define PAGES pages, sizeof pages / sizeof pages[0]
 
 /* With too little room a call counts what there is. */
 static void measure_small(const struct bisquemop_settings *s, size_t len)
@@ -125,6 +127,22 @@ static void measure_file(const struct bisquemop_settings *s, uint64_t lines)
     MEASURE(read_file, bisquemop_read_file(file, bytes, settings, BISQUEMOP_SETTINGS_NUMBERS, TABLE, &value, &len));
 }
 
+/* As many lines as the text has, fewer and more: it is chosen, and else all or a part of its second half. The list of
+   pages has room, and has not. */
+static void measure_pages(const struct bisquemop_settings *s, size_t len, uint64_t lines)
+{
+    size_t half = len / 2;
+    uint32_t h = 1 + below((uint32_t)lines + 1), which;
+    uint64_t value, count;
+    while (half < len && (text[half] & 0xC0) == 0x80) {
+        half++;
+    }
+    MEASURE(choose, bisquemop_settings_choose(s, text, len, text + half, len - half, h, &value, &which, &count));
+    MEASURE(pages, bisquemop_settings_pages(s, text, len, h, TABLE, pages, 0, &value, &count));
+    MEASURE(pages, bisquemop_settings_pages(s, text, len, h, TABLE, PAGES, &value, &count));
+    MEASURE(pages_again, bisquemop_pages_again(TABLE, lines, h, below((uint32_t)lines), PAGES, &value));
+}
+
 static void measure_edit(const struct bisquemop_settings *s, size_t len, uint64_t lines)
 {
     struct edit e = random_edit(text, len, TEXT_ROOM, inserted);
@@ -153,6 +171,7 @@ int main(int argc, char **argv)
         measure_lines(&s, len, lines);
         measure_index(&s, lines);
         measure_file(&s, lines);
+        measure_pages(&s, len, lines);
         measure_edit(&s, len, lines);
     }
     for (int call = 0; call < CALL_COUNT; call++) {

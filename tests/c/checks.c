@@ -71,6 +71,10 @@ int main(int count, char **words)
     test_one_line();
     printf("bad starts and rests\n");
     test_bad_starts();
+    printf("a long text or a short one\n");
+    test_choosing();
+    printf("pages\n");
+    test_pages();
     printf("justified texts\n");
     test_even();
     printf("layout files\n");

@@ -501,6 +501,120 @@ void expect_found(const char *what, const uint32_t *table, size_t table_len, uin
     compare_lent(what, table_len, table, table_len);
 }
 
+/* Which text was chosen, between numbers that must stay as they were. */
+struct lent_which {
+    uint32_t before, which, after;
+};
+static const struct lent_which unwritten_which = {31, UINT32_C(0xAAAAAAAA), 32};
+
+static void compare_which(const char *what, const struct lent_which *got, uint32_t which)
+{
+    if (got->which == which && got->before == unwritten_which.before && got->after == unwritten_which.after) {
+        passed++;
+        return;
+    }
+    failed++;
+    printf("FAILED %s: expected text %" PRIu32 "%s, got %" PRIu32 ", or what stands beside it was written\n", what, which,
+           which == unwritten_which.which ? " as before" : "", got->which);
+}
+
+/* What choosing must return and write. Where it is refused, the last two are what they were before. */
+struct choice_answer {
+    uint32_t number;
+    uint64_t value;
+    uint32_t which;
+    uint64_t left_out;
+};
+
+static uint32_t call_choose(struct bisquemop_settings s, const struct two_texts *t, uint32_t h, int spread,
+                            uint64_t *value, uint32_t *which, uint64_t *left_out)
+{
+    return spread ? bisquemop_settings_choose(&s, t->long_text, t->long_len, t->short_text, t->short_len, h, value,
+                                              which, left_out)
+                  : bisquemop_choose(s.glyph, s.width, s.tab, s.spacing, s.paragraph, s.base, s.height, s.top,
+                                     s.alignment, s.vertical, s.leading, s.trailing, s.wrap, t->long_text, t->long_len,
+                                     t->short_text, t->short_len, h, value, which, left_out);
+}
+
+static void compare_choice(const char *what, struct bisquemop_settings s, const struct two_texts *given, uint32_t h,
+                           const struct choice_answer *expected)
+{
+    for (int spread = 0; spread < 2; spread++) {
+        struct answer a = no_answer(), left_out = no_answer();
+        struct lent_which which = unwritten_which;
+        a.number = call_choose(s, given, h, spread, &a.value, &which.which, &left_out.value);
+        left_out.number = a.number;
+        if (!compare(what, &a, expected->number, expected->value)) {
+            printf(", for %" PRIu32 " lines%s", h, spread ? ", from a struct" : "");
+            show_text(given->short_text, given->short_len);
+        }
+        compare_which(what, &which, expected->which);
+        if (!compare(what, &left_out, expected->number, expected->left_out)) {
+            printf(", the characters left out");
+            show_text(given->short_text, given->short_len);
+        }
+    }
+}
+
+void expect_choice(const char *what, struct bisquemop_settings s, const struct two_texts *given, uint32_t h,
+                   uint64_t part, uint32_t which, uint64_t left_out)
+{
+    struct choice_answer expected = {BISQUEMOP_OK, part, which, left_out};
+    compare_choice(what, s, given, h, &expected);
+}
+
+void expect_no_choice(const char *what, struct bisquemop_settings s, const struct two_texts *given, uint32_t h,
+                      uint32_t number, uint64_t value)
+{
+    struct choice_answer expected = {number, value, unwritten_which.which, UNWRITTEN};
+    compare_choice(what, s, given, h, &expected);
+}
+
+void expect_pages(const char *what, struct bisquemop_settings s, const uint8_t *text, size_t len, uint32_t h,
+                  size_t table_room, size_t pages_room, uint32_t number, uint64_t value, const uint32_t *lines,
+                  uint64_t page_count, const uint32_t *pages)
+{
+    int done = number == BISQUEMOP_OK;
+    for (int spread = 0; spread < 2; spread++) {
+        struct answer a = no_answer(), counted = no_answer();
+        uint32_t *table = lend(table_room), *list = lend_in(lent_for_events, pages_room);
+        a.number = spread ? bisquemop_settings_pages(&s, text, len, h, table, table_room, list, pages_room, &a.value,
+                                                     &counted.value)
+                          : bisquemop_pages(s.glyph, s.width, s.tab, s.spacing, s.paragraph, s.base, s.height, s.top,
+                                            s.alignment, s.vertical, s.leading, s.trailing, s.wrap, text, len, h, table,
+                                            table_room, list, pages_room, &a.value, &counted.value);
+        counted.number = a.number;
+        if (!compare(what, &a, number, value)) {
+            printf(", by %" PRIu32 " lines%s", h, spread ? ", from a struct" : "");
+            show_text(text, len);
+        }
+        if (!compare(what, &counted, number, done ? page_count : UNWRITTEN)) {
+            printf(", the count of pages, by %" PRIu32 " lines", h);
+            show_text(text, len);
+        }
+        compare_lent(what, table_room, lines, done ? BISQUEMOP_LINE_NUMBERS * (size_t)value : 0);
+        compare_in(lent_for_events, what, pages_room, pages, done ? BISQUEMOP_PAGE_NUMBERS * (size_t)page_count : 0);
+    }
+}
+
+void expect_pages_again(const char *what, const uint32_t *table, size_t table_len, uint64_t lines, uint32_t h,
+                        uint64_t first, const uint32_t *pages, size_t room, uint32_t number, uint64_t value,
+                        const uint32_t *after)
+{
+    struct answer a = no_answer();
+    const uint32_t *copy = lend_table(table, table_len);
+    uint32_t *list = lend_in(lent_for_events, room);
+    if (list != NULL) {
+        memcpy(list, pages, room * sizeof *pages);
+    }
+    a.number = bisquemop_pages_again(copy, table_len, lines, h, first, list, room, &a.value);
+    if (!compare(what, &a, number, value)) {
+        printf(", for %" PRIu64 " lines by %" PRIu32 ", from line %" PRIu64 " on\n", lines, h, first);
+    }
+    compare_in(lent_for_events, what, room, number == BISQUEMOP_OK ? after : pages, room);
+    compare_lent(what, table_len, table, table_len);
+}
+
 /* A copy of the part that is lent, between letters that would make a word longer. */
 #define PART_ROOM (2 * BISQUEMOP_TEXT_MAX)
 

@@ -75,6 +75,35 @@ void expect_index_again(const char *what, struct bisquemop_settings s, const uin
 void expect_found(const char *what, const uint32_t *table, size_t table_len, uint64_t lines, const int32_t *index,
                   size_t index_len, int32_t y, uint32_t number, uint64_t value);
 
+/*
+ * Chooses between two texts for `h` lines. Where the call is done, which one, the part's bytes and the characters left
+ * out must be those; else which one and the characters must stay as they were.
+ */
+struct two_texts {
+    const uint8_t *long_text;
+    size_t long_len;
+    const uint8_t *short_text;
+    size_t short_len;
+};
+void expect_choice(const char *what, struct bisquemop_settings s, const struct two_texts *given, uint32_t h,
+                   uint64_t part, uint32_t which, uint64_t left_out);
+void expect_no_choice(const char *what, struct bisquemop_settings s, const struct two_texts *given, uint32_t h,
+                      uint32_t number, uint64_t value);
+
+/*
+ * The same as a layout with pages of `h` lines and a list of `pages_room` numbers lent. Where the call is done, the two
+ * buffers hold `value` lines and `page_count` pages, and the count of pages is written; else it stays as it was.
+ */
+void expect_pages(const char *what, struct bisquemop_settings s, const uint8_t *text, size_t len, uint32_t h,
+                  size_t table_room, size_t pages_room, uint32_t number, uint64_t value, const uint32_t *lines,
+                  uint64_t page_count, const uint32_t *pages);
+
+/* The pages of a table to read, in a list that holds the `room` numbers at `pages`. Where the call is done, it must hold
+   those at `after`. */
+void expect_pages_again(const char *what, const uint32_t *table, size_t table_len, uint64_t lines, uint32_t h,
+                        uint64_t first, const uint32_t *pages, size_t room, uint32_t number, uint64_t value,
+                        const uint32_t *after);
+
 /* An edit: the old bytes from a up to b are replaced by so many others. */
 struct edit {
     uint32_t a, b, inserted;
@@ -144,6 +173,8 @@ void test_wraps(void);
 void test_inside(void);
 void test_characters(void);
 void test_one_line(void);
+void test_choosing(void);
+void test_pages(void);
 void test_bad_starts(void);
 void test_even(void);
 void test_files(void);

@@ -1,7 +1,7 @@
 /*
  * bisquemop_lay_again: every refusal of settings, parts and edits, and which comes first. Bad tables are in tables.c,
- * and tables that are too small in again.c. Each setting is tried in bisquemop_open and bisquemop_one_line, too; their
- * other refusals are in bad_starts.c.
+ * and tables that are too small in again.c. Each setting is tried in bisquemop_open, bisquemop_one_line, bisquemop_choose
+ * and bisquemop_pages, too; their other refusals are in bad_starts.c, choosing.c and pages.c.
  * Refusal 1, refusal 2, refusal 3, refusal 4, refusal 5, refusal 6.
  */
 #include "harness.h"
@@ -144,16 +144,19 @@ static void test_extremes(void)
     }
 }
 
-/* Settings by which nothing is laid again, and no line laid. */
+/* Settings by which nothing is laid again, no line laid, no text chosen and no page listed. */
 static void expect_settings_refused(const char *what, struct bisquemop_settings s, uint32_t number, uint64_t value)
 {
     static const uint8_t part[] = "  de";
     const struct relay given = {part, 4, table, 3 * NUMBERS, 2, {7, 7, 1}};
     const struct stand good = {2, 0, 0}, bad = {5, 0, 0};
+    const struct two_texts texts = {part, 4, part, 3};
     expect_refused(what, s, &given, number, value);
     expect_open(what, s, part, 4, number, value);
     expect_no_line(what, s, part, 4, good, NUMBERS, number, value);
     expect_no_line(what, s, part, 4, bad, 0, number, value);
+    expect_no_choice(what, s, &texts, 1, number, value);
+    expect_pages(what, s, part, 4, 1, 5 * NUMBERS, 5 * BISQUEMOP_PAGE_NUMBERS, number, value, NULL, 0, NULL);
 }
 
 /* Each setting is tested. */

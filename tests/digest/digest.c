@@ -30,6 +30,8 @@ static uint64_t lines;
 static uint32_t entry[BISQUEMOP_LINE_NUMBERS + 2];
 static int32_t ys[LONG + 2]; /* one more than a text has lines */
 static uint8_t file[FILE_BYTES];
+static uint8_t short_text[SHORT];
+static uint32_t pages[BISQUEMOP_PAGE_NUMBERS * (LONG + 1)];
 
 /* One time in so many. */
 static int seldom(uint32_t times)
@@ -202,6 +204,49 @@ static void ask_file(void)
     add_numbers(events, BISQUEMOP_LINE_NUMBERS * lines < EVENTS ? BISQUEMOP_LINE_NUMBERS * lines : EVENTS);
 }
 
+/* A limit of a few lines, at times of none or of very many. */
+static uint32_t random_limit(void)
+{
+    return seldom(12) ? (seldom(2) ? 0 : random_number()) : 1 + below(6);
+}
+
+/* The text, or else what has room of a short one, which is spoiled at times. */
+static void ask_choice(void)
+{
+    uint64_t value = 0, left_out = 0, short_len = random_text(short_text, below(SHORT / 4));
+    uint32_t which = 2;
+    if (short_len > 0 && seldom(12)) {
+        uint32_t where = below((uint32_t)short_len);
+        short_text[where] = (uint8_t)below(256);
+    }
+    uint32_t number = bisquemop_settings_choose(&settings, text, len, short_text, short_len, random_limit(), &value,
+                                                &which, &left_out);
+    add_answer(number, value);
+    add_number(which);
+    add_long(left_out);
+}
+
+/* The table that is laid with the pages stands in the event buffer. */
+static void ask_pages(void)
+{
+    uint64_t value = 0, count = 0, need = BISQUEMOP_LINE_NUMBERS * (len + 1), most = need < EVENTS ? need : EVENTS;
+    uint64_t table_room = random_room(most), pages_room = random_room(BISQUEMOP_PAGE_NUMBERS * (len + 1));
+    uint32_t number = bisquemop_settings_pages(&settings, text, len, random_limit(), events, table_room, pages, pages_room,
+                                               &value, &count);
+    add_answer(number, value);
+    add_long(count);
+    add_numbers(events, table_room);
+    add_numbers(pages, pages_room);
+}
+
+static void ask_pages_again(uint64_t first)
+{
+    uint64_t value = 0, room = random_room(BISQUEMOP_PAGE_NUMBERS * (LONG + 1));
+    uint32_t number = bisquemop_pages_again(table, TABLE, lines, random_limit(), first, pages, room, &value);
+    add_answer(number, value);
+    add_numbers(pages, BISQUEMOP_PAGE_NUMBERS * (lines < LONG ? lines + 1 : LONG + 1));
+}
+
 /* ---- an edit */
 
 static struct edit make_edit(void)
@@ -238,6 +283,7 @@ static void ask_again(void)
     add_numbers(table, BISQUEMOP_LINE_NUMBERS * ((new_len > len ? new_len : len) + 1));
     lines = number == BISQUEMOP_OK ? value : lines;
     ask_index(first);
+    ask_pages_again(seldom(12) ? lines : first);
 }
 
 /* ---- the cases */
@@ -277,6 +323,8 @@ static void one_case(void)
     ask_checks();
     ask_tokens();
     ask_layout();
+    ask_choice();
+    ask_pages();
     ask_events();
     ask_lines();
     if (seldom(8)) {

@@ -20,6 +20,10 @@ struct lent {
     uint64_t lines, value, count;
     uint32_t rest_end, rest_count;
     int32_t y, *index;
+    const uint8_t *short_text;
+    uint64_t short_len;
+    uint32_t which, *pages;
+    uint64_t pages_len;
 };
 
 uint32_t checks(struct lent *l);
@@ -29,6 +33,8 @@ uint32_t again(struct lent *l, uint32_t a, uint32_t b, uint32_t inserted);
 uint32_t heights(struct lent *l);
 uint32_t index_of(struct lent *l);
 uint32_t files(struct lent *l);
+uint32_t choice(struct lent *l, uint32_t h);
+uint32_t pages_of(struct lent *l, uint32_t h);
 uint32_t by_numbers(struct lent *l);
 
 uint32_t checks(struct lent *l)
@@ -118,6 +124,31 @@ uint32_t files(struct lent *l)
     return refused;
 }
 
+uint32_t choice(struct lent *l, uint32_t h)
+{
+    uint32_t refused = bisquemop_settings_choose(&l->settings, l->text, l->len, l->short_text, l->short_len, h, &l->value,
+                                                 &l->which, &l->count);
+    if (refused == BISQUEMOP_OK && l->which == BISQUEMOP_SHORT_TEXT) {
+        l->text = l->short_text;
+    }
+    l->len = refused == BISQUEMOP_OK ? l->value : l->len;
+    return refused;
+}
+
+/* The pages, and where the last one starts. */
+uint32_t pages_of(struct lent *l, uint32_t h)
+{
+    uint32_t refused = bisquemop_settings_pages(&l->settings, l->text, l->len, h, l->table, l->table_len, l->pages,
+                                                l->pages_len, &l->lines, &l->count);
+    if (refused == BISQUEMOP_OK) {
+        refused = bisquemop_pages_again(l->table, l->table_len, l->lines, h, 0, l->pages, l->pages_len, &l->count);
+    }
+    if (refused == BISQUEMOP_OK) {
+        l->value = l->pages[BISQUEMOP_PAGE_NUMBERS * (l->count - 1) + BISQUEMOP_PAGE_START];
+    }
+    return refused;
+}
+
 /* The same calls, without the struct. */
 #define SETTINGS 6, 30, 24, 10, 0, 8, 48, -2, BISQUEMOP_ALIGN_LEFT, BISQUEMOP_VERTICAL_TOP, 1, 0, BISQUEMOP_WRAP_WAIT
 
@@ -137,5 +168,9 @@ uint32_t by_numbers(struct lent *l)
     refused |= bisquemop_index(SETTINGS, l->table, l->table_len, l->lines, l->index, l->lines, &l->value);
     refused |= bisquemop_index_again(SETTINGS, l->table, l->table_len, l->lines, 0, l->index, l->lines, &l->value);
     refused |= bisquemop_write_file(SETTINGS, l->table, l->table_len, l->lines, l->file, l->file_len, &l->value);
+    refused |= bisquemop_choose(SETTINGS, l->text, l->len, l->short_text, l->short_len, 3, &l->value, &l->which,
+                                &l->count);
+    refused |= bisquemop_pages(SETTINGS, l->text, l->len, 3, l->table, l->table_len, l->pages, l->pages_len, &l->value,
+                               &l->count);
     return refused;
 }
