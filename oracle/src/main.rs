@@ -17,6 +17,7 @@ mod edits;
 mod examples;
 #[cfg(library)]
 mod files;
+#[cfg(library)]
 mod frames;
 mod glue;
 mod inside;
@@ -100,6 +101,7 @@ fn main() {
         ["edits", count, seed] => count.parse().ok().zip(seed.parse().ok()).map(|(count, seed)| edits::run(count, seed)),
         #[cfg(library)]
         ["frames", count, seed] => count.parse().ok().zip(seed.parse().ok()).map(|(count, seed)| frames::run(count, seed)),
+        #[cfg(library)]
         ["files", count, seed] => count.parse().ok().zip(seed.parse().ok()).map(|(count, seed)| files::run(count, seed)),
         #[cfg(library)]
         ["bench", work, name, bytes, glyphs, alignment, times] => bench::run(
