@@ -91,6 +91,9 @@ pub struct Stand {
 /// How many numbers a line has in a table.
 pub const LINE_NUMBERS: usize = 11;
 
+/// How many numbers a page has in a list.
+pub const PAGE_NUMBERS: usize = 3;
+
 /// The kinds of event.
 pub const SPACE: u32 = 0;
 pub const PRINTED: u32 = 1;

@@ -54,6 +54,14 @@ pub struct Place {
     pub shows: bool,
 }
 
+/// Which text was chosen, the short one or the long one; how many bytes of it; and how many characters come after these.
+#[derive(Clone, Copy, Debug, PartialEq, Eq)]
+pub struct Chosen {
+    pub short: bool,
+    pub bytes: u64,
+    pub left_out: u64,
+}
+
 /// The calls as the header declares them. The thirteen settings come first, where a call has them.
 mod c {
     macro_rules! with_settings {
@@ -96,6 +104,14 @@ mod c {
         bisquemop_write_file(
             table: *const u32, table_len: u64, lines: u64, file: *mut u8, file_len: u64, value: *mut u64
         );
+        bisquemop_choose(
+            long_text: *const u8, long_len: u64, short_text: *const u8, short_len: u64, h: u32, value: *mut u64,
+            which: *mut u32, left_out: *mut u64
+        );
+        bisquemop_pages(
+            text: *const u8, len: u64, h: u32, table: *mut u32, table_len: u64, pages: *mut u32, pages_len: u64,
+            value: *mut u64, page_count: *mut u64
+        );
     }
 
     extern "C" {
@@ -118,6 +134,16 @@ mod c {
             a: u32,
             b: u32,
             inserted: u32,
+            value: *mut u64,
+        ) -> u32;
+        pub fn bisquemop_pages_again(
+            table: *const u32,
+            table_len: u64,
+            lines: u64,
+            h: u32,
+            first: u64,
+            pages: *mut u32,
+            pages_len: u64,
             value: *mut u64,
         ) -> u32;
         pub fn bisquemop_find_line(
@@ -349,21 +375,65 @@ pub fn find_line(table: &[u32], lines: u64, index: &[i32], y: i32) -> Result<Opt
     answer(number, value).map(|line| (line != u64::MAX).then_some(line))
 }
 
+/// Which of two texts so many lines have room for, and how much of it.
+pub fn choose(settings: &Settings, long: &[u8], short: &[u8], h: u32) -> Result<Chosen, Refusal> {
+    let (mut value, mut which, mut left_out) = (0, u32::MAX, UNWRITTEN);
+    // SAFETY: pointers and lengths are those of two slices that are lent for reading.
+    let number = unsafe {
+        call!(
+            bisquemop_choose,
+            settings,
+            long.as_ptr(),
+            len_of(long),
+            short.as_ptr(),
+            len_of(short),
+            h,
+            &mut value,
+            &mut which,
+            &mut left_out
+        )
+    };
+    assert!(if number == 0 { which < 2 } else { which == u32::MAX }, "the library answered {which} for a text");
+    with(number, value, left_out, UNWRITTEN).map(|(bytes, left_out)| Chosen { short: which == 1, bytes, left_out })
+}
+
+/// How many lines were written, eleven numbers each, and how many pages of so many lines, three numbers each.
+pub fn pages(settings: &Settings, text: &[u8], h: u32, table: &mut [u32], pages: &mut [u32]) -> Result<(u64, u64), Refusal> {
+    let (mut value, mut count) = (0, UNWRITTEN);
+    // SAFETY: pointers and lengths are those of three slices, one lent for reading and two for writing, which cannot overlap.
+    let number = unsafe {
+        call!(
+            bisquemop_pages,
+            settings,
+            text.as_ptr(),
+            len_of(text),
+            h,
+            table.as_mut_ptr(),
+            len_of(table),
+            pages.as_mut_ptr(),
+            len_of(pages),
+            &mut value,
+            &mut count
+        )
+    };
+    with(number, value, count, UNWRITTEN)
+}
+
+/// How many pages there are after an edit, of which this is the first affected line.
+pub fn pages_again(table: &[u32], lines: u64, h: u32, first: u64, pages: &mut [u32]) -> Result<u64, Refusal> {
+    let mut value = 0;
+    let (list, room) = (pages.as_mut_ptr(), len_of(pages));
+    // SAFETY: pointers and lengths are those of two slices, one lent for reading and one for writing, which cannot overlap.
+    let number = unsafe { c::bisquemop_pages_again(table.as_ptr(), len_of(table), lines, h, first, list, room, &mut value) };
+    answer(number, value)
+}
+
 /// How many bytes of a layout file were written.
 pub fn write_file(settings: &Settings, table: &[u32], lines: u64, file: &mut [u8]) -> Result<u64, Refusal> {
     let mut value = 0;
     // SAFETY: pointers and lengths are those of two slices, one lent for reading and one for writing, which cannot overlap.
     let number = unsafe {
-        call!(
-            bisquemop_write_file,
-            settings,
-            table.as_ptr(),
-            len_of(table),
-            lines,
-            file.as_mut_ptr(),
-            len_of(file),
-            &mut value
-        )
+        call!(bisquemop_write_file, settings, table.as_ptr(), len_of(table), lines, file.as_mut_ptr(), len_of(file), &mut value)
     };
     answer(number, value)
 }

@@ -51,6 +51,8 @@ pub fn run(claims: &mut Claims, _specs: &str) {
     again(claims);
     places(claims);
     indexes(claims);
+    choices(claims);
+    lists(claims);
 }
 
 fn checks(claims: &mut Claims) {
@@ -250,4 +252,38 @@ fn indexes(claims: &mut Claims) {
     claims.equal("find_line of two that share a y", found(&[-5, 8, 8], 8), Ok(Some(2)));
     claims.equal("find_line in an index that is short", found(&[-5, 8], 8), Err(Refusal::BadIndex(2)));
     claims.equal("find_line in an index that falls", found(&[-5, 8, 7], 8), Err(Refusal::BadIndex(2)));
+}
+
+fn choices(claims: &mut Claims) {
+    let chosen = |long: &str, short: &str, h| bisquemop::choose(&EXAMPLE, long.as_bytes(), short.as_bytes(), h);
+    let of = |short, bytes, left_out| Ok(bisquemop::Chosen { short, bytes, left_out });
+    claims.equal("choose at exactly its lines", chosen("ab cde", "x", 2), of(false, 6, 0));
+    claims.equal("choose in a line too few", chosen("ab cde", "x", 1), of(true, 1, 0));
+    claims.equal("choose a part", chosen("ab cde", "é bcdé", 1), of(true, 3, 4));
+    claims.equal("choose in no line", chosen("", "", 0), Err(Refusal::SettingOutOfRange));
+    for (settings, text, refusal) in refused() {
+        claims.equal("choose of a long text", bisquemop::choose(&settings, &text, b"", 9), Err(refusal));
+        claims.equal("choose of a short text", bisquemop::choose(&settings, b"", &text, 9), Err(refusal));
+    }
+}
+
+fn lists(claims: &mut Claims) {
+    let listed = |h, room| {
+        let (mut table, mut pages) = (vec![UNTOUCHED; 3 * LINE_NUMBERS], vec![7; room]);
+        let answer = bisquemop::pages(&EXAMPLE, b"aa\nbb\ncc", h, &mut table, &mut pages);
+        (answer, pages)
+    };
+    claims.equal("pages", listed(2, 7), (Ok((3, 2)), vec![0, 0, 6, 2, 6, 8, 7]));
+    claims.equal("pages in too little room", listed(2, 5), (Err(Refusal::TooSmall(2)), vec![7; 5]));
+    claims.equal("pages of no line", listed(0, 6), (Err(Refusal::SettingOutOfRange), vec![7; 6]));
+    let (table, lines) = table_of(&EXAMPLE, "aa\nbb\ncc");
+    let again = |lines, h, first, room| {
+        let mut pages = vec![7; room];
+        (bisquemop::pages_again(&table, lines, h, first, &mut pages), pages)
+    };
+    claims.equal("pages_again", again(lines, 2, 2, 6), (Ok(2), vec![7, 7, 7, 2, 6, 8]));
+    claims.equal("pages_again past the last line", again(lines, 2, 3, 6), (Ok(2), vec![7; 6]));
+    claims.equal("pages_again in too little room", again(lines, 1, 0, 8), (Err(Refusal::TooSmall(3)), vec![7; 8]));
+    claims.equal("pages_again of no table", again(0, 1, 0, 9), (Err(Refusal::BadLine(0)), vec![7; 9]));
+    claims.equal("pages_again of no line", again(0, 0, 0, 9), (Err(Refusal::SettingOutOfRange), vec![7; 9]));
 }

@@ -141,6 +141,27 @@ fn hold_index(page: &Page, fresh: &Page, first: u64, vertical: u32, mut ys: Vec<
     Ok(())
 }
 
+/// Holds the pages that are listed again to those of the new text, by so many lines. No page before the first affected line's is
+/// written.
+fn hold_pages(page: &Page, fresh: &Page, old: &[Entry], first: usize, h: u32) -> Result<(), String> {
+    let list = |entries: &[Entry], text: &str| {
+        let starts: Vec<u32> = entries.iter().map(|entry| entry[START]).collect();
+        model::pages(&starts, text.len() as u32, h).concat()
+    };
+    let (mut pages, mut expected) = (list(old, &page.text), list(&fresh.entries(), &fresh.text));
+    let count = expected.len() / PAGE_NUMBERS;
+    pages.resize(expected.len().max(pages.len()), UNTOUCHED);
+    expected.extend_from_slice(&pages[expected.len()..]);
+    if first >= h as usize {
+        (pages[0], expected[0]) = (UNTOUCHED, UNTOUCHED);
+    }
+    let answer = bisquemop::pages_again(&page.table, fresh.lines, h, first as u64, &mut pages);
+    if answer != Ok(count as u64) || pages != expected {
+        return Err(format!("by {h} lines the pages are {answer:?} {pages:?}, and not {expected:?}"));
+    }
+    Ok(())
+}
+
 /// Holds one edit to the layout of the new text. Says what is wrong, if anything is.
 fn hold(page: &mut Page, change: Change, found: &mut Found) -> Result<(), String> {
     let Change { edit, new } = change;
@@ -187,6 +208,9 @@ fn hold(page: &mut Page, change: Change, found: &mut Found) -> Result<(), String
     }
     for (vertical, ys) in old_ys.into_iter().enumerate() {
         hold_index(page, &fresh, first as u64, vertical as u32, ys)?;
+    }
+    for h in [1, 2, 5] {
+        hold_pages(page, &fresh, &old, first, h)?;
     }
     found.edits += 1;
     found.lines += fresh.lines;

@@ -575,6 +575,24 @@ pub fn line_under(ys: &[i32], y: i32) -> Option<u64> {
     ys.iter().rposition(|&place| place <= y).map(|line| line as u64)
 }
 
+/// Pages of so many lines, each as its first line, its start and its end, from the lines' starts and the text's length.
+pub fn pages(starts: &[u32], text_len: u32, h: u32) -> Vec<[u32; PAGE_NUMBERS]> {
+    let firsts = starts.iter().enumerate().step_by(h as usize);
+    let mut pages: Vec<_> = firsts.map(|(line, &start)| [line as u32, start, text_len]).collect();
+    for next in 1..pages.len() {
+        pages[next - 1][2] = pages[next][1];
+    }
+    pages
+}
+
+/// What the first lines of a text take of it, so many of them.
+pub fn taken<'a>(starts: &[u32], text: &'a str, h: u32) -> &'a str {
+    match starts.get(h as usize) {
+        Some(&start) => &text[..start as usize],
+        None => text,
+    }
+}
+
 /// Rule 11: each line's y, for a text of a given height.
 pub fn places(settings: &Settings, height: u32, lines: &[Line]) -> Vec<i32> {
     let difference = settings.height as i32 - height as i32;
