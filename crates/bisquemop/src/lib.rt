@@ -21,6 +21,9 @@ use meaning::counts::Pixels;
 use meaning::edit::Edit;
 use meaning::line::Rest;
 use meaning::settings::Settings;
+use paging::choosing::choose;
+use paging::listed::lay_pages;
+use paging::listed::list_again;
 use replies::affected_number;
 use replies::affected_value;
 use replies::drawing_count;
@@ -40,6 +43,15 @@ use replies::layout_number;
 use replies::layout_value;
 use replies::open_number;
 use replies::open_value;
+use replies::paged::choosing_left;
+use replies::paged::choosing_number;
+use replies::paged::choosing_value;
+use replies::paged::choosing_which;
+use replies::paged::paging_again_number;
+use replies::paged::paging_again_value;
+use replies::paged::paging_count;
+use replies::paged::paging_number;
+use replies::paged::paging_value;
 use replies::put_y;
 use replies::reading_length;
 use replies::reading_number;
@@ -59,8 +71,9 @@ ghost use mathlib.Core.Path.{_≡_};
 ghost use Rattle.meaning.specs.Settings.{settingsOf};
 ghost use Rattle.meaning.specs.Refusals.{checkedNumber, checkedValue};
 ghost use Rattle.meaning.specs.Checks.{checkSettings, checkText};
-ghost use Rattle.meaning.specs.Answers.{tokensNumber, tokensValue, layoutNumber, layoutValue, drawingNumber, drawingValue, drawingCount, openNumber, openValue, frameNumber, frameValue, frameRestEnd, frameRestCount, affectedNumber, affectedValue, relayNumber, relayValue, relayCount, heightNumber, heightValue, yNumber, yValue, yPlace, indexNumber, indexValue, findNumber, findValue, writingNumber, writingValue, readingNumber, readingValue, readingLength};
+ghost use Rattle.meaning.specs.Answers.{tokensNumber, tokensValue, layoutNumber, layoutValue, drawingNumber, drawingValue, drawingCount, openNumber, openValue, frameNumber, frameValue, frameRestEnd, frameRestCount, affectedNumber, affectedValue, relayNumber, relayValue, relayCount, heightNumber, heightValue, yNumber, yValue, yPlace, indexNumber, indexValue, findNumber, findValue, writingNumber, writingValue, readingNumber, readingValue, readingLength, choosingNumber, choosingValue, choosingWhich, choosingLeft, pagingNumber, pagingValue, pagingCount, pagingAgainNumber, pagingAgainValue};
 ghost use Rattle.meaning.specs.Calls.{tokensAnswer, tokensBuffer, layoutAnswer, layoutTable, drawingAnswer, drawingTable, drawingEvents, openAnswer, frameAnswer, frameEntry, affectedAnswer, relayAnswer, relayTable, heightAnswer, yAnswer, indexAnswer, indexAfter, indexAgainAfter, findAnswer, writingAnswer, writingFile, readingAnswer, readingSettings, readingTable};
+ghost use Rattle.meaning.specs.PageCalls.{choosingAnswer, pagingAnswer, pagingTable, pagingList, pagingAgainAnswer, pagingAgainList};
 ghost use Rattle.bisquemop.specs.Edits.{editOf, restFrom};
 
 // The settings from the thirteen numbers that C passes.
@@ -679,4 +692,120 @@ pub extern "C" fn bisquemop_read_file(
     *value = reading_value(answer);
     *bytes = reading_length(answer, *bytes);
     reading_number(answer)
+}
+
+#[no_mangle]
+pub extern "C" fn bisquemop_choose<'a>(
+    glyph: u32,
+    width: u32,
+    tab: u32,
+    spacing: u32,
+    paragraph: u32,
+    base: u32,
+    height: u32,
+    top: i32,
+    alignment: u32,
+    vertical: u32,
+    leading: u32,
+    trailing: u32,
+    wrap: u32,
+    long: &'a [u8],
+    short: &'a [u8],
+    h: u32,
+    value: &mut u64,
+    which: &mut u32,
+    left: &mut u64,
+) -> u32
+    ensures { λ r. ⌜ r ≡ choosingNumber (choosingAnswer (settingsOf glyph width tab spacing paragraph base height top alignment vertical leading trailing wrap) h (now (long .entry)) (now (short .entry))) ⌝ }
+    ensures { λ r. ⌜ now (value .exit) ≡ choosingValue (choosingAnswer (settingsOf glyph width tab spacing paragraph base height top alignment vertical leading trailing wrap) h (now (long .entry)) (now (short .entry))) ⌝ }
+    ensures { λ r. ⌜ now (which .exit) ≡ choosingWhich (choosingAnswer (settingsOf glyph width tab spacing paragraph base height top alignment vertical leading trailing wrap) h (now (long .entry)) (now (short .entry))) (now (which .entry)) ⌝ }
+    ensures { λ r. ⌜ now (left .exit) ≡ choosingLeft (choosingAnswer (settingsOf glyph width tab spacing paragraph base height top alignment vertical leading trailing wrap) h (now (long .entry)) (now (short .entry))) (now (left .entry)) ⌝ }
+{
+    let s = settings_from(
+        glyph,
+        width,
+        tab,
+        spacing,
+        paragraph,
+        base,
+        height,
+        top,
+        alignment,
+        vertical,
+        leading,
+        trailing,
+        wrap,
+    );
+    let answer = choose(s, long, short, h);
+    *value = choosing_value(answer);
+    *which = choosing_which(answer, *which);
+    *left = choosing_left(answer, *left);
+    choosing_number(answer)
+}
+
+#[no_mangle]
+pub extern "C" fn bisquemop_pages(
+    glyph: u32,
+    width: u32,
+    tab: u32,
+    spacing: u32,
+    paragraph: u32,
+    base: u32,
+    height: u32,
+    top: i32,
+    alignment: u32,
+    vertical: u32,
+    leading: u32,
+    trailing: u32,
+    wrap: u32,
+    text: &[u8],
+    h: u32,
+    table: &mut [u32],
+    pages: &mut [u32],
+    value: &mut u64,
+    count: &mut u64,
+) -> u32
+    ensures { λ r. ⌜ r ≡ pagingNumber (pagingAnswer (settingsOf glyph width tab spacing paragraph base height top alignment vertical leading trailing wrap) h (now (text .entry)) (now (table .entry)) (now (pages .entry))) ⌝ }
+    ensures { λ r. ⌜ now (table .exit) ≡ pagingTable (settingsOf glyph width tab spacing paragraph base height top alignment vertical leading trailing wrap) h (now (text .entry)) (now (table .entry)) (now (pages .entry)) ⌝ }
+    ensures { λ r. ⌜ now (pages .exit) ≡ pagingList (settingsOf glyph width tab spacing paragraph base height top alignment vertical leading trailing wrap) h (now (text .entry)) (now (table .entry)) (now (pages .entry)) ⌝ }
+    ensures { λ r. ⌜ now (value .exit) ≡ pagingValue (pagingAnswer (settingsOf glyph width tab spacing paragraph base height top alignment vertical leading trailing wrap) h (now (text .entry)) (now (table .entry)) (now (pages .entry))) ⌝ }
+    ensures { λ r. ⌜ now (count .exit) ≡ pagingCount (pagingAnswer (settingsOf glyph width tab spacing paragraph base height top alignment vertical leading trailing wrap) h (now (text .entry)) (now (table .entry)) (now (pages .entry))) (now (count .entry)) ⌝ }
+{
+    let s = settings_from(
+        glyph,
+        width,
+        tab,
+        spacing,
+        paragraph,
+        base,
+        height,
+        top,
+        alignment,
+        vertical,
+        leading,
+        trailing,
+        wrap,
+    );
+    let answer = lay_pages(s, text, h, table, pages);
+    *value = paging_value(answer);
+    *count = paging_count(answer, *count);
+    paging_number(answer)
+}
+
+#[no_mangle]
+pub extern "C" fn bisquemop_pages_again(
+    table: &[u32],
+    lines: u64,
+    h: u32,
+    first: u64,
+    pages: &mut [u32],
+    value: &mut u64,
+) -> u32
+    ensures { λ r. ⌜ r ≡ pagingAgainNumber (pagingAgainAnswer (now (table .entry)) lines h (now (pages .entry))) ⌝ }
+    ensures { λ r. ⌜ now (pages .exit) ≡ pagingAgainList (now (table .entry)) lines h first (now (pages .entry)) ⌝ }
+    ensures { λ r. ⌜ now (value .exit) ≡ pagingAgainValue (pagingAgainAnswer (now (table .entry)) lines h (now (pages .entry))) ⌝ }
+{
+    let answer = list_again(table, lines as usize, h, first as usize, pages);
+    *value = paging_again_value(answer);
+    paging_again_number(answer)
 }
