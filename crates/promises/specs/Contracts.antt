@@ -17,11 +17,14 @@ use Rattle.meaning.specs.declared.answers.Relaid.{Relaid}
 use Rattle.meaning.specs.declared.answers.Indexed.{Indexed}
 use Rattle.meaning.specs.declared.answers.FoundLine.{FoundLine}
 use Rattle.promises.specs.Call.{Meets}
-use Rattle.promises.specs.InsideCalls.{tokenize, layout, layout-with-events, one-line, first-affected, lay-again, make-index, make-index-again, find-line, write-file, read-file}
-use Rattle.promises.specs.ForCCalls.{c-tokens, c-layout, c-layout-events, c-one-line, c-first-affected, c-lay-again, c-line-y, c-index, c-index-again, c-find-line, c-write-file, c-read-file}
+use Rattle.promises.specs.InsideCalls.{tokenize, layout, layout-with-events, one-line, first-affected, lay-again, make-index, make-index-again, find-line, write-file, read-file, choose, lay-pages, list-again}
+use Rattle.promises.specs.ForCCalls.{c-tokens, c-layout, c-layout-events, c-one-line, c-first-affected, c-lay-again, c-line-y, c-index, c-index-again, c-find-line, c-write-file, c-read-file, c-choose, c-pages, c-pages-again}
 use Rattle.promises.specs.Passed.{Lent, LentNumber, LentSigned, passed, passedEdit, noneLeft, noEditLeft, LentYs}
 use Rattle.meaning.specs.declared.answers.FileWritten.{FileWritten}
 use Rattle.meaning.specs.declared.answers.FileRead.{FileRead}
+use Rattle.meaning.specs.declared.answers.Chosen.{Chosen}
+use Rattle.meaning.specs.declared.answers.Paged.{Paged}
+use Rattle.meaning.specs.declared.answers.PagedAgain.{PagedAgain}
 
 -- ---- the calls in Rattle
 
@@ -61,6 +64,17 @@ WriteFile κs s table lines file z after = Meets write-file κs (s, (table, (lin
 abbrev pub ReadFile : (κs : Lfts 3) → (file settings table : Lent) → FileRead → (handed after : List ℕ) → Type 0
 ReadFile κs file settings table z handed after =
     Meets read-file κs (file, (settings, (table, tt))) z (tt, (handed, (after, tt)))
+
+abbrev pub Choose : (κs : Lfts 1) → Settings → (long short : Lent) → (h : ℕ) → Chosen → Type 0
+Choose κs s long short h z = Meets choose κs (s, (long, (short, (h, tt)))) z (tt, (tt, (tt, (tt, tt))))
+
+abbrev pub LayPages : (κs : Lfts 3) → Settings → (text : Lent) → (h : ℕ) → (table pages : Lent) → Paged → (after listed : List ℕ) → Type 0
+LayPages κs s text h table pages z after listed =
+    Meets lay-pages κs (s, (text, (h, (table, (pages, tt))))) z (tt, (tt, (tt, (after, (listed, tt)))))
+
+abbrev pub ListAgain : (κs : Lfts 2) → (table : Lent) → (lines h first : ℕ) → (pages : Lent) → PagedAgain → (listed : List ℕ) → Type 0
+ListAgain κs table lines h first pages z listed =
+    Meets list-again κs (table, (lines, (h, (first, (pages, tt))))) z (tt, (tt, (tt, (tt, (listed, tt)))))
 
 -- ---- the calls for C
 
@@ -121,3 +135,19 @@ abbrev pub CReadFile : (κs : Lfts 5) → (file settings table : Lent) (value by
     (value′ bytes′ : ℕ) → Type 0
 CReadFile κs file settings table value bytes z handed after value′ bytes′ =
     Meets c-read-file κs (file, (settings, (table, (value, (bytes, tt))))) z (tt, (handed, (after, (value′, (bytes′, tt)))))
+
+abbrev pub CChoose : (κs : Lfts 4) → Settings → (long short : Lent) → (h : ℕ) → (value which left : LentNumber) (z value′ which′ left′ : ℕ) → Type 0
+CChoose κs s long short h value which left z value′ which′ left′ =
+    Meets c-choose κs (passed s (long, (short, (h, (value, (which, (left, tt))))))) z
+    (noneLeft (tt, (tt, (tt, (value′, (which′, (left′, tt)))))))
+
+abbrev pub CPages : (κs : Lfts 5) → Settings → (text : Lent) → (h : ℕ) → (table pages : Lent) (value count : LentNumber) (z : ℕ)
+    (after listed : List ℕ) (value′ count′ : ℕ) → Type 0
+CPages κs s text h table pages value count z after listed value′ count′ =
+    Meets c-pages κs (passed s (text, (h, (table, (pages, (value, (count, tt))))))) z
+    (noneLeft (tt, (tt, (after, (listed, (value′, (count′, tt)))))))
+
+abbrev pub CPagesAgain : (κs : Lfts 3) → (table : Lent) → (lines h first : ℕ) → (pages : Lent) (value : LentNumber) (z : ℕ) (listed : List ℕ)
+    (value′ : ℕ) → Type 0
+CPagesAgain κs table lines h first pages value z listed value′ =
+    Meets c-pages-again κs (table, (lines, (h, (first, (pages, (value, tt)))))) z (tt, (tt, (tt, (tt, (listed, (value′, tt))))))

@@ -3,7 +3,7 @@
 -- Assumes nothing.
 use Rattle.promises.specs.Call.{AsksNothing, Agrees, agree}
 use Rattle.promises.specs.Passed.{noneLeft}
-use Rattle.promises.specs.ForCCalls.{c-check-settings, c-check-text, c-tokens, c-layout, c-layout-events, c-open, c-one-line, c-first-affected, c-lay-again, c-height, c-line-y, c-index, c-index-again, c-find-line, c-write-file, c-read-file}
+use Rattle.promises.specs.ForCCalls.{c-check-settings, c-check-text, c-tokens, c-layout, c-layout-events, c-open, c-one-line, c-first-affected, c-lay-again, c-height, c-line-y, c-index, c-index-again, c-find-line, c-write-file, c-read-file, c-choose, c-pages, c-pages-again}
 
 -- None of them has a `requires`.
 pub for-c-asks-nothing : AsksNothing c-check-settings
@@ -22,7 +22,13 @@ pub for-c-asks-nothing : AsksNothing c-check-settings
     × AsksNothing c-find-line
     × AsksNothing c-write-file
     × AsksNothing c-read-file
+    × AsksNothing c-choose
+    × AsksNothing c-pages
+    × AsksNothing c-pages-again
 for-c-asks-nothing = (
+  λ κs a. tt,
+  λ κs a. tt,
+  λ κs a. tt,
   λ κs a. tt,
   λ κs a. tt,
   λ κs a. tt,
@@ -130,4 +136,32 @@ pub c-read-file-agrees : Agrees c-read-file
 c-read-file-agrees κs a z z′ ws ws′ p q = (
   agree (p .0) (q .0),
   λ i. (tt, (agree (p .1 .0) (q .1 .0) i, (agree (p .1 .1 .0) (q .1 .1 .0) i, (agree (p .1 .1 .1 .0) (q .1 .1 .1 .0) i, (agree (p .1 .1 .1 .1) (q .1 .1 .1 .1) i, tt))))),
+)
+
+pub c-choose-agrees : Agrees c-choose
+c-choose-agrees κs a z z′ ws ws′ p q = (
+  agree (p .0) (q .0),
+  λ i. noneLeft (tt, (tt, (tt, (agree (p .1 .0) (q .1 .0) i, (agree (p .1 .1 .0) (q .1 .1 .0) i, (agree (p .1 .1 .1) (q .1 .1 .1) i, tt)))))),
+)
+
+pub c-pages-agrees : Agrees c-pages
+c-pages-agrees κs a z z′ ws ws′ p q = (
+  agree (p .0) (q .0),
+  λ i.
+      noneLeft (
+        tt,
+        (
+          tt,
+          (
+            agree (p .1 .0) (q .1 .0) i,
+            (agree (p .1 .1 .0) (q .1 .1 .0) i, (agree (p .1 .1 .1 .0) (q .1 .1 .1 .0) i, (agree (p .1 .1 .1 .1) (q .1 .1 .1 .1) i, tt))),
+          ),
+        ),
+      ),
+)
+
+pub c-pages-again-agrees : Agrees c-pages-again
+c-pages-again-agrees κs a z z′ ws ws′ p q = (
+  agree (p .0) (q .0),
+  λ i. (tt, (tt, (tt, (tt, (agree (p .1 .0) (q .1 .0) i, (agree (p .1 .1) (q .1 .1) i, tt)))))),
 )

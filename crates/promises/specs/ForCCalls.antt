@@ -33,6 +33,12 @@ use Rattle.bisquemop.proofs.bisquemop_write_file.Kinds as c-write-file-kinds
 use Rattle.bisquemop.proofs.bisquemop_write_file.Reads as c-write-file-reads
 use Rattle.bisquemop.proofs.bisquemop_read_file.Kinds as c-read-file-kinds
 use Rattle.bisquemop.proofs.bisquemop_read_file.Reads as c-read-file-reads
+use Rattle.bisquemop.proofs.bisquemop_choose.Kinds as c-choose-kinds
+use Rattle.bisquemop.proofs.bisquemop_choose.Reads as c-choose-reads
+use Rattle.bisquemop.proofs.bisquemop_pages.Kinds as c-pages-kinds
+use Rattle.bisquemop.proofs.bisquemop_pages.Reads as c-pages-reads
+use Rattle.bisquemop.proofs.bisquemop_pages_again.Kinds as c-pages-again-kinds
+use Rattle.bisquemop.proofs.bisquemop_pages_again.Reads as c-pages-again-reads
 
 -- bisquemop_check_settings
 abbrev pub c-check-settings : Call
@@ -97,3 +103,15 @@ c-write-file = callOf 3 c-write-file-kinds.ps c-write-file-kinds.r c-write-file-
 -- bisquemop_read_file
 abbrev pub c-read-file : Call
 c-read-file = callOf 5 c-read-file-kinds.ps c-read-file-kinds.r c-read-file-reads.Asked c-read-file-reads.Learnt
+
+-- bisquemop_choose
+abbrev pub c-choose : Call
+c-choose = callOf 4 c-choose-kinds.ps c-choose-kinds.r c-choose-reads.Asked c-choose-reads.Learnt
+
+-- bisquemop_pages
+abbrev pub c-pages : Call
+c-pages = callOf 5 c-pages-kinds.ps c-pages-kinds.r c-pages-reads.Asked c-pages-reads.Learnt
+
+-- bisquemop_pages_again
+abbrev pub c-pages-again : Call
+c-pages-again = callOf 3 c-pages-again-kinds.ps c-pages-again-kinds.r c-pages-again-reads.Asked c-pages-again-reads.Learnt

@@ -2,7 +2,7 @@
 -- Assumes nothing.
 use mathlib.Core.Path.{refl}
 use Rattle.promises.specs.Call.{AsksNothing, Agrees, agree}
-use Rattle.promises.specs.InsideCalls.{check-settings, check-text, tokenize, layout, layout-with-events, open-text, one-line, first-affected, lay-again, text-height, line-y, make-index, make-index-again, find-line, write-file, read-file}
+use Rattle.promises.specs.InsideCalls.{check-settings, check-text, tokenize, layout, layout-with-events, open-text, one-line, first-affected, lay-again, text-height, line-y, make-index, make-index-again, find-line, write-file, read-file, choose, lay-pages, list-again}
 
 -- None of them has a `requires`.
 pub inside-asks-nothing : AsksNothing check-settings
@@ -21,7 +21,13 @@ pub inside-asks-nothing : AsksNothing check-settings
     × AsksNothing find-line
     × AsksNothing write-file
     × AsksNothing read-file
+    × AsksNothing choose
+    × AsksNothing lay-pages
+    × AsksNothing list-again
 inside-asks-nothing = (
+  λ κs a. tt,
+  λ κs a. tt,
+  λ κs a. tt,
   λ κs a. tt,
   λ κs a. tt,
   λ κs a. tt,
@@ -93,3 +99,15 @@ read-file-agrees κs a z z′ ws ws′ p q = (
   agree (p .0) (q .0),
   λ i. (tt, (agree (p .1 .0) (q .1 .0) i, (agree (p .1 .1) (q .1 .1) i, tt))),
 )
+
+pub choose-agrees : Agrees choose
+choose-agrees κs a z z′ ws ws′ p q = (agree p q, refl)
+
+pub lay-pages-agrees : Agrees lay-pages
+lay-pages-agrees κs a z z′ ws ws′ p q = (
+  agree (p .0) (q .0),
+  λ i. (tt, (tt, (tt, (agree (p .1 .0) (q .1 .0) i, (agree (p .1 .1) (q .1 .1) i, tt))))),
+)
+
+pub list-again-agrees : Agrees list-again
+list-again-agrees κs a z z′ ws ws′ p q = (agree (p .0) (q .0), λ i. (tt, (tt, (tt, (tt, (agree (p .1) (q .1) i, tt))))))

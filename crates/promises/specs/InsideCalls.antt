@@ -33,6 +33,12 @@ use Rattle.files.proofs.writer.write_file.Kinds as write-file-kinds
 use Rattle.files.proofs.writer.write_file.Reads as write-file-reads
 use Rattle.files.proofs.reader.read_file.Kinds as read-file-kinds
 use Rattle.files.proofs.reader.read_file.Reads as read-file-reads
+use Rattle.paging.proofs.choosing.choose.Kinds as choose-kinds
+use Rattle.paging.proofs.choosing.choose.Reads as choose-reads
+use Rattle.paging.proofs.listed.lay_pages.Kinds as lay-pages-kinds
+use Rattle.paging.proofs.listed.lay_pages.Reads as lay-pages-reads
+use Rattle.paging.proofs.listed.list_again.Kinds as list-again-kinds
+use Rattle.paging.proofs.listed.list_again.Reads as list-again-reads
 
 -- checks::settings::check_settings
 abbrev pub check-settings : Call
@@ -97,3 +103,15 @@ write-file = callOf 2 write-file-kinds.ps write-file-kinds.r write-file-reads.As
 -- files::reader::read_file
 abbrev pub read-file : Call
 read-file = callOf 3 read-file-kinds.ps read-file-kinds.r read-file-reads.Asked read-file-reads.Learnt
+
+-- paging::choosing::choose
+abbrev pub choose : Call
+choose = callOf 1 choose-kinds.ps choose-kinds.r choose-reads.Asked choose-reads.Learnt
+
+-- paging::listed::lay_pages
+abbrev pub lay-pages : Call
+lay-pages = callOf 3 lay-pages-kinds.ps lay-pages-kinds.r lay-pages-reads.Asked lay-pages-reads.Learnt
+
+-- paging::listed::list_again
+abbrev pub list-again : Call
+list-again = callOf 2 list-again-kinds.ps list-again-kinds.r list-again-reads.Asked list-again-reads.Learnt

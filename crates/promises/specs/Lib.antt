@@ -18,3 +18,7 @@ pub mod CharsBefore
 pub mod SpacesTold
 pub mod WordsKept
 pub mod FileTrips
+pub mod PagesUnwritten
+pub mod PagesRefused
+pub mod PagesListed
+pub mod PagesAgain

@@ -39,7 +39,7 @@ use Rattle.meaning.specs.declared.answers.LineY.{LineY}
 use Rattle.meaning.specs.declared.answers.LineY.the-variants as liney
 
 -- What is not done is refused.
-kept : {X Y : Type 0} (c : Checked) (done : X) (f : Refusal → X) (new old : Y) → (answered c done f ≡ done → ⊥) → afterwards c new old ≡ old
+pub kept : {X Y : Type 0} (c : Checked) (done : X) (f : Refusal → X) (new old : Y) → (answered c done f ≡ done → ⊥) → afterwards c new old ≡ old
 kept Good done f new old d = absurd (d refl)
 kept (Refused r) done f new old d = refl
 
