@@ -18,25 +18,13 @@ use Rattle.meaning.specs.declared.settings.Settings.{Settings}
 use Rattle.meaning.specs.declared.refusals.Refusal.{Refusal}
 use Rattle.meaning.specs.declared.refusals.Checked.the-variants.{Good, Refused}
 use Rattle.meaning.specs.declared.answers.Chosen.the-variants as chosen
-use Rattle.laws.specs.TestOrder.{first-alone}
-use Rattle.laws.specs.PartChars.{cut-within}
+use Rattle.laws.specs.Choosing.{taken-within}
+use Rattle.laws.specs.PageBoundaries.{taken-boundary}
+use Rattle.laws.specs.TestOrder.{first-alone, none-refuses, three-good}
 use Rattle.checks.specs.LimitLaws.{limit-some}
 use Rattle.rows.specs.GoodInput.{text-ready}
-use Rattle.paging.specs.AllGood.{head-good, rest-good}
-use Rattle.paging.specs.LineStarts.{taken-boundary}
 use Rattle.paging.specs.Taking.{Takeable, taken}
 use Rattle.paging.specs.declared.taken.Taken.{Taken}
-
--- What is taken of a text that is UTF-8 is no more than it has, and ends at a boundary.
-module _ (s : Settings) (h : ℕ) (t : List ℕ) (good : checkUtf8 t ≡ Good) where
-  abbrev bytes : ℕ
-  bytes = takenBytes s h (decodeAll t)
-
-  pub bytes-within : bytes ≤ length t
-  bytes-within = cut-within t good bytes (taken-boundary s h (decodeAll t))
-
-  pub bytes-long : length (take bytes t) ≡ bytes
-  bytes-long = length-take-le bytes t bytes-within
 
 pub end-is : (s : Settings) (h : ℕ) (t : List ℕ) (x : Taken) → x ≡ taken s h t → x .end .0 ≡ takenBytes s h (decodeAll t)
 unfolding taken
@@ -76,30 +64,26 @@ module _ (s : Settings) (h : ℕ) (long short : List ℕ) where
   module _ (good : checkChoosing s h long short ≡ Good) where
     some : 1 ≤ h
     unfolding checkChoosing
-    some = limit-some h (head-good (checkLimit h) _ good)
+    some = limit-some h (none-refuses (checkLimit h) _ good .0)
 
-    settings-good : checkSettings s ≡ Good
+    others-good : (checkSettings s ≡ Good) × (checkText long ≡ Good) × (checkText short ≡ Good)
     unfolding checkChoosing
-    settings-good = head-good (checkSettings s) _ (rest-good (checkLimit h) _ good)
-
-    texts-good : firstOf (checkText long ∷ checkText short ∷ []) ≡ Good
-    unfolding checkChoosing
-    texts-good = rest-good (checkSettings s) _ (rest-good (checkLimit h) _ good)
+    others-good = three-good (checkSettings s) (checkText long) (checkText short) (none-refuses (checkLimit h) _ good .1)
 
     takeable : (t : List ℕ) → checkText t ≡ Good → Takeable s h t
     unfolding checkText
     takeable t e =
         record {
-          ready = text-ready s settings-good t e;
-          utf8 = head-good (checkUtf8 t) [] (rest-good (checkLength (length t)) (checkUtf8 t ∷ []) e);
+          ready = text-ready s (others-good .0) t e;
+          utf8 = none-refuses (checkUtf8 t) [] (none-refuses (checkLength (length t)) (checkUtf8 t ∷ []) e .1) .0;
           some = some;
         }
 
     pub long-takeable : Takeable s h long
-    long-takeable = takeable long (head-good (checkText long) (checkText short ∷ []) texts-good)
+    long-takeable = takeable long (others-good .1)
 
     pub short-takeable : Takeable s h short
-    short-takeable = takeable short (head-good (checkText short) [] (rest-good (checkText long) (checkText short ∷ []) texts-good))
+    short-takeable = takeable short (others-good .2)
 
   -- ---- the part
 
@@ -122,10 +106,10 @@ module _ (s : Settings) (h : ℕ) (long short : List ℕ) where
     module _ (e : withinLines s h (decodeAll long) ≡ false) (n : ℕ) (is : n ≡ length (chosenPart s h long short)) where
       pub bytes-are : n ≡ takenBytes s h (decodeAll short)
       unfolding chosenPart pick
-      bytes-are = (rw e at is) ∙ bytes-long s h short (short-takeable good .utf8)
+      bytes-are = (rw e at is) ∙ length-take-le _ short (taken-within s h short (short-takeable good .utf8))
 
       pub bytes-end : boundary (decodeAll short) n ≡ true
-      bytes-end = subst (λ (k : ℕ). boundary (decodeAll short) k ≡ true) (sym bytes-are) (taken-boundary s h (decodeAll short))
+      bytes-end = subst (λ (k : ℕ). boundary (decodeAll short) k ≡ true) (sym bytes-are) (taken-boundary s (decodeAll short) h)
 
       pub chosen-short : (m : ℕ) → m ≡ length (onward (decodeAll short) n) → chosen.Short n m ≡ choosingAnswer s h long short
       unfolding choosingAnswer chosenOf leftOut pick

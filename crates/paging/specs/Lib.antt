@@ -1,12 +1,8 @@
-pub mod PageLaws
 pub mod PageCounts
 pub mod PastWriting
 pub mod PageTurns
-pub mod LineStarts
 pub mod CharsBehind
-pub mod AllGood
 pub mod Taking
 pub mod Choosing
-pub mod SomeLines
 pub mod Listing
 pub mod ListingAgain

@@ -21,16 +21,15 @@ use Rattle.meaning.specs.declared.refusals.Checked.the-variants.{Good, Refused}
 use Rattle.meaning.specs.declared.answers.Paged.{Paged}
 use Rattle.meaning.specs.declared.answers.Paged.the-variants as paged
 use Rattle.laws.specs.GoodChecks.{has-room}
+use Rattle.laws.specs.PageLaws.{pageCount, pages-count}
+use Rattle.laws.specs.PageStretches.{layout-there}
 use Rattle.laws.specs.TableLaws.{entries-written}
-use Rattle.laws.specs.TestOrder.{first-alone}
+use Rattle.laws.specs.TestOrder.{first-alone, three-good}
+use Rattle.laws.specs.WrittenPast.{past-none}
 use Rattle.checks.specs.LimitLaws.{limit-some}
 use Rattle.rows.specs.RowsFrom.{entriesOf, entries-are, few-entries}
 use Rattle.layout.specs.Checking.{long-enough, good-ready}
-use Rattle.paging.specs.AllGood.{head-good, rest-good}
-use Rattle.paging.specs.SomeLines.{layout-there}
-use Rattle.paging.specs.PageLaws.{pageCount, pages-count}
 use Rattle.paging.specs.PageCounts.{count-grows}
-use Rattle.paging.specs.PastWriting.{past-none}
 use Rattle.paging.specs.PageTurns.{Listable}
 
 -- ---- the room of the list (8)
@@ -81,17 +80,19 @@ module _ (s : Settings) (h : ℕ) (t table pages : List ℕ) where
   -- ---- where nothing is refused
 
   module _ (good : checkPaging s h t table pages ≡ Good) where
-    pub some-limit : 1 ≤ h
+    all-good : (checkLimit h ≡ Good) × (checkLayout s t table ≡ Good) × (checkRoom (capacityOf pageNumbers pages) (length (textPages s h t)) ≡ Good)
     unfolding checkPaging
-    some-limit = limit-some h (head-good (checkLimit h) _ good)
+    all-good = three-good (checkLimit h) (checkLayout s t table) _ good
+
+    pub some-limit : 1 ≤ h
+    some-limit = limit-some h (all-good .0)
 
     pub layout-good : checkLayout s t table ≡ Good
-    unfolding checkPaging
-    layout-good = head-good (checkLayout s t table) _ (rest-good (checkLimit h) _ good)
+    layout-good = all-good .1
 
     room-good : room ≡ Good
-    unfolding checkPaging
-    room-good = room-decides (head-good (checkLimit h) _ good) layout-good ∙ good
+    unfolding textPages
+    room-good = rw (entries-are s t) (all-good .2)
 
     abbrev es : List Entry
     es = entriesOf s t

@@ -1,13 +1,11 @@
 -- The tests of the call that lists the pages of a table again, in their order, and what it answers and leaves in each case.
 -- Rule 10, refusal 1, refusal 5, refusal 8.
 -- Assumes nothing.
-use Prim.Native.Nat.{ℕ, _*_, _/_, _≤_, _<_}
+use Prim.Native.Nat.{ℕ, _*_, _≤_}
 use native.Mathlib.Omega.{arith}
 use mathlib.Core.Path.{_≡_, sym, ap, _∙_}
 use mathlib.Core.List.{List}
-use borrow.Author.Tests.{lt-ltb, le-ltb}
 use lib.ListN.{length}
-use Rattle.basis.specs.Choice.{pick}
 use Rattle.meaning.specs.Checks.{firstOf, checkLimit, checkRoom}
 use Rattle.meaning.specs.Table.{ofAll, capacityOf, entriesIn}
 use Rattle.meaning.specs.WellFormed.{checkTable}
@@ -18,25 +16,13 @@ use Rattle.meaning.specs.declared.refusals.Checked.{Checked}
 use Rattle.meaning.specs.declared.refusals.Checked.the-variants.{Good, Refused}
 use Rattle.meaning.specs.declared.answers.PagedAgain.{PagedAgain}
 use Rattle.meaning.specs.declared.answers.PagedAgain.the-variants as pagedagain
+use Rattle.laws.specs.PageLaws.{pageCount, pages-count}
 use Rattle.laws.specs.TableLaws.{entries-length}
-use Rattle.laws.specs.TestOrder.{first-alone}
+use Rattle.laws.specs.TestOrder.{first-alone, none-refuses}
 use Rattle.checks.specs.LimitLaws.{limit-some}
 use Rattle.table.specs.GoodTable.{table-room, table-reach, table-count, reach-some}
 use Rattle.layout.specs.Checking.{long-enough}
-use Rattle.paging.specs.AllGood.{head-good, rest-good}
-use Rattle.paging.specs.PageLaws.{pageCount, pages-count}
 use Rattle.paging.specs.PageTurns.{Listable}
-
--- ---- how many pages are kept
-
-module _ (h first lines : ℕ) where
-  pub kept-before : first < lines → first / h ≡ keptPages h first lines
-  unfolding keptPages pick
-  kept-before p = sym (rw (lt-ltb first lines p))
-
-  pub kept-all : lines ≤ first → lines ≡ keptPages h first lines
-  unfolding keptPages pick
-  kept-all p = sym (rw (le-ltb first lines p))
 
 -- ---- the tests
 
@@ -79,14 +65,14 @@ module _ (table : List ℕ) (lines h : ℕ) where
     module _ (good : checkPagingAgain table lines h pages ≡ Good) where
       limit-good : checkLimit h ≡ Good
       unfolding checkPagingAgain
-      limit-good = head-good (checkLimit h) _ good
+      limit-good = none-refuses (checkLimit h) _ good .0
 
       pub again-limit : 1 ≤ h
       again-limit = limit-some h limit-good
 
       table-good : checkTable lines table ≡ Good
       unfolding checkPagingAgain
-      table-good = head-good (checkTable lines table) _ (rest-good (checkLimit h) _ good)
+      table-good = none-refuses (checkTable lines table) _ (none-refuses (checkLimit h) _ good .1) .0
 
       pub again-listable : Listable table lines h pages
       again-listable =

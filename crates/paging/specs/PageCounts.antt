@@ -2,10 +2,10 @@
 -- Assumes nothing.
 use Prim.Native.Nat.{ℕ, suc, _+_, _-_, _*_, _/_, _≤_, _<_}
 use mathlib.Core.Path.{_≡_}
-use native.Mathlib.Nat.{suc-mul, add-div-right, div-le-self, div-mul-le-self, le-div-iff-mul-le}
+use native.Mathlib.Nat.{suc-mul, add-div-right, div-mul-le-self, le-div-iff-mul-le}
 use native.Mathlib.Omega.{arith}
 use Rattle.basis.specs.Order.{by-le}
-use Rattle.paging.specs.PageLaws.{pageCount}
+use Rattle.laws.specs.PageLaws.{pageCount}
 
 module _ (h : ℕ) (some : 1 ≤ h) where
   pub count-is : (n : ℕ) → 1 ≤ n → (n - 1) / h + 1 ≡ pageCount h n
@@ -13,10 +13,6 @@ module _ (h : ℕ) (some : 1 ≤ h) where
   count-is n m =
       let e : n + (h - 1) ≡ n - 1 + h = omega arith in
       rw (e, add-div-right (n - 1) some) (omega arith)
-
-  -- No more than lines.
-  pub count-few : (n : ℕ) → 1 ≤ n → pageCount h n ≤ n
-  count-few n m = omega (arith, count-is n m, div-le-self (n - 1) h)
 
   -- More lines take no fewer pages.
   pub count-grows : (n m : ℕ) → n ≤ m → pageCount h n ≤ pageCount h m

@@ -13,14 +13,15 @@ use Rattle.meaning.specs.Pages.{endBefore, pagesOf, pageNumbers, ofPage, writte
 use Rattle.meaning.specs.declared.counts.Offset.{Offset}
 use Rattle.meaning.specs.declared.line.Entry.{Entry}
 use Rattle.meaning.specs.declared.page.Page.{Page}
-use Rattle.laws.specs.TableLaws.{entries-length, all-numbers}
+use Rattle.laws.specs.PageLaws.{pageCount, pages-count, pages-few, page-there, PageSaid, page-at}
+use Rattle.laws.specs.TableLaws.{entries-length, page-numbers, pages-numbers}
+use Rattle.laws.specs.WrittenPast.{past-all}
 use Rattle.table.specs.LinesFrom.{linesFrom, lines-more, lines-end, start-at}
 use Rattle.table.specs.MovableLines.{entries-from}
 use Rattle.table.specs.Numbers.{putNumbers}
 use Rattle.table.specs.Stretches.{join-behind, put-none}
-use Rattle.paging.specs.PageLaws.{pageCount, pages-count, page-there, PageSaid, page-at}
-use Rattle.paging.specs.PageCounts.{count-few, none-behind}
-use Rattle.paging.specs.PastWriting.{past-all, past-put, page-numbers, pages-dropped}
+use Rattle.paging.specs.PageCounts.{none-behind}
+use Rattle.paging.specs.PastWriting.{past-put, pages-dropped}
 
 -- ---- one page
 
@@ -75,7 +76,7 @@ module _ (t : List ℕ) (lines h : ℕ) where
     many = pages-count h (c .limit) es ∙ ap (pageCount h) (entries-length lines t)
 
     numbers : length (ofAll ofPage ps) ≡ pageNumbers * pageCount h lines
-    numbers = all-numbers ofPage pageNumbers page-numbers ps ∙ ap (λ (n : ℕ). pageNumbers * n) many
+    numbers = pages-numbers ps ∙ ap (λ (n : ℕ). pageNumbers * n) many
 
     -- All pages are kept.
     pub all-kept : (kept : ℕ) → pageCount h lines ≤ kept → u ≡ writtenPast (pageNumbers * kept) u (ofAll ofPage ps)
@@ -111,7 +112,7 @@ module _ (t : List ℕ) (lines h : ℕ) where
 
           -- No count of pages wraps.
           pub page-low : k < 65536
-          page-low = omega (arith, there, many, count-few h (c .limit) lines (c .some), c .few)
+          page-low = omega (arith, there, pages-few h es, entries-length lines t, c .few)
 
           said : PageSaid h k es
           said = page-at h (c .limit) k es there

@@ -2,42 +2,20 @@
 -- Assumes nothing.
 use Prim.Native.Nat.{ℕ, zero, suc, _+_, _*_, _≤_}
 use mathlib.Core.Path.{_≡_, refl, sym, ap, _∙_}
-use mathlib.Core.List.{List, [], _∷_, _++_, append-nil}
+use mathlib.Core.List.{List, [], _∷_, _++_}
 use native.Mathlib.Omega.{arith}
-use lib.ListN.{length, take, drop, length-append, take-append-drop, drop-of-length-le}
-use lib.Seq.{length-take-le, take-all, drop-length, drop-nil, drop-drop, drop-at}
-use Rattle.basis.specs.Order.{by-le}
+use lib.ListN.{length, take, drop, length-append}
+use lib.Seq.{length-take-le, drop-nil, drop-drop, drop-at}
 use Rattle.meaning.specs.Table.{ofAll, written}
 use Rattle.meaning.specs.Pages.{pageNumbers, ofPage, writtenPast}
 use Rattle.meaning.specs.declared.page.Page.{Page}
+use Rattle.laws.specs.TableLaws.{page-numbers}
 use Rattle.table.specs.Numbers.{putNumbers}
-
--- All of them are kept.
-front-written : (k : ℕ) (buffer : List ℕ) → take k buffer ++ drop (length (take k buffer)) buffer ≡ buffer
-front-written k buffer =
-    by-le k (length buffer)
-    (λ h. rw (length-take-le k buffer h) (take-append-drop k buffer))
-    (λ h. rw (take-all k buffer (omega arith), drop-length buffer) (append-nil buffer))
-
-pub past-all : (k : ℕ) (buffer xs : List ℕ) → length xs ≤ k → writtenPast k buffer xs ≡ buffer
-unfolding writtenPast written
-past-all k buffer xs h = rw (drop-of-length-le xs h, append-nil (take k buffer)) (front-written k buffer)
 
 -- Those behind the first k are put where they stand.
 pub past-put : (k : ℕ) (buffer xs : List ℕ) → k ≤ length buffer → writtenPast k buffer xs ≡ putNumbers buffer k (drop k xs)
 unfolding writtenPast written putNumbers
 past-put k buffer xs h = rw (length-append (take k buffer) (drop k xs), length-take-le k buffer h)
-
--- None is kept.
-pub past-none : (buffer xs : List ℕ) → writtenPast 0 buffer xs ≡ written buffer xs
-unfolding writtenPast
-past-none buffer xs = refl
-
--- ---- of pages
-
-pub page-numbers : (p : Page) → length (ofPage p) ≡ pageNumbers
-unfolding ofPage
-page-numbers p = refl
 
 -- The numbers of the pages from page k on.
 pub pages-dropped : (k : ℕ) (ps : List Page) → drop (pageNumbers * k) (ofAll ofPage ps) ≡ ofAll ofPage (drop k ps)

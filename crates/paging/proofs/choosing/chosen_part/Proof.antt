@@ -3,7 +3,8 @@
 use native.Mathlib.Omega.{arith}
 use mathlib.Core.Path.{sym, _∙_}
 use lib.Seq.{length-take-le}
-use Rattle.paging.specs.Choosing.{bytes-within, end-is, part-long, part-short}
+use Rattle.laws.specs.Choosing.{taken-within}
+use Rattle.paging.specs.Choosing.{end-is, part-long, part-short}
 use borrow.Author.Needs.{needs}
 use Rattle.paging.proofs.choosing.chosen_part.Statement.{statement}
 use Rattle.paging.proofs.choosing.chosen_part.Tie as tie
@@ -22,7 +23,7 @@ slice-aggregate-result c =
     let x = c .before .before in
     let p = x .before .before .before .before in
     let e = end-is _ _ _ _ (x .take-lines .ensures) in
-    sym (length-take-le _ (p .args .short .now) (omega (arith, e, bytes-within (p .args .s) (p .args .h) (p .args .short .now) (p .pre .1 .utf8))))
+    sym (length-take-le _ (p .args .short .now) (omega (arith, e, taken-within (p .args .s) (p .args .h) (p .args .short .now) (p .pre .1 .utf8))))
 
 returns-2 : tie.Need-returns-2
 returns-2 c =
