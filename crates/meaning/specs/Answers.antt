@@ -36,6 +36,10 @@ use Rattle.meaning.specs.declared.answers.Paged.{Paged}
 use Rattle.meaning.specs.declared.answers.Paged.the-variants as paged
 use Rattle.meaning.specs.declared.answers.PagedAgain.{PagedAgain}
 use Rattle.meaning.specs.declared.answers.PagedAgain.the-variants as pagedagain
+use Rattle.meaning.specs.declared.answers.Fitted.{Fitted}
+use Rattle.meaning.specs.declared.answers.Fitted.the-variants as fitted
+use Rattle.meaning.specs.declared.answers.Planned.{Planned}
+use Rattle.meaning.specs.declared.answers.Planned.the-variants as planned
 
 abbrev pub tokensNumber : Tokenized → ℕ
 tokensNumber (tokenized.Tokens n) = 0
@@ -225,3 +229,25 @@ pagingAgainNumber (pagedagain.Refused r) = numberOf r
 abbrev pub pagingAgainValue : PagedAgain → ℕ
 pagingAgainValue (pagedagain.Pages m) = m
 pagingAgainValue (pagedagain.Refused r) = besides r
+
+abbrev pub fittingNumber : Fitted → ℕ
+fittingNumber fitted.Yes = 0
+fittingNumber fitted.No = 0
+fittingNumber (fitted.Refused r) = numberOf r
+
+-- 1 if it fits, 0 if not.
+abbrev pub fittingValue : Fitted → ℕ
+fittingValue fitted.Yes = 1
+fittingValue fitted.No = 0
+fittingValue (fitted.Refused r) = besides r
+
+abbrev pub planningNumber : Planned → ℕ
+planningNumber (planned.Width w) = 0
+planningNumber planned.NoWidth = 0
+planningNumber (planned.Refused r) = numberOf r
+
+-- What stands for no line stands for no width too.
+abbrev pub planningValue : Planned → ℕ
+planningValue (planned.Width w) = w
+planningValue planned.NoWidth = noLineNumber
+planningValue (planned.Refused r) = besides r

@@ -22,6 +22,8 @@ pub mod ReadFile
 pub mod Pages
 pub mod Calls
 pub mod PageCalls
+pub mod Columns
+pub mod ColumnCalls
 pub mod Answers
 pub mod Examples
 pub mod EditExamples

@@ -103,3 +103,17 @@ pub enum PagedAgain {
     Pages(u64),
     Refused(Refusal),
 }
+
+// Whether a text fits so many lines and loses no character.
+pub enum Fitted {
+    Yes,
+    No,
+    Refused(Refusal),
+}
+
+// The smallest box width in which it does; or that there is none.
+pub enum Planned {
+    Width(u64),
+    NoWidth,
+    Refused(Refusal),
+}
