@@ -46,6 +46,7 @@ pub mod Longest
 pub mod Measuring
 pub mod Meeting
 pub mod Moved
+pub mod NarrowestWidth
 pub mod NothingDropped
 pub mod PassBounds
 pub mod PassSteps
