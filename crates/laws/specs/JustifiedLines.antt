@@ -117,7 +117,7 @@ module _ (s : Settings) (ts : List Tok) where
 abbrev pub simple : ℕ → Bool
 simple c = not (eqb c 0x0009 || eqb c 0x00AD)
 
-pass-second : (f : ℕ → Bool) (xs ys : List ℕ) → Pass f (xs ++ ys) → Pass f ys
+pub pass-second : (f : ℕ → Bool) (xs ys : List ℕ) → Pass f (xs ++ ys) → Pass f ys
 pass-second f [] ys h = h
 pass-second f (x ∷ xs) ys h = pass-second f xs ys (h .1)
 

@@ -24,6 +24,10 @@ pub mod EvenLines
 pub mod EvenSpaces
 pub mod FoundLines
 pub mod Fuel
+pub mod GlyphLines
+pub mod GlyphLooks
+pub mod GlyphRoom
+pub mod GlyphSteps
 pub mod GoodChecks
 pub mod GoodLines
 pub mod IndexAgain
@@ -75,6 +79,7 @@ pub mod Spell
 pub mod Stands
 pub mod Steps
 pub mod Suffixes
+pub mod TabFree
 pub mod TableLaws
 pub mod TableSpaces
 pub mod FileNumbers
@@ -85,4 +90,6 @@ pub mod TokenLaws
 pub mod TokensAgree
 pub mod WellFormedLayout
 pub mod WrittenPast
+pub mod WideEnough
+pub mod WidthSteps
 pub mod WrittenYs

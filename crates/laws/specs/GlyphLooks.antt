@@ -1,0 +1,112 @@
+-- What a pass looks at beyond the token at hand takes whole glyphs too, where there is no tab: so it finds the same in two boxes that
+-- the glyphs of the tokens ahead do not tell apart (rule 8).
+-- Assumes nothing.
+use Prim.Native.Nat.{ℕ, _+_, _*_, _≤_}
+use mathlib.Core.Path.{_≡_, refl, sym, subst}
+use mathlib.Core.List.{List, [], _∷_}
+use native.Mathlib.Nat.{add-mul, one-mul}
+use native.Mathlib.Omega.{arith}
+use lib.ListN.{length, length-append}
+use Rattle.meaning.specs.Tokens.{Tok, newLine, carriageReturn, tab, softHyphen, space, word, sizeOf, needOf}
+use Rattle.meaning.specs.Cursor.{advance}
+use Rattle.meaning.specs.SpaceConfig.{spacesWidth, spacesAfter}
+use Rattle.meaning.specs.Lookahead.{goesOn, nextFits, added, nextWidth}
+use Rattle.meaning.specs.declared.cursor.LineCursor.{LineCursor}
+use Rattle.meaning.specs.declared.cursor.Spaces.{Spaces}
+use Rattle.meaning.specs.declared.cursor.NextWord.{NextWord}
+use Rattle.meaning.specs.declared.cursor.NextWord.the-variants.{Nothing, Width}
+use Rattle.laws.specs.Spell.{spell, Sound}
+use Rattle.laws.specs.Pens.{Plain, plain-after}
+use Rattle.laws.specs.TabFree.{TabFree}
+use Rattle.laws.specs.GlyphRoom.{Near, fits-alike, one-alike, fits-spaces, near-spaces}
+
+-- How many glyphs a token moves the cursor by at most, and how many these tokens do. A tab is none of them.
+abbrev pub glyphsOf : Tok → ℕ
+glyphsOf newLine = 0
+glyphsOf carriageReturn = 0
+glyphsOf tab = 0
+glyphsOf softHyphen = 1
+glyphsOf (space cs n e) = n
+glyphsOf (word cs e) = length cs
+
+unfoldable pub mostGlyphs : List Tok → ℕ
+mostGlyphs [] = 0
+mostGlyphs (t ∷ ts) = glyphsOf t + mostGlyphs ts
+
+module _ (g w v : ℕ) (some : 1 ≤ g) where
+  -- ---- whether the next word fits
+
+  pub next-alike : (ts : List Tok) (x y : LineCursor) (sp : Spaces) (at : ℕ) → TabFree ts → Plain g sp → Near g w v (mostGlyphs ts) x y
+      → nextFits g x sp at ts ≡ nextFits g y sp at ts
+  unfolding nextFits mostGlyphs
+  next-alike [] x y sp at free plain m = refl
+  next-alike (newLine ∷ ts) x y sp at free plain m = refl
+  next-alike (carriageReturn ∷ ts) x y sp at free plain m = refl
+  next-alike (tab ∷ ts) x y sp at free plain m = absurd free
+  next-alike (softHyphen ∷ ts) x y sp at free plain m =
+      let fits = one-alike g w v some (mostGlyphs ts) x y m in
+      λ i. record { fits = fits i; reach = at + needOf softHyphen }
+  next-alike (word cs e ∷ ts) x y sp at free plain m =
+      let fits = fits-alike g w v some (length cs + mostGlyphs ts) x y (length cs) m (omega arith) in
+      λ i. record { fits = fits i; reach = at + needOf (word cs e) }
+  next-alike (space cs n e ∷ ts) x y sp at free plain m =
+      let t = space cs n e in
+      let fits = fits-spaces g w v some sp plain (n + mostGlyphs ts) x y n m (omega arith) in
+      let more =
+      next-alike ts (advance x (spacesWidth sp n)) (advance y (spacesWidth sp n)) (spacesAfter sp n) (at + sizeOf t) free (plain-after g sp n plain)
+      (near-spaces g w v some sp plain (mostGlyphs ts) x y n m) in
+      λ i. goesOn (fits i) (at + needOf t) (more i)
+
+-- ---- how wide the next word is
+
+-- A width of at most n glyphs.
+pub record Glyphs (g n width : ℕ) : Type 0 where
+  pub count : ℕ
+  pub is : width ≡ count * g
+  pub few : count ≤ n
+
+abbrev pub InGlyphs : (g n : ℕ) → NextWord → Type 0
+InGlyphs g n Nothing = Unit {0}
+InGlyphs g n (Width u) = Glyphs g n (u .0)
+
+more-glyphs : (g n k : ℕ) (u : NextWord) → InGlyphs g n u → InGlyphs g (n + k) u
+more-glyphs g n k Nothing h = tt
+more-glyphs g n k (Width u) h = record { count = h .count; is = h .is; few = omega (arith, h .few) }
+
+added-glyphs : (g n k : ℕ) (u : NextWord) → InGlyphs g n u → InGlyphs g (n + k) (added u (k * g))
+unfolding added
+added-glyphs g n k Nothing h = record { count = k; is = refl; few = omega arith }
+added-glyphs g n k (Width u) h =
+    record { count = h .count + k; is = rw (h .is) (sym (add-mul (h .count) k g)); few = omega (arith, h .few) }
+
+-- It is of whole glyphs, of no more than the tokens looked at have.
+pub ahead-glyphs : (g : ℕ) (ts : List Tok) (n at : ℕ) (u : NextWord) → InGlyphs g n u → InGlyphs g (n + mostGlyphs ts) (nextWidth g u at ts .width)
+unfolding nextWidth mostGlyphs
+ahead-glyphs g [] n at u h = more-glyphs g n 0 u h
+ahead-glyphs g (newLine ∷ ts) n at u h = more-glyphs g n (0 + mostGlyphs ts) u h
+ahead-glyphs g (carriageReturn ∷ ts) n at u h = more-glyphs g n (0 + mostGlyphs ts) u h
+ahead-glyphs g (tab ∷ ts) n at u h = more-glyphs g n (0 + mostGlyphs ts) u h
+ahead-glyphs g (space cs k e ∷ ts) n at u h = more-glyphs g n (k + mostGlyphs ts) u h
+ahead-glyphs g (softHyphen ∷ ts) n at u h =
+    let one = subst (λ (k : ℕ). InGlyphs g (n + 1) (added u k)) (one-mul g) (added-glyphs g n 1 u h) in
+    let d : n + 1 + mostGlyphs ts ≡ n + (1 + mostGlyphs ts) = omega arith in
+    subst (λ (k : ℕ). InGlyphs g k (added u g)) d (more-glyphs g (n + 1) (mostGlyphs ts) (added u g) one)
+ahead-glyphs g (word cs e ∷ ts) n at u h =
+    let d : n + length cs + mostGlyphs ts ≡ n + (length cs + mostGlyphs ts) = omega arith in
+    let v = added u (length cs * g) in
+    let from = at + sizeOf (word cs e) in
+    subst (λ (k : ℕ). InGlyphs g k (nextWidth g v from ts .width)) d
+    (ahead-glyphs g ts (n + length cs) from v (added-glyphs g n (length cs) u h))
+
+-- ---- how many there are
+
+-- No more than characters.
+pub glyphs-chars : (ts : List Tok) → Sound ts → mostGlyphs ts ≤ length (spell ts)
+unfolding mostGlyphs spell
+glyphs-chars [] h = omega arith
+glyphs-chars (newLine ∷ ts) h = omega (arith, glyphs-chars ts (h .1))
+glyphs-chars (carriageReturn ∷ ts) h = omega (arith, glyphs-chars ts (h .1))
+glyphs-chars (tab ∷ ts) h = omega (arith, glyphs-chars ts (h .1))
+glyphs-chars (softHyphen ∷ ts) h = omega (arith, glyphs-chars ts (h .1))
+glyphs-chars (space cs n e ∷ ts) h = rw (length-append cs (spell ts)) (omega (arith, glyphs-chars ts (h .1), h .0 .1))
+glyphs-chars (word cs e ∷ ts) h = rw (length-append cs (spell ts)) (omega (arith, glyphs-chars ts (h .1)))
