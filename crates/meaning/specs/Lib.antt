@@ -32,4 +32,5 @@ pub mod FileExamples
 pub mod SmallExamples
 pub mod IndexExamples
 pub mod PageExamples
+pub mod ColumnExamples
 pub mod StarredExamples
