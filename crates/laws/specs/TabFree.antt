@@ -15,12 +15,15 @@ use Rattle.laws.specs.LineTokens.{line-tokens-cover}
 use Rattle.laws.specs.Runs.{Pass}
 use Rattle.laws.specs.JustifiedLines.{pass-second}
 
+abbrev pub isTab : ℕ → Bool
+isTab c = eqb c 0x0009
+
 -- A tab is among these characters.
 unfoldable pub hasTab : List ℕ → Bool
 hasTab [] = false
 hasTab (c ∷ cs) =
     let more = hasTab cs in
-    pick (eqb c 0x0009) true more
+    pick (isTab c) true more
 
 -- No tab is among these tokens.
 abbrev pub TabFree : List Tok → Type 0
@@ -41,13 +44,13 @@ free-next (space cs n e) ts h = h
 free-next (word cs e) ts h = h
 
 abbrev noTab : ℕ → Bool
-noTab c = not (eqb c 0x0009)
+noTab c = not (isTab c)
 
 -- The first character is none, nor is one of the others.
 first-free : (c : ℕ) (cs : List ℕ) → hasTab (c ∷ cs) ≡ false → (noTab c ≡ true) × (hasTab cs ≡ false)
 unfolding hasTab
 first-free c cs =
-    pick-cases (λ b. b ≡ false → (noTab c ≡ true) × (hasTab cs ≡ false)) (eqb c 0x0009) (λ _ e. absurd (false≢true (sym e)))
+    pick-cases (λ b. b ≡ false → (noTab c ≡ true) × (hasTab cs ≡ false)) (isTab c) (λ _ e. absurd (false≢true (sym e)))
     (λ d e. (rw d, e))
 
 passes : (cs : List ℕ) → hasTab cs ≡ false → Pass noTab cs

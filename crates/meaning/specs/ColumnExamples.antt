@@ -62,6 +62,8 @@ columnExamples =
     -- to the right and centred the tab's width changes with the line's start, and the word behind it waits
     ∷ trying (laidOut 12 0 2 1 0) "a\ta" 1 (tried 36 1 true true ∷ tried 48 2 true false ∷ tried 60 1 true true ∷ tried 72 2 true false ∷ [])
     ∷ trying (laidOut 12 0 1 1 0) "a\ta" 1 (tried 36 1 true true ∷ tried 59 2 true false ∷ tried 60 1 true true ∷ [])
+    -- justified, leading off, a glyph of one pixel: drawn, the wide spaces leave no room for the last one, and the CR has a line of its own
+    ∷ trying (laidOut 1 0 3 0 0) " a a \r" 2 (tried 3 3 true false ∷ tried 4 2 true true ∷ tried 5 3 true false ∷ [])
     ∷ []
 
 unfoldable pub triedAt : Settings → (h : ℕ) → List ℕ → Tried → Tried
