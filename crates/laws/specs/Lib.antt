@@ -56,6 +56,7 @@ pub mod PassBounds
 pub mod PassSteps
 pub mod PenBounds
 pub mod Pens
+pub mod PlanSteps
 pub mod PrintEnds
 pub mod PrintedWords
 pub mod PrintsTell
@@ -89,7 +90,7 @@ pub mod TestOrder
 pub mod TokenLaws
 pub mod TokensAgree
 pub mod WellFormedLayout
-pub mod WrittenPast
 pub mod WideEnough
 pub mod WidthSteps
+pub mod WrittenPast
 pub mod WrittenYs

@@ -11,7 +11,7 @@ use borrow.Author.Tests.{leb-true, le-leb, eqb-true, eq-eqb}
 use lib.Dec.{leb, eqb}
 use lib.ListN.{length}
 use Rattle.basis.specs.Choice.{pick-cases, pick-true, pick-false, and-true, and-both}
-use Rattle.basis.specs.Order.{by-eq}
+use Rattle.basis.specs.Order.{by-le, by-eq}
 use Rattle.meaning.specs.Layout.{layout}
 use Rattle.meaning.specs.Pages.{withinLines}
 use Rattle.meaning.specs.Columns.{allKept, fitsWhole, withWidth, narrowestFrom, widestBox, narrowest}
@@ -76,6 +76,26 @@ module _ (s : Settings) (h : ℕ) (cs : List ℕ) where
       (narrowest-past w (k + n) (f w (omega arith) (omega arith))
       ∙ narrowest-skip k n (suc w) (λ v a b. f v (omega arith) (omega arith)))
 
+  -- Where it fits in none of all there is no answer.
+  pub none-answered : (n w : ℕ) → NoneFits w (w + n) → narrowestFrom s h cs w n ≡ NoWidth
+  unfolding narrowestFrom
+  none-answered zero w f = refl
+  none-answered (suc n) w f = narrowest-past w n (f w (omega arith) (omega arith)) ∙ none-answered n (suc w) (λ v b c. f v (omega arith) (omega arith))
+
+  -- A search of the widths up to a bound goes on from any width before which it fits in none.
+  pub narrowest-on : (w x bound : ℕ) → w ≤ x → NoneFits w x → narrowestFrom s h cs w (bound - w) ≡ narrowestFrom s h cs x (bound - x)
+  narrowest-on w x bound below f =
+      by-le x bound
+      (λ b.
+      let n : bound - w ≡ x - w + (bound - x) = omega arith in
+      let d : w + (x - w) ≡ x = omega arith in
+      ap (narrowestFrom s h cs w) n
+      ∙ narrowest-skip (x - w) (bound - x) w (λ v c e. f v c (omega arith))
+      ∙ ap (λ (y : ℕ). narrowestFrom s h cs y (bound - x)) d)
+      (λ b.
+      none-answered (bound - w) w (λ v c e. f v c (omega arith))
+      ∙ sym (none-answered (bound - x) x (λ v c e. absurd (omega arith))))
+
   -- What is said of the n widths from w on.
   abbrev Says : (w n : ℕ) → Planned → Type 0
   Says w n (Width x) = (w ≤ x) × (x < w + n) × (fitsWhole (withWidth s x) h cs ≡ true) × NoneFits w x
@@ -131,11 +151,6 @@ module _ (s : Settings) (h : ℕ) (cs : List ℕ) where
       ∙ narrowest-skip w (suc (4096 - w)) 0 (λ v b c. f v (omega arith))
       ∙ ap (λ (x : ℕ). narrowestFrom s h cs x (suc (4096 - w))) z
       ∙ narrowest-here w (4096 - w) e
-
-  none-answered : (n w : ℕ) → NoneFits w (w + n) → narrowestFrom s h cs w n ≡ NoWidth
-  unfolding narrowestFrom
-  none-answered zero w f = refl
-  none-answered (suc n) w f = narrowest-past w n (f w (omega arith) (omega arith)) ∙ none-answered n (suc w) (λ v b c. f v (omega arith) (omega arith))
 
   pub no-width-answered : ((v : ℕ) → v ≤ 4096 → fitsWhole (withWidth s v) h cs ≡ false) → narrowest s h cs ≡ NoWidth
   unfolding narrowest
