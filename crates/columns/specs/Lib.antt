@@ -1,0 +1,3 @@
+pub mod FitTurns
+pub mod ColumnChecks
+pub mod OtherWidths

@@ -1,0 +1,4 @@
+// A box width for a text that may have so many lines and must lose no character (rule 10).
+mod checked;
+pub mod fitting;
+mod width;
