@@ -1,8 +1,8 @@
 -- The tests of the two calls, in their order, and what each leaves (refusal 1, refusal 2, refusal 3, refusal 4).
 -- Assumes nothing.
 use Prim.Native.Nat.{ℕ, _≤_}
-use mathlib.Core.Path.{_≡_, refl, sym, _∙_}
-use mathlib.Core.Bool.{Bool, true, false}
+use mathlib.Core.Path.{_≡_, refl, sym}
+use mathlib.Core.Bool.{true, false}
 use mathlib.Core.List.{List, [], _∷_}
 use Rattle.basis.specs.Choice.{pick-true, pick-false}
 use Rattle.unicode.specs.Decoding.{decodeAll}

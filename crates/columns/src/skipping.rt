@@ -1,0 +1,67 @@
+// Which widths need not be tried: those that lay a text as one does that was (rule 8, rule 10).
+use crate::width::WIDEST_BOX;
+use meaning::settings::Settings;
+ghost use Prim.Native.Nat.{_≤_};
+ghost use mathlib.Core.Path.{_≡_};
+ghost use Rattle.laws.specs.TabFree.{hasTab};
+ghost use Rattle.rows.specs.RowsFrom.{TextReady};
+ghost use Rattle.columns.specs.Skipping.{byGlyphs, skipsOf, nextWidth, SmallSkips};
+
+// From one width to the next is a step, and from one that is enough on no wider one lays the text otherwise.
+pub struct Skips {
+    pub step: u32,
+    pub enough: u32,
+}
+
+// Is a tab among the characters: it is a byte by itself.
+fn has_tab(text: &[u8]) -> bool
+    ensures { λ r. ⌜ r ≡ hasTab (now (text .entry)) ⌝ }
+{
+    let mut i: usize = 0;
+    while i < text.len() {
+        if text[i] == 9 {
+            return true;
+        }
+        i += 1;
+    }
+    false
+}
+
+// Where a width counts by the glyphs that go into it: left aligned and without tabs.
+fn by_glyphs(s: Settings, text: &[u8]) -> bool
+    ensures { λ r. ⌜ r ≡ byGlyphs s (now (text .entry)) ⌝ }
+{
+    if s.alignment != 0 {
+        return false;
+    }
+    !has_tab(text)
+}
+
+// There a glyph is a step, and a glyph for each byte is enough, since a text has no more characters than bytes. Elsewhere each width is
+// tried.
+pub fn skips_of(s: Settings, text: &[u8]) -> Skips
+    requires { ⌜ TextReady s (now text) ⌝ }
+    ensures { λ r. ⌜ r ≡ skipsOf s (now (text .entry)) ⌝ }
+{
+    if by_glyphs(s, text) {
+        let step = s.glyph.0;
+        let bytes = text.len() as u32;
+        let enough = bytes * step;
+        return Skips { step, enough };
+    }
+    Skips {
+        step: 1,
+        enough: WIDEST_BOX,
+    }
+}
+
+// The width to try after one in which the text did not fit: past them all if that was enough.
+pub fn next_width(skips: Skips, w: u32) -> u32
+    requires { ⌜ SmallSkips skips × (w ≤ 4096) ⌝ }
+    ensures { λ r. ⌜ r ≡ nextWidth skips w ⌝ }
+{
+    if skips.enough <= w {
+        return WIDEST_BOX + 1;
+    }
+    w + skips.step
+}
