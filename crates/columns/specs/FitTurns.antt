@@ -31,9 +31,9 @@ unfoldable pub linesFit : (n : ℕ) → List Entry → Bool
 linesFit n es = leb (length es) n && allKept es
 
 module _ (n : ℕ) (e : Entry) where
-  dropped-fits : (es : List Entry) → (e .dropped .0 ≡ 0 → ⊥) → linesFit n (e ∷ es) ≡ false
+  dropped-fits : (es : List Entry) → 0 < e .dropped .0 → linesFit n (e ∷ es) ≡ false
   unfolding linesFit allKept pick
-  dropped-fits es d = rw (ne-eqb _ _ d) (never (leb (length (e ∷ es)) n))
+  dropped-fits es d = rw (ne-eqb (e .dropped .0) 0 (λ none. omega arith)) (never (leb (length (e ∷ es)) n))
     where
       never : (b : Bool) → b && false ≡ false
       never true = refl
@@ -84,7 +84,7 @@ module _ (s : Settings) (t : List ℕ) (h left : ℕ) (p : Stand) (f : Fitting s
       first-row s t 0 p (λ rs. P (map entryOfRow rs)) (λ rs. rw (sym here) (g (map entryOfRow rs)))
 
   -- It dropped a character.
-  pub fit-dropped : (x .entry .dropped .0 ≡ 0 → ⊥) → false ≡ fitsWhole s h (decodeAll t)
+  pub fit-dropped : 0 < x .entry .dropped .0 → false ≡ fitsWhole s h (decodeAll t)
   fit-dropped d = sym (some-follow (λ es. linesFit left es ≡ false) (λ es. dropped-fits left (x .entry) es d)) ∙ f .same
 
   module _ (kept : x .entry .dropped .0 ≡ 0) where

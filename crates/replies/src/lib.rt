@@ -1,4 +1,5 @@
 // Each answer as C gets it: 0 or the refusal's number, and the value that goes with it.
+pub mod columned;
 pub mod paged;
 
 use checks::refusals::number;

@@ -26,20 +26,20 @@ lay-row-requires c κs = c .loop .inv .ready
 returns : tie.Need-returns Inv-loop μ-loop
 returns c =
     let r = c .before .before in
-    fit-dropped _ _ _ _ _ (r .before .loop .inv) _ (r .lay-row .ensures) (c .if1 .taken)
+    fit-dropped _ _ _ _ _ (r .before .loop .inv) _ (r .lay-row .ensures) (omega (arith, c .if1 .taken))
 
 returns-2 : tie.Need-returns-2 Inv-loop μ-loop
 returns-2 c =
     let d = c .before in
     let r = d .before .before in
-    fit-last _ _ _ _ _ (r .before .loop .inv) _ (r .lay-row .ensures) (d .if1 .left) (c .if2 .taken)
+    fit-last _ _ _ _ _ (r .before .loop .inv) _ (r .lay-row .ensures) (omega (arith, d .if1 .left)) (c .if2 .taken)
 
 returns-3 : tie.Need-returns-3 Inv-loop μ-loop
 returns-3 c =
     let e = c .before in
     let d = e .before in
     let r = d .before .before in
-    fit-full _ _ _ _ _ (r .before .loop .inv) _ (r .lay-row .ensures) (d .if1 .left) (e .if2 .left) (c .if3 .taken)
+    fit-full _ _ _ _ _ (r .before .loop .inv) _ (r .lay-row .ensures) (omega (arith, d .if1 .left)) (e .if2 .left) (omega (arith, c .if3 .taken))
 
 sub-left : tie.Need-sub-left Inv-loop μ-loop
 sub-left c = omega arith
@@ -58,7 +58,7 @@ loop-again c =
     let e = m .before in
     let d = e .before in
     let r = d .before .before in
-    fit-next _ _ _ _ _ (r .before .loop .inv) _ (r .lay-row .ensures) (d .if1 .left) _ (c .next-stand .ensures) (e .if2 .left) (m .if3 .left)
+    fit-next _ _ _ _ _ (r .before .loop .inv) _ (r .lay-row .ensures) (omega (arith, d .if1 .left)) _ (c .next-stand .ensures) (e .if2 .left) (omega (arith, m .if3 .left))
 
 pub fits-whole-spec : {M : Type 1} → statement M
 fits-whole-spec =

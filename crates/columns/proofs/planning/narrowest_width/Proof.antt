@@ -54,7 +54,7 @@ returns : tie.Need-returns Inv-loop μ-loop
 returns c =
     let f = c .before in
     let t = f .before .before in
-    sought-here _ _ _ _ _ (t .before .loop .inv) (t .loop-test .taken) (sym (tried f) ∙ c .if1 .taken)
+    sought-here _ _ _ _ _ (t .before .loop .inv) (omega (arith, t .loop-test .taken)) (sym (tried f) ∙ c .if1 .taken)
 
 next-width-requires : tie.Need-next-width-requires Inv-loop μ-loop
 next-width-requires c κs = let t = c .before .before .before in (t .before .loop .inv .fair .small, t .loop-test .taken)
@@ -71,10 +71,10 @@ loop-again c =
     let e = c .before in
     let f = e .before in
     let t = f .before .before in
-    sought-next _ _ _ _ _ (t .before .loop .inv) (t .loop-test .taken) (sym (tried f) ∙ e .if1 .left) _ (c .next-width .ensures)
+    sought-next _ _ _ _ _ (t .before .loop .inv) (omega (arith, t .loop-test .taken)) (sym (tried f) ∙ e .if1 .left) _ (c .next-width .ensures)
 
 returns-2 : tie.Need-returns-2 Inv-loop μ-loop
-returns-2 c = let l = c .before in sought-none _ _ _ _ _ (l .loop .inv) (c .loop-test .left)
+returns-2 c = let l = c .before in sought-none _ _ _ _ _ (l .loop .inv) (omega (arith, c .loop-test .left))
 
 pub narrowest-width-spec : {M : Type 1} → statement M
 narrowest-width-spec =

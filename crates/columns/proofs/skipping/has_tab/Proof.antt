@@ -1,6 +1,7 @@
 -- `columns::skipping::has_tab` meets its contract. The invariant: a tab is among the bytes exactly if one is among those that are left.
 -- Assumes nothing.
 use Prim.Native.Nat.{_-_}
+use native.Mathlib.Omega.{arith}
 use mathlib.Core.Path.{_≡_, refl, sym, _∙_}
 use borrow.Author.Needs.{needs}
 use lib.ListN.{length, drop}
@@ -25,7 +26,7 @@ returns : tie.Need-returns Inv-loop μ-loop
 returns c =
     let i = c .before .before in
     let l = i .before in
-    sym (tab-found (l .before .args .text .now) (l .loop .i) (i .loop-test .taken) (c .if1 .taken)) ∙ l .loop .inv
+    sym (tab-found (l .before .args .text .now) (l .loop .i) (i .loop-test .taken) (omega (arith, c .if1 .taken))) ∙ l .loop .inv
 
 add-i : tie.Need-add-i Inv-loop μ-loop
 add-i c = search needs
@@ -37,7 +38,7 @@ loop-again : tie.Need-loop-again Inv-loop μ-loop
 loop-again c =
     let i = c .before .before in
     let l = i .before in
-    sym (tab-further (l .before .args .text .now) (l .loop .i) (i .loop-test .taken) (c .if1 .left)) ∙ l .loop .inv
+    sym (tab-further (l .before .args .text .now) (l .loop .i) (i .loop-test .taken) (λ e. omega (arith, c .if1 .left))) ∙ l .loop .inv
 
 returns-2 : tie.Need-returns-2 Inv-loop μ-loop
 returns-2 c =
