@@ -55,16 +55,17 @@ module _ (s : Settings) (t : List ℕ) where
   unfolding byGlyphs
   aligned-left e tab is = rw (eq-eqb (s .alignment) 0 e, is)
 
-  pub skips-glyphs : byGlyphs s t ≡ true → record { step = s .glyph .0; enough = length t * s .glyph .0 } ≡ skipsOf s t
+  pub skips-glyphs : byGlyphs s t ≡ true → (k : Skips) → k .step ≡ s .glyph .0 → k .enough ≡ length t * s .glyph .0 → k ≡ skipsOf s t
   unfolding skipsOf
-  skips-glyphs e = sym (pick-true (byGlyphs s t) _ _ e)
+  skips-glyphs e k step enough = (λ i. record { step = step i; enough = enough i }) ∙ sym (pick-true (byGlyphs s t) _ _ e)
 
   pub skips-none : byGlyphs s t ≡ false → record { step = 1; enough = widestBox } ≡ skipsOf s t
   unfolding skipsOf
   skips-none e = sym (pick-false (byGlyphs s t) _ _ e)
 
-  pub enough-small : TextReady s t → length t * s .glyph .0 ≤ textLimit * 64
-  enough-small r = mul-le-mul (r .short) (r .settings .1)
+-- No glyphs side by side are too wide for a number.
+pub glyphs-small : (n glyph : ℕ) → n ≤ textLimit → glyph ≤ 64 → n * glyph ≤ textLimit * 64
+glyphs-small n glyph h small = mul-le-mul h small
 
 -- It is a wider one.
 pub next-wider : (k : Skips) (w : ℕ) → SmallSkips k → w ≤ widestBox → w < nextWidth k w

@@ -1,8 +1,9 @@
 // Which widths need not be tried: those that lay a text as one does that was (rule 8, rule 10).
 use crate::width::WIDEST_BOX;
 use meaning::settings::Settings;
-ghost use Prim.Native.Nat.{_≤_};
+ghost use Prim.Native.Nat.{_*_, _≤_};
 ghost use mathlib.Core.Path.{_≡_};
+ghost use Rattle.meaning.specs.Checks.{textLimit};
 ghost use Rattle.laws.specs.TabFree.{hasTab};
 ghost use Rattle.rows.specs.RowsFrom.{TextReady};
 ghost use Rattle.columns.specs.Skipping.{byGlyphs, skipsOf, nextWidth, SmallSkips};
@@ -37,6 +38,15 @@ fn by_glyphs(s: Settings, text: &[u8]) -> bool
     !has_tab(text)
 }
 
+// So many glyphs side by side.
+fn glyphs_wide(s: Settings, n: usize) -> u32
+    requires { ⌜ (s .glyph .0 ≤ 64) × (n ≤ textLimit) ⌝ }
+    ensures { λ r. ⌜ r ≡ n * s .glyph .0 ⌝ }
+{
+    let many = n as u32;
+    many * s.glyph.0
+}
+
 // There a glyph is a step, and a glyph for each byte is enough, since a text has no more characters than bytes. Elsewhere each width is
 // tried.
 pub fn skips_of(s: Settings, text: &[u8]) -> Skips
@@ -44,9 +54,8 @@ pub fn skips_of(s: Settings, text: &[u8]) -> Skips
     ensures { λ r. ⌜ r ≡ skipsOf s (now (text .entry)) ⌝ }
 {
     if by_glyphs(s, text) {
-        let step = s.glyph.0;
-        let bytes = text.len() as u32;
-        let enough = bytes * step;
+        let step = glyphs_wide(s, 1);
+        let enough = glyphs_wide(s, text.len());
         return Skips { step, enough };
     }
     Skips {

@@ -35,8 +35,8 @@ with-width-requires c κs = search needs
 fits-whole-requires : tie.Need-fits-whole-requires Inv-loop μ-loop
 fits-whole-requires c κs =
     let t = c .before in
-    let p = t .before .before .before .before .pre in
-    (ready-with _ _ (t .loop-test .taken) _ (p .0) _ (c .with-width .ensures), p .1)
+    let start = t .before .before .before .before in
+    (ready-with (start .args .s) (t .before .loop .w) (omega (arith, t .loop-test .taken)) _ (start .pre .0) _ (c .with-width .ensures), start .pre .1)
 
 -- Whether it fits the width that is tried.
 tried : (c : tie.After-fits-whole Inv-loop μ-loop) →
@@ -57,13 +57,13 @@ returns c =
     sought-here _ _ _ _ _ (t .before .loop .inv) (omega (arith, t .loop-test .taken)) (sym (tried f) ∙ c .if1 .taken)
 
 next-width-requires : tie.Need-next-width-requires Inv-loop μ-loop
-next-width-requires c κs = let t = c .before .before .before in (t .before .loop .inv .fair .small, t .loop-test .taken)
+next-width-requires c κs = let t = c .before .before .before in (t .before .loop .inv .fair .small, omega (arith, t .loop-test .taken))
 
 loop-less : tie.Need-loop-less Inv-loop μ-loop
 loop-less c =
     let t = c .before .before .before .before in
     let l = t .before in
-    let wider = next-wider (l .before .skips-of .result) (l .loop .w) (l .loop .inv .fair .small) (t .loop-test .taken) in
+    let wider = next-wider (l .before .skips-of .result) (l .loop .w) (l .loop .inv .fair .small) (omega (arith, t .loop-test .taken)) in
     omega (arith, t .loop-test .taken, c .next-width .ensures)
 
 loop-again : tie.Need-loop-again Inv-loop μ-loop
