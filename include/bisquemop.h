@@ -21,6 +21,8 @@
  *   bisquemop_choose           a long text if it has at most so many lines, else as much of a short one
  *   bisquemop_pages            lays a text, and lists its pages of so many lines each
  *   bisquemop_pages_again      after an edit, the pages that changed
+ *   bisquemop_columns_fit      does a text have at most so many lines and lose no character
+ *   bisquemop_columns_plan     the smallest box width by which that is so
  *
  * Those that take thirteen settings have a twin bisquemop_settings_.. that takes a struct of them.
  *
@@ -157,7 +159,7 @@ enum bisquemop_showing {
     BISQUEMOP_NO_LINE = 2 /* there is no such line */
 };
 
-/* What *value is where a call looked for a line and there is none. */
+/* What *value is where a call looked for a line, or for a width, and there is none. */
 #define BISQUEMOP_NONE UINT64_MAX
 
 /* The columns of a page: page k's number of a column stands at BISQUEMOP_PAGE_NUMBERS * k + the column. */
@@ -731,6 +733,48 @@ static inline uint32_t bisquemop_settings_pages(const struct bisquemop_settings 
  */
 uint32_t bisquemop_pages_again(const uint32_t *table, uint64_t table_len, uint64_t lines, uint32_t h, uint64_t first,
                                uint32_t *pages, uint64_t pages_len, uint64_t *value);
+
+/*
+ * Says whether the `len` bytes at `text`, laid by the thirteen settings, have at most `h` lines and no line drops a
+ * character. No table is needed: at most `h` lines are laid, and none after the first that drops something. Returns
+ *   BISQUEMOP_OK                    done; *value is 1 if both are so, else 0
+ *   BISQUEMOP_SETTING_OUT_OF_RANGE  `h` is 0, or as by bisquemop_check_settings; *value is 0
+ *   BISQUEMOP_UNKNOWN_ALIGNMENT     as by bisquemop_check_settings; *value is the number that was given
+ *   BISQUEMOP_TEXT_TOO_LONG         as by bisquemop_check_text; *value is `len`
+ *   BISQUEMOP_NOT_UTF8              as by bisquemop_check_text; *value is the length of its longest valid prefix
+ */
+uint32_t bisquemop_columns_fit(uint32_t glyph, uint32_t width, uint32_t tab, uint32_t spacing, uint32_t paragraph,
+                               uint32_t base, uint32_t height, int32_t top, uint32_t alignment, uint32_t vertical,
+                               uint32_t leading, uint32_t trailing, uint32_t wrap, const uint8_t *text, uint64_t len,
+                               uint32_t h, uint64_t *value);
+
+/* The same for settings in a struct, which must not be NULL. */
+static inline uint32_t bisquemop_settings_columns_fit(const struct bisquemop_settings *s, const uint8_t *text,
+                                                      uint64_t len, uint32_t h, uint64_t *value)
+{
+    return bisquemop_columns_fit(s->glyph, s->width, s->tab, s->spacing, s->paragraph, s->base, s->height, s->top,
+                                 s->alignment, s->vertical, s->leading, s->trailing, s->wrap, text, len, h, value);
+}
+
+/*
+ * Proposes a width for the box: the smallest from 0 to 4,096 by which bisquemop_columns_fit says yes, the other
+ * settings being these. A wider box may have more lines than a narrower one, so it is not said that all wider ones are
+ * good too. `width` is checked as any setting, and not used. Returns
+ *   BISQUEMOP_OK                    done; *value is that width, or BISQUEMOP_NONE if there is none
+ * and else what bisquemop_columns_fit returns.
+ */
+uint32_t bisquemop_columns_plan(uint32_t glyph, uint32_t width, uint32_t tab, uint32_t spacing, uint32_t paragraph,
+                                uint32_t base, uint32_t height, int32_t top, uint32_t alignment, uint32_t vertical,
+                                uint32_t leading, uint32_t trailing, uint32_t wrap, const uint8_t *text, uint64_t len,
+                                uint32_t h, uint64_t *value);
+
+/* The same for settings in a struct, which must not be NULL. */
+static inline uint32_t bisquemop_settings_columns_plan(const struct bisquemop_settings *s, const uint8_t *text,
+                                                       uint64_t len, uint32_t h, uint64_t *value)
+{
+    return bisquemop_columns_plan(s->glyph, s->width, s->tab, s->spacing, s->paragraph, s->base, s->height, s->top,
+                                  s->alignment, s->vertical, s->leading, s->trailing, s->wrap, text, len, h, value);
+}
 
 #ifdef __cplusplus
 }
