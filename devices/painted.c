@@ -18,7 +18,8 @@ enum { PAINTED_WORDS = 4096, PAINT = 0x5AFE5AFE, CHARACTERS = 100, TEXT_ROOM = 8
 #define CALLS(DO) \
     DO(check_settings) DO(check_text) DO(tokens) DO(layout) DO(layout_events) DO(open) DO(one_line) \
     DO(first_affected) DO(lay_again) DO(height) DO(line_y) DO(index) DO(index_again) DO(find_line) \
-    DO(write_file) DO(read_file) DO(choose) DO(pages) DO(pages_again)
+    DO(write_file) DO(read_file) DO(choose) DO(pages) DO(pages_again) \
+    DO(columns_fit) DO(columns_plan)
 #define NUMBER(call) AT_##call,
 #define NAME(call) "bisquemop_" #call,
 enum { CALLS(NUMBER) CALL_COUNT };
@@ -143,6 +144,16 @@ static void measure_pages(const struct bisquemop_settings *s, size_t len, uint64
     MEASURE(pages_again, bisquemop_pages_again(TABLE, lines, h, below((uint32_t)lines), PAGES, &value));
 }
 
+/* The widths are tried one by one, until one is good, so that one is asked for at times alone. */
+static void measure_columns(const struct bisquemop_settings *s, size_t len, uint64_t lines)
+{
+    uint64_t value;
+    MEASURE(columns_fit, bisquemop_settings_columns_fit(s, text, len, 1 + below((uint32_t)lines + 1), &value));
+    if (below(4) == 0) {
+        MEASURE(columns_plan, bisquemop_settings_columns_plan(s, text, len, (uint32_t)lines, &value));
+    }
+}
+
 static void measure_edit(const struct bisquemop_settings *s, size_t len, uint64_t lines)
 {
     struct edit e = random_edit(text, len, TEXT_ROOM, inserted);
@@ -172,6 +183,7 @@ int main(int argc, char **argv)
         measure_index(&s, lines);
         measure_file(&s, lines);
         measure_pages(&s, len, lines);
+        measure_columns(&s, len, lines);
         measure_edit(&s, len, lines);
     }
     for (int call = 0; call < CALL_COUNT; call++) {

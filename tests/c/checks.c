@@ -75,6 +75,8 @@ int main(int count, char **words)
     test_choosing();
     printf("pages\n");
     test_pages();
+    printf("box widths for so many lines\n");
+    test_columns();
     printf("justified texts\n");
     test_even();
     printf("layout files\n");

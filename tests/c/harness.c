@@ -570,6 +570,43 @@ void expect_no_choice(const char *what, struct bisquemop_settings s, const struc
     compare_choice(what, s, given, h, &expected);
 }
 
+/* Ends the line of a case that failed with the limit and the text it was given. */
+static void show_limited(uint32_t h, int spread, const uint8_t *text, size_t len)
+{
+    printf(", for %" PRIu32 " lines%s", h, spread ? ", from a struct" : "");
+    show_text(text, len);
+}
+
+void expect_fit(const char *what, struct bisquemop_settings s, const uint8_t *text, size_t len, uint32_t h,
+                uint32_t number, uint64_t value)
+{
+    for (int spread = 0; spread < 2; spread++) {
+        struct answer a = no_answer();
+        a.number = spread ? bisquemop_settings_columns_fit(&s, text, len, h, &a.value)
+                          : bisquemop_columns_fit(s.glyph, s.width, s.tab, s.spacing, s.paragraph, s.base, s.height,
+                                                  s.top, s.alignment, s.vertical, s.leading, s.trailing, s.wrap, text,
+                                                  len, h, &a.value);
+        if (!compare(what, &a, number, value)) {
+            show_limited(h, spread, text, len);
+        }
+    }
+}
+
+void expect_plan(const char *what, struct bisquemop_settings s, const uint8_t *text, size_t len, uint32_t h,
+                 uint32_t number, uint64_t value)
+{
+    for (int spread = 0; spread < 2; spread++) {
+        struct answer a = no_answer();
+        a.number = spread ? bisquemop_settings_columns_plan(&s, text, len, h, &a.value)
+                          : bisquemop_columns_plan(s.glyph, s.width, s.tab, s.spacing, s.paragraph, s.base, s.height,
+                                                   s.top, s.alignment, s.vertical, s.leading, s.trailing, s.wrap, text,
+                                                   len, h, &a.value);
+        if (!compare(what, &a, number, value)) {
+            show_limited(h, spread, text, len);
+        }
+    }
+}
+
 void expect_pages(const char *what, struct bisquemop_settings s, const uint8_t *text, size_t len, uint32_t h,
                   size_t table_room, size_t pages_room, uint32_t number, uint64_t value, const uint32_t *lines,
                   uint64_t page_count, const uint32_t *pages)

@@ -90,6 +90,12 @@ void expect_choice(const char *what, struct bisquemop_settings s, const struct t
 void expect_no_choice(const char *what, struct bisquemop_settings s, const struct two_texts *given, uint32_t h,
                       uint32_t number, uint64_t value);
 
+/* Whether a text has at most `h` lines and loses no character, and the smallest width by which that is so. */
+void expect_fit(const char *what, struct bisquemop_settings s, const uint8_t *text, size_t len, uint32_t h,
+                uint32_t number, uint64_t value);
+void expect_plan(const char *what, struct bisquemop_settings s, const uint8_t *text, size_t len, uint32_t h,
+                 uint32_t number, uint64_t value);
+
 /*
  * The same as a layout with pages of `h` lines and a list of `pages_room` numbers lent. Where the call is done, the two
  * buffers hold `value` lines and `page_count` pages, and the count of pages is written; else it stays as it was.
@@ -175,6 +181,7 @@ void test_characters(void);
 void test_one_line(void);
 void test_choosing(void);
 void test_pages(void);
+void test_columns(void);
 void test_bad_starts(void);
 void test_even(void);
 void test_files(void);

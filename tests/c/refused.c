@@ -1,7 +1,8 @@
 /*
  * bisquemop_lay_again: every refusal of settings, parts and edits, and which comes first. Bad tables are in tables.c,
- * and tables that are too small in again.c. Each setting is tried in bisquemop_open, bisquemop_one_line, bisquemop_choose
- * and bisquemop_pages, too; their other refusals are in bad_starts.c, choosing.c and pages.c.
+ * and tables that are too small in again.c. Each setting is tried in bisquemop_open, bisquemop_one_line, bisquemop_choose,
+ * bisquemop_pages, bisquemop_columns_fit and bisquemop_columns_plan, too; their other refusals are in bad_starts.c,
+ * choosing.c, pages.c and columns.c.
  * Refusal 1, refusal 2, refusal 3, refusal 4, refusal 5, refusal 6.
  */
 #include "harness.h"
@@ -144,7 +145,7 @@ static void test_extremes(void)
     }
 }
 
-/* Settings by which nothing is laid again, no line laid, no text chosen and no page listed. */
+/* Settings by which nothing is laid again, no line laid, no text chosen, no page listed and no width tried. */
 static void expect_settings_refused(const char *what, struct bisquemop_settings s, uint32_t number, uint64_t value)
 {
     static const uint8_t part[] = "  de";
@@ -157,6 +158,8 @@ static void expect_settings_refused(const char *what, struct bisquemop_settings 
     expect_no_line(what, s, part, 4, bad, 0, number, value);
     expect_no_choice(what, s, &texts, 1, number, value);
     expect_pages(what, s, part, 4, 1, 5 * NUMBERS, 5 * BISQUEMOP_PAGE_NUMBERS, number, value, NULL, 0, NULL);
+    expect_fit(what, s, part, 4, 1, number, value);
+    expect_plan(what, s, part, 4, 1, number, value);
 }
 
 /* Each setting is tested. */

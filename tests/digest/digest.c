@@ -247,6 +247,18 @@ static void ask_pages_again(uint64_t first)
     add_numbers(pages, BISQUEMOP_PAGE_NUMBERS * (lines < LONG ? lines + 1 : LONG + 1));
 }
 
+/* All widths may have to be tried, so a width is asked for in some cases alone. */
+static void ask_columns(void)
+{
+    uint64_t value = 0;
+    uint32_t h = random_limit(), number = bisquemop_settings_columns_fit(&settings, text, len, h, &value);
+    add_answer(number, value);
+    if (len < SHORT && seldom(40)) {
+        number = bisquemop_settings_columns_plan(&settings, text, len, h, &value);
+        add_answer(number, value);
+    }
+}
+
 /* ---- an edit */
 
 static struct edit make_edit(void)
@@ -324,6 +336,7 @@ static void one_case(void)
     ask_tokens();
     ask_layout();
     ask_choice();
+    ask_columns();
     ask_pages();
     ask_events();
     ask_lines();

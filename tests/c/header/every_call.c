@@ -35,6 +35,7 @@ uint32_t index_of(struct lent *l);
 uint32_t files(struct lent *l);
 uint32_t choice(struct lent *l, uint32_t h);
 uint32_t pages_of(struct lent *l, uint32_t h);
+uint32_t columns(struct lent *l, uint32_t h);
 uint32_t by_numbers(struct lent *l);
 
 uint32_t checks(struct lent *l)
@@ -149,6 +150,17 @@ uint32_t pages_of(struct lent *l, uint32_t h)
     return refused;
 }
 
+/* The width that is proposed, if there is one. */
+uint32_t columns(struct lent *l, uint32_t h)
+{
+    uint32_t refused = bisquemop_settings_columns_fit(&l->settings, l->text, l->len, h, &l->value);
+    if (refused == BISQUEMOP_OK && l->value == 0) {
+        refused = bisquemop_settings_columns_plan(&l->settings, l->text, l->len, h, &l->value);
+        l->settings.width = l->value == BISQUEMOP_NONE ? l->settings.width : (uint32_t)l->value;
+    }
+    return refused;
+}
+
 /* The same calls, without the struct. */
 #define SETTINGS 6, 30, 24, 10, 0, 8, 48, -2, BISQUEMOP_ALIGN_LEFT, BISQUEMOP_VERTICAL_TOP, 1, 0, BISQUEMOP_WRAP_WAIT
 
@@ -172,5 +184,7 @@ uint32_t by_numbers(struct lent *l)
                                 &l->count);
     refused |= bisquemop_pages(SETTINGS, l->text, l->len, 3, l->table, l->table_len, l->pages, l->pages_len, &l->value,
                                &l->count);
+    refused |= bisquemop_columns_fit(SETTINGS, l->text, l->len, 3, &l->value);
+    refused |= bisquemop_columns_plan(SETTINGS, l->text, l->len, 3, &l->value);
     return refused;
 }
