@@ -1,6 +1,6 @@
 /*
  * A clue on a small screen: laid by the old rule, which drops a word, and where words wait; drawn, edited and laid again.
- * At last a screen reader asks for a character by its number.
+ * Then a level editor asks how wide the box should be, and at last a screen reader for a character by its number.
  *
  * The screen is a grid of characters here. Everything else is as in an app: the library says where each line starts and
  * stands, what is drawn in it and where, what an edit changes, and how many characters a line had to drop. An app must
@@ -210,6 +210,25 @@ static void redraw(struct app *app)
     show(app);
 }
 
+/* ---- a level editor asks how wide the box should be */
+
+/* Says the smallest width by which the clue has at most so many lines and loses nothing, and whether the box it has is
+   as good. */
+static void propose_width(const struct app *app, uint32_t lines)
+{
+    uint64_t fits, width;
+    must("bisquemop_columns_fit", bisquemop_settings_columns_fit(&app->settings, app->text, app->len, lines, &fits),
+         &fits);
+    must("bisquemop_columns_plan", bisquemop_settings_columns_plan(&app->settings, app->text, app->len, lines, &width),
+         &width);
+    printf("  in %" PRIu32 " lines: ", lines);
+    if (width == BISQUEMOP_NONE) {
+        printf("no box will do\n");
+    } else {
+        printf("a box of %" PRIu64 " will do; this one %s\n", width, fits ? "does" : "does not");
+    }
+}
+
 /* ---- a screen reader speaks of characters, and not of bytes */
 
 /* The line that holds a character, counted from 1: the last line with fewer characters before it. */
@@ -268,6 +287,11 @@ int main(void)
     printf("\nThe butler becomes a fianc\u00e9e:\n");
     edit(&app, 19, 25, "fianc\u00e9e");
     redraw(&app);
+
+    printf("\nA level editor asks for a width in pixels, the box being %" PRIu32 ":\n", app.settings.width);
+    for (uint32_t lines = 2; lines <= ROWS; lines++) {
+        propose_width(&app, lines);
+    }
 
     printf("\nA screen reader asks for the 20th character, and for the 40th:\n");
     say_character(&app, 20);
