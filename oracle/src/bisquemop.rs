@@ -112,6 +112,8 @@ mod c {
             text: *const u8, len: u64, h: u32, table: *mut u32, table_len: u64, pages: *mut u32, pages_len: u64,
             value: *mut u64, page_count: *mut u64
         );
+        bisquemop_columns_fit(text: *const u8, len: u64, h: u32, value: *mut u64);
+        bisquemop_columns_plan(text: *const u8, len: u64, h: u32, value: *mut u64);
     }
 
     extern "C" {
@@ -426,6 +428,24 @@ pub fn pages_again(table: &[u32], lines: u64, h: u32, first: u64, pages: &mut [u
     // SAFETY: pointers and lengths are those of two slices, one lent for reading and one for writing, which cannot overlap.
     let number = unsafe { c::bisquemop_pages_again(table.as_ptr(), len_of(table), lines, h, first, list, room, &mut value) };
     answer(number, value)
+}
+
+/// Whether a text has at most so many lines and loses no character.
+pub fn columns_fit(settings: &Settings, text: &[u8], h: u32) -> Result<bool, Refusal> {
+    let mut value = 0;
+    // SAFETY: the pointer and the length are those of a slice that is lent for reading.
+    let number = unsafe { call!(bisquemop_columns_fit, settings, text.as_ptr(), len_of(text), h, &mut value) };
+    let fits = answer(number, value)?;
+    assert!(fits <= 1, "the library answered {fits} for whether a text fits");
+    Ok(fits == 1)
+}
+
+/// The smallest box width by which that is so; none if there is none.
+pub fn columns_plan(settings: &Settings, text: &[u8], h: u32) -> Result<Option<u64>, Refusal> {
+    let mut value = 0;
+    // SAFETY: the pointer and the length are those of a slice that is lent for reading.
+    let number = unsafe { call!(bisquemop_columns_plan, settings, text.as_ptr(), len_of(text), h, &mut value) };
+    answer(number, value).map(|width| (width != u64::MAX).then_some(width))
 }
 
 /// How many bytes of a layout file were written.

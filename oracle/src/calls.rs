@@ -53,6 +53,7 @@ pub fn run(claims: &mut Claims, _specs: &str) {
     indexes(claims);
     choices(claims);
     lists(claims);
+    columns(claims);
 }
 
 fn checks(claims: &mut Claims) {
@@ -286,4 +287,21 @@ fn lists(claims: &mut Claims) {
     claims.equal("pages_again in too little room", again(lines, 1, 0, 8), (Err(Refusal::TooSmall(3)), vec![7; 8]));
     claims.equal("pages_again of no table", again(0, 1, 0, 9), (Err(Refusal::BadLine(0)), vec![7; 9]));
     claims.equal("pages_again of no line", again(0, 0, 0, 9), (Err(Refusal::SettingOutOfRange), vec![7; 9]));
+}
+
+fn columns(claims: &mut Claims) {
+    let fit = |width, text: &str, h| bisquemop::columns_fit(&Settings { width, ..EXAMPLE }, text.as_bytes(), h);
+    let plan = |text: &str, h| bisquemop::columns_plan(&EXAMPLE, text.as_bytes(), h);
+    claims.equal("columns_fit", fit(18, "ab cde", 2), Ok(true));
+    claims.equal("columns_fit in a line too few", fit(18, "ab cde", 1), Ok(false));
+    claims.equal("columns_fit with a word dropped", fit(30, "     ab", 2), Ok(false));
+    claims.equal("columns_fit in no line", fit(30, "", 0), Err(Refusal::SettingOutOfRange));
+    claims.equal("columns_plan", plan("ab cde", 2), Ok(Some(18)));
+    claims.equal("columns_plan of nothing", plan("", 1), Ok(Some(0)));
+    claims.equal("columns_plan where there is none", plan("a\nb", 1), Ok(None));
+    claims.equal("columns_plan in no line", plan("a", 0), Err(Refusal::SettingOutOfRange));
+    for (settings, text, refusal) in refused() {
+        claims.equal("columns_fit", bisquemop::columns_fit(&settings, &text, 9), Err(refusal));
+        claims.equal("columns_plan", bisquemop::columns_plan(&settings, &text, 9), Err(refusal));
+    }
 }

@@ -9,6 +9,8 @@ mod bench;
 mod bisquemop;
 #[cfg(library)]
 mod calls;
+#[cfg(library)]
+mod columns;
 mod compare;
 mod counts;
 mod definitions;
@@ -69,6 +71,7 @@ usage: oracle examples SPECS            the scope's examples, and those of the d
        oracle frames COUNT SEED         lines laid one by one, and from any start and rest, by the library and by the rules
        oracle files COUNT SEED          layout files by chance, whole and damaged, by the library and by a second writer and reader
        oracle pages COUNT SEED          pages, and the choice of a long text or a short one, by the library and by the rules
+       oracle columns COUNT SEED        whether a text fits so many lines, and a width for it, by the library and by the rules
        oracle definitions COUNT SEED    a module of cases by chance, for the prover to compute by the definitions
        oracle record CASES SEED         a sample of the crate's answers, a case a line, for a replay with no Rust at hand
        oracle bench WORK NAME BYTES GLYPHS ALIGNMENT TIMES
@@ -106,6 +109,8 @@ fn main() {
         ["frames", count, seed] => count.parse().ok().zip(seed.parse().ok()).map(|(count, seed)| frames::run(count, seed)),
         #[cfg(library)]
         ["pages", count, seed] => count.parse().ok().zip(seed.parse().ok()).map(|(count, seed)| pages::run(count, seed)),
+        #[cfg(library)]
+        ["columns", count, seed] => count.parse().ok().zip(seed.parse().ok()).map(|(count, seed)| columns::run(count, seed)),
         #[cfg(library)]
         ["files", count, seed] => count.parse().ok().zip(seed.parse().ok()).map(|(count, seed)| files::run(count, seed)),
         #[cfg(library)]
