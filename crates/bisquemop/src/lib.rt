@@ -4,6 +4,8 @@ use checks::refusals::checked_number;
 use checks::refusals::checked_value;
 use checks::settings::check_settings;
 use checks::text::check_text;
+use columns::fitting::columns_fit;
+use columns::planning::plan_columns;
 use files::reader::read_file;
 use files::writer::write_file;
 use frames::frame::one_line;
@@ -26,6 +28,10 @@ use paging::listed::lay_pages;
 use paging::listed::list_again;
 use replies::affected_number;
 use replies::affected_value;
+use replies::columned::fitting_number;
+use replies::columned::fitting_value;
+use replies::columned::planning_number;
+use replies::columned::planning_value;
 use replies::drawing_count;
 use replies::drawing_number;
 use replies::drawing_value;
@@ -71,9 +77,10 @@ ghost use mathlib.Core.Path.{_≡_};
 ghost use Rattle.meaning.specs.Settings.{settingsOf};
 ghost use Rattle.meaning.specs.Refusals.{checkedNumber, checkedValue};
 ghost use Rattle.meaning.specs.Checks.{checkSettings, checkText};
-ghost use Rattle.meaning.specs.Answers.{tokensNumber, tokensValue, layoutNumber, layoutValue, drawingNumber, drawingValue, drawingCount, openNumber, openValue, frameNumber, frameValue, frameRestEnd, frameRestCount, affectedNumber, affectedValue, relayNumber, relayValue, relayCount, heightNumber, heightValue, yNumber, yValue, yPlace, indexNumber, indexValue, findNumber, findValue, writingNumber, writingValue, readingNumber, readingValue, readingLength, choosingNumber, choosingValue, choosingWhich, choosingLeft, pagingNumber, pagingValue, pagingCount, pagingAgainNumber, pagingAgainValue};
+ghost use Rattle.meaning.specs.Answers.{tokensNumber, tokensValue, layoutNumber, layoutValue, drawingNumber, drawingValue, drawingCount, openNumber, openValue, frameNumber, frameValue, frameRestEnd, frameRestCount, affectedNumber, affectedValue, relayNumber, relayValue, relayCount, heightNumber, heightValue, yNumber, yValue, yPlace, indexNumber, indexValue, findNumber, findValue, writingNumber, writingValue, readingNumber, readingValue, readingLength, choosingNumber, choosingValue, choosingWhich, choosingLeft, pagingNumber, pagingValue, pagingCount, pagingAgainNumber, pagingAgainValue, fittingNumber, fittingValue, planningNumber, planningValue};
 ghost use Rattle.meaning.specs.Calls.{tokensAnswer, tokensBuffer, layoutAnswer, layoutTable, drawingAnswer, drawingTable, drawingEvents, openAnswer, frameAnswer, frameEntry, affectedAnswer, relayAnswer, relayTable, heightAnswer, yAnswer, indexAnswer, indexAfter, indexAgainAfter, findAnswer, writingAnswer, writingFile, readingAnswer, readingSettings, readingTable};
 ghost use Rattle.meaning.specs.PageCalls.{choosingAnswer, pagingAnswer, pagingTable, pagingList, pagingAgainAnswer, pagingAgainList};
+ghost use Rattle.meaning.specs.ColumnCalls.{fittingAnswer, planningAnswer};
 ghost use Rattle.bisquemop.specs.Edits.{editOf, restFrom};
 
 // The settings from the thirteen numbers that C passes.
@@ -808,4 +815,88 @@ pub extern "C" fn bisquemop_pages_again(
     let answer = list_again(table, lines as usize, h, first as usize, pages);
     *value = paging_again_value(answer);
     paging_again_number(answer)
+}
+
+#[no_mangle]
+pub extern "C" fn bisquemop_columns_fit(
+    glyph: u32,
+    width: u32,
+    tab: u32,
+    spacing: u32,
+    paragraph: u32,
+    base: u32,
+    height: u32,
+    top: i32,
+    alignment: u32,
+    vertical: u32,
+    leading: u32,
+    trailing: u32,
+    wrap: u32,
+    text: &[u8],
+    h: u32,
+    value: &mut u64,
+) -> u32
+    ensures { λ r. ⌜ r ≡ fittingNumber (fittingAnswer (settingsOf glyph width tab spacing paragraph base height top alignment vertical leading trailing wrap) h (now (text .entry))) ⌝ }
+    ensures { λ r. ⌜ now (value .exit) ≡ fittingValue (fittingAnswer (settingsOf glyph width tab spacing paragraph base height top alignment vertical leading trailing wrap) h (now (text .entry))) ⌝ }
+{
+    let s = settings_from(
+        glyph,
+        width,
+        tab,
+        spacing,
+        paragraph,
+        base,
+        height,
+        top,
+        alignment,
+        vertical,
+        leading,
+        trailing,
+        wrap,
+    );
+    let answer = columns_fit(s, text, h);
+    *value = fitting_value(answer);
+    fitting_number(answer)
+}
+
+#[no_mangle]
+pub extern "C" fn bisquemop_columns_plan(
+    glyph: u32,
+    width: u32,
+    tab: u32,
+    spacing: u32,
+    paragraph: u32,
+    base: u32,
+    height: u32,
+    top: i32,
+    alignment: u32,
+    vertical: u32,
+    leading: u32,
+    trailing: u32,
+    wrap: u32,
+    text: &[u8],
+    h: u32,
+    value: &mut u64,
+) -> u32
+    ensures { λ r. ⌜ r ≡ planningNumber (planningAnswer (settingsOf glyph width tab spacing paragraph base height top alignment vertical leading trailing wrap) h (now (text .entry))) ⌝ }
+    ensures { λ r. ⌜ now (value .exit) ≡ planningValue (planningAnswer (settingsOf glyph width tab spacing paragraph base height top alignment vertical leading trailing wrap) h (now (text .entry))) ⌝ }
+{
+    let s = settings_from(
+        glyph,
+        width,
+        tab,
+        spacing,
+        paragraph,
+        base,
+        height,
+        top,
+        alignment,
+        vertical,
+        leading,
+        trailing,
+        wrap,
+    );
+    let answer = plan_columns(s, text, h);
+    *value = planning_value(answer);
+    planning_number(answer)
 }
