@@ -17,14 +17,16 @@ use Rattle.meaning.specs.declared.answers.Relaid.{Relaid}
 use Rattle.meaning.specs.declared.answers.Indexed.{Indexed}
 use Rattle.meaning.specs.declared.answers.FoundLine.{FoundLine}
 use Rattle.promises.specs.Call.{Meets}
-use Rattle.promises.specs.InsideCalls.{tokenize, layout, layout-with-events, one-line, first-affected, lay-again, make-index, make-index-again, find-line, write-file, read-file, choose, lay-pages, list-again}
-use Rattle.promises.specs.ForCCalls.{c-tokens, c-layout, c-layout-events, c-one-line, c-first-affected, c-lay-again, c-line-y, c-index, c-index-again, c-find-line, c-write-file, c-read-file, c-choose, c-pages, c-pages-again}
+use Rattle.promises.specs.InsideCalls.{tokenize, layout, layout-with-events, one-line, first-affected, lay-again, make-index, make-index-again, find-line, write-file, read-file, choose, lay-pages, list-again, columns-fit, plan-columns}
+use Rattle.promises.specs.ForCCalls.{c-tokens, c-layout, c-layout-events, c-one-line, c-first-affected, c-lay-again, c-line-y, c-index, c-index-again, c-find-line, c-write-file, c-read-file, c-choose, c-pages, c-pages-again, c-columns-fit, c-columns-plan}
 use Rattle.promises.specs.Passed.{Lent, LentNumber, LentSigned, passed, passedEdit, noneLeft, noEditLeft, LentYs}
 use Rattle.meaning.specs.declared.answers.FileWritten.{FileWritten}
 use Rattle.meaning.specs.declared.answers.FileRead.{FileRead}
 use Rattle.meaning.specs.declared.answers.Chosen.{Chosen}
 use Rattle.meaning.specs.declared.answers.Paged.{Paged}
 use Rattle.meaning.specs.declared.answers.PagedAgain.{PagedAgain}
+use Rattle.meaning.specs.declared.answers.Fitted.{Fitted}
+use Rattle.meaning.specs.declared.answers.Planned.{Planned}
 
 -- ---- the calls in Rattle
 
@@ -75,6 +77,12 @@ LayPages κs s text h table pages z after listed =
 abbrev pub ListAgain : (κs : Lfts 2) → (table : Lent) → (lines h first : ℕ) → (pages : Lent) → PagedAgain → (listed : List ℕ) → Type 0
 ListAgain κs table lines h first pages z listed =
     Meets list-again κs (table, (lines, (h, (first, (pages, tt))))) z (tt, (tt, (tt, (tt, (listed, tt)))))
+
+abbrev pub ColumnsFit : (κs : Lfts 1) → Settings → (text : Lent) → (h : ℕ) → Fitted → Type 0
+ColumnsFit κs s text h z = Meets columns-fit κs (s, (text, (h, tt))) z (tt, (tt, (tt, tt)))
+
+abbrev pub PlanColumns : (κs : Lfts 1) → Settings → (text : Lent) → (h : ℕ) → Planned → Type 0
+PlanColumns κs s text h z = Meets plan-columns κs (s, (text, (h, tt))) z (tt, (tt, (tt, tt)))
 
 -- ---- the calls for C
 
@@ -151,3 +159,9 @@ abbrev pub CPagesAgain : (κs : Lfts 3) → (table : Lent) → (lines h first : 
     (value′ : ℕ) → Type 0
 CPagesAgain κs table lines h first pages value z listed value′ =
     Meets c-pages-again κs (table, (lines, (h, (first, (pages, (value, tt)))))) z (tt, (tt, (tt, (tt, (listed, (value′, tt))))))
+
+abbrev pub CColumnsFit : (κs : Lfts 2) → Settings → (text : Lent) → (h : ℕ) → (value : LentNumber) (z value′ : ℕ) → Type 0
+CColumnsFit κs s text h value z value′ = Meets c-columns-fit κs (passed s (text, (h, (value, tt)))) z (noneLeft (tt, (tt, (value′, tt))))
+
+abbrev pub CColumnsPlan : (κs : Lfts 2) → Settings → (text : Lent) → (h : ℕ) → (value : LentNumber) (z value′ : ℕ) → Type 0
+CColumnsPlan κs s text h value z value′ = Meets c-columns-plan κs (passed s (text, (h, (value, tt)))) z (noneLeft (tt, (tt, (value′, tt))))

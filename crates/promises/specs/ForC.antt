@@ -3,7 +3,7 @@
 -- Assumes nothing.
 use Rattle.promises.specs.Call.{AsksNothing, Agrees, agree}
 use Rattle.promises.specs.Passed.{noneLeft}
-use Rattle.promises.specs.ForCCalls.{c-check-settings, c-check-text, c-tokens, c-layout, c-layout-events, c-open, c-one-line, c-first-affected, c-lay-again, c-height, c-line-y, c-index, c-index-again, c-find-line, c-write-file, c-read-file, c-choose, c-pages, c-pages-again}
+use Rattle.promises.specs.ForCCalls.{c-check-settings, c-check-text, c-tokens, c-layout, c-layout-events, c-open, c-one-line, c-first-affected, c-lay-again, c-height, c-line-y, c-index, c-index-again, c-find-line, c-write-file, c-read-file, c-choose, c-pages, c-pages-again, c-columns-fit, c-columns-plan}
 
 -- None of them has a `requires`.
 pub for-c-asks-nothing : AsksNothing c-check-settings
@@ -25,7 +25,11 @@ pub for-c-asks-nothing : AsksNothing c-check-settings
     × AsksNothing c-choose
     × AsksNothing c-pages
     × AsksNothing c-pages-again
+    × AsksNothing c-columns-fit
+    × AsksNothing c-columns-plan
 for-c-asks-nothing = (
+  λ κs a. tt,
+  λ κs a. tt,
   λ κs a. tt,
   λ κs a. tt,
   λ κs a. tt,
@@ -165,3 +169,9 @@ c-pages-again-agrees κs a z z′ ws ws′ p q = (
   agree (p .0) (q .0),
   λ i. (tt, (tt, (tt, (tt, (agree (p .1 .0) (q .1 .0) i, (agree (p .1 .1) (q .1 .1) i, tt)))))),
 )
+
+pub c-columns-fit-agrees : Agrees c-columns-fit
+c-columns-fit-agrees κs a z z′ ws ws′ p q = (agree (p .0) (q .0), λ i. noneLeft (tt, (tt, (agree (p .1) (q .1) i, tt))))
+
+pub c-columns-plan-agrees : Agrees c-columns-plan
+c-columns-plan-agrees κs a z z′ ws ws′ p q = (agree (p .0) (q .0), λ i. noneLeft (tt, (tt, (agree (p .1) (q .1) i, tt))))

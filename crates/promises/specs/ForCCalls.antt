@@ -39,6 +39,10 @@ use Rattle.bisquemop.proofs.bisquemop_pages.Kinds as c-pages-kinds
 use Rattle.bisquemop.proofs.bisquemop_pages.Reads as c-pages-reads
 use Rattle.bisquemop.proofs.bisquemop_pages_again.Kinds as c-pages-again-kinds
 use Rattle.bisquemop.proofs.bisquemop_pages_again.Reads as c-pages-again-reads
+use Rattle.bisquemop.proofs.bisquemop_columns_fit.Kinds as c-columns-fit-kinds
+use Rattle.bisquemop.proofs.bisquemop_columns_fit.Reads as c-columns-fit-reads
+use Rattle.bisquemop.proofs.bisquemop_columns_plan.Kinds as c-columns-plan-kinds
+use Rattle.bisquemop.proofs.bisquemop_columns_plan.Reads as c-columns-plan-reads
 
 -- bisquemop_check_settings
 abbrev pub c-check-settings : Call
@@ -115,3 +119,11 @@ c-pages = callOf 5 c-pages-kinds.ps c-pages-kinds.r c-pages-reads.Asked c-pages-
 -- bisquemop_pages_again
 abbrev pub c-pages-again : Call
 c-pages-again = callOf 3 c-pages-again-kinds.ps c-pages-again-kinds.r c-pages-again-reads.Asked c-pages-again-reads.Learnt
+
+-- bisquemop_columns_fit
+abbrev pub c-columns-fit : Call
+c-columns-fit = callOf 2 c-columns-fit-kinds.ps c-columns-fit-kinds.r c-columns-fit-reads.Asked c-columns-fit-reads.Learnt
+
+-- bisquemop_columns_plan
+abbrev pub c-columns-plan : Call
+c-columns-plan = callOf 2 c-columns-plan-kinds.ps c-columns-plan-kinds.r c-columns-plan-reads.Asked c-columns-plan-reads.Learnt

@@ -2,7 +2,7 @@
 -- Assumes nothing.
 use mathlib.Core.Path.{refl}
 use Rattle.promises.specs.Call.{AsksNothing, Agrees, agree}
-use Rattle.promises.specs.InsideCalls.{check-settings, check-text, tokenize, layout, layout-with-events, open-text, one-line, first-affected, lay-again, text-height, line-y, make-index, make-index-again, find-line, write-file, read-file, choose, lay-pages, list-again}
+use Rattle.promises.specs.InsideCalls.{check-settings, check-text, tokenize, layout, layout-with-events, open-text, one-line, first-affected, lay-again, text-height, line-y, make-index, make-index-again, find-line, write-file, read-file, choose, lay-pages, list-again, columns-fit, plan-columns}
 
 -- None of them has a `requires`.
 pub inside-asks-nothing : AsksNothing check-settings
@@ -24,7 +24,11 @@ pub inside-asks-nothing : AsksNothing check-settings
     × AsksNothing choose
     × AsksNothing lay-pages
     × AsksNothing list-again
+    × AsksNothing columns-fit
+    × AsksNothing plan-columns
 inside-asks-nothing = (
+  λ κs a. tt,
+  λ κs a. tt,
   λ κs a. tt,
   λ κs a. tt,
   λ κs a. tt,
@@ -111,3 +115,9 @@ lay-pages-agrees κs a z z′ ws ws′ p q = (
 
 pub list-again-agrees : Agrees list-again
 list-again-agrees κs a z z′ ws ws′ p q = (agree (p .0) (q .0), λ i. (tt, (tt, (tt, (tt, (agree (p .1) (q .1) i, tt))))))
+
+pub columns-fit-agrees : Agrees columns-fit
+columns-fit-agrees κs a z z′ ws ws′ p q = (agree p q, refl)
+
+pub plan-columns-agrees : Agrees plan-columns
+plan-columns-agrees κs a z z′ ws ws′ p q = (agree p q, refl)

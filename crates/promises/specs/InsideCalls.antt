@@ -39,6 +39,10 @@ use Rattle.paging.proofs.listed.lay_pages.Kinds as lay-pages-kinds
 use Rattle.paging.proofs.listed.lay_pages.Reads as lay-pages-reads
 use Rattle.paging.proofs.listed.list_again.Kinds as list-again-kinds
 use Rattle.paging.proofs.listed.list_again.Reads as list-again-reads
+use Rattle.columns.proofs.fitting.columns_fit.Kinds as columns-fit-kinds
+use Rattle.columns.proofs.fitting.columns_fit.Reads as columns-fit-reads
+use Rattle.columns.proofs.planning.plan_columns.Kinds as plan-columns-kinds
+use Rattle.columns.proofs.planning.plan_columns.Reads as plan-columns-reads
 
 -- checks::settings::check_settings
 abbrev pub check-settings : Call
@@ -115,3 +119,11 @@ lay-pages = callOf 3 lay-pages-kinds.ps lay-pages-kinds.r lay-pages-reads.Asked 
 -- paging::listed::list_again
 abbrev pub list-again : Call
 list-again = callOf 2 list-again-kinds.ps list-again-kinds.r list-again-reads.Asked list-again-reads.Learnt
+
+-- columns::fitting::columns_fit
+abbrev pub columns-fit : Call
+columns-fit = callOf 1 columns-fit-kinds.ps columns-fit-kinds.r columns-fit-reads.Asked columns-fit-reads.Learnt
+
+-- columns::planning::plan_columns
+abbrev pub plan-columns : Call
+plan-columns = callOf 1 plan-columns-kinds.ps plan-columns-kinds.r plan-columns-reads.Asked plan-columns-reads.Learnt

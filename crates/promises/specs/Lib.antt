@@ -22,3 +22,4 @@ pub mod PagesUnwritten
 pub mod PagesRefused
 pub mod PagesListed
 pub mod PagesAgain
+pub mod WidthPlanned
