@@ -16,7 +16,7 @@ use Rattle.meaning.specs.declared.refusals.Checked.the-variants.{Good, Refused}
 use Rattle.meaning.specs.declared.answers.Fitted.the-variants as fitted
 use Rattle.meaning.specs.declared.answers.Planned.{Planned}
 use Rattle.meaning.specs.declared.answers.Planned.the-variants as planned
-use Rattle.laws.specs.TestOrder.{first-alone}
+use Rattle.laws.specs.TestOrder.{first-alone, three-good}
 use Rattle.checks.specs.LimitLaws.{limit-some}
 use Rattle.rows.specs.RowsFrom.{TextReady}
 use Rattle.rows.specs.GoodInput.{text-ready}
@@ -40,14 +40,8 @@ module _ (s : Settings) (h : ℕ) (t : List ℕ) where
   -- Where they refuse nothing, lines can be laid, at least one.
   module _ (good : checkColumns s h t ≡ Good) where
     all-good : (checkLimit h ≡ Good) × (checkSettings s ≡ Good) × (checkText t ≡ Good)
-    unfolding checkColumns firstOf
-    all-good = known (checkLimit h) (checkSettings s) (checkText t) good
-      where
-        known : (a b c : Checked) → firstOf (a ∷ b ∷ c ∷ []) ≡ Good → (a ≡ Good) × (b ≡ Good) × (c ≡ Good)
-        known Good Good Good e = (refl, refl, refl)
-        known Good Good (Refused r) e = (refl, refl, e)
-        known Good (Refused r) c e = (refl, e, cc)
-        known (Refused r) b c e = (e, cc, cc)
+    unfolding checkColumns
+    all-good = three-good (checkLimit h) (checkSettings s) (checkText t) good
 
     pub good-limit : 1 ≤ h
     good-limit = limit-some h (all-good .0)
