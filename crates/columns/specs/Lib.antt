@@ -4,3 +4,6 @@ pub mod OtherWidths
 pub mod Tabs
 pub mod Skipping
 pub mod WidthTurns
+pub mod Letters
+pub mod WordRoom
+pub mod LettersFit

@@ -1,0 +1,95 @@
+-- The characters of words, counted among others: no space run has one, nor do the tokens of one character (rule 2).
+-- Assumes nothing.
+use Prim.Native.Nat.{ℕ, zero, suc, _+_, _≤_}
+use mathlib.Core.Path.{_≡_, refl, sym, ap, _∙_}
+use mathlib.Core.Bool.{Bool, true, false, false≢true}
+use mathlib.Core.Logic.{_⊎_, inl, inr}
+use mathlib.Core.List.{List, [], _∷_, _++_}
+use native.Mathlib.Omega.{arith}
+use lib.ListN.{length, take, drop, take-append-drop}
+use Rattle.basis.specs.Choice.{pick, pick-cases}
+use Rattle.meaning.specs.Characters.{Class, lf, cr, ht, shy, zwsp, blank, letter, classOf, wordClass, inWord, runClass, inRun}
+use Rattle.meaning.specs.Tokens.{Tok, newLine, carriageReturn, tab, softHyphen, space, word, tokens}
+use Rattle.meaning.specs.LineIter.{Held}
+use Rattle.meaning.specs.Line.{heldTokens, lineTokens}
+use Rattle.laws.specs.Spell.{spell}
+use Rattle.laws.specs.Runs.{Pass}
+use Rattle.laws.specs.Longest.{Longest, AllLongest, Alone, Spaces, tokens-longest}
+
+-- How many of these characters are of words.
+unfoldable pub letters : List ℕ → ℕ
+letters [] = 0
+letters (c ∷ cs) =
+    let n = letters cs in
+    pick (inWord c) (suc n) n
+
+-- ---- of parts of a text
+
+pub letters-append : (xs ys : List ℕ) → letters (xs ++ ys) ≡ letters xs + letters ys
+unfolding letters pick
+letters-append [] ys = omega arith
+letters-append (x ∷ xs) ys = one-more (inWord x) (letters (xs ++ ys)) (letters xs) (letters-append xs ys)
+  where
+    one-more : (b : Bool) (m n : ℕ) → m ≡ n + letters ys → pick b (suc m) m ≡ pick b (suc n) n + letters ys
+    one-more true m n e = omega arith
+    one-more false m n e = e
+
+pub letters-few : (cs : List ℕ) → letters cs ≤ length cs
+unfolding letters
+letters-few [] = omega arith
+letters-few (c ∷ cs) =
+    let h = letters-few cs in
+    pick-cases (λ n. n ≤ suc (length cs)) (inWord c) (λ _. omega arith) (λ _. omega arith)
+
+pub letters-split : (k : ℕ) (cs : List ℕ) → letters cs ≡ letters (take k cs) + letters (drop k cs)
+letters-split k cs = ap letters (sym (take-append-drop k cs)) ∙ letters-append (take k cs) (drop k cs)
+
+-- ---- of space runs
+
+no-letter : (k : Class) → runClass k ≡ true → wordClass k ≡ false
+no-letter blank e = refl
+no-letter zwsp e = refl
+no-letter lf e = refl
+no-letter cr e = refl
+no-letter ht e = refl
+no-letter shy e = refl
+no-letter letter e = absurd (false≢true e)
+
+run-free : (cs : List ℕ) → Pass inRun cs → letters cs ≡ 0
+unfolding letters pick inWord inRun
+run-free [] h = refl
+run-free (c ∷ cs) h = rw (no-letter (classOf c) (h .0)) (run-free cs (h .1))
+
+-- No space run of these tokens has a character of a word.
+abbrev pub FreeRuns : List Tok → Type 0
+FreeRuns [] = Unit {0}
+FreeRuns (newLine ∷ ts) = FreeRuns ts
+FreeRuns (carriageReturn ∷ ts) = FreeRuns ts
+FreeRuns (tab ∷ ts) = FreeRuns ts
+FreeRuns (softHyphen ∷ ts) = FreeRuns ts
+FreeRuns (space cs n e ∷ ts) = (letters cs ≡ 0) × FreeRuns ts
+FreeRuns (word cs e ∷ ts) = FreeRuns ts
+
+longest-run : (cs : List ℕ) (n e : ℕ) (rest : List ℕ) → Longest (space cs n e) rest → letters cs ≡ 0
+unfolding inRun classOf pick
+longest-run cs n e rest (inl a) = ap letters (a .is) ∙ run-free (0x200B ∷ []) (refl, tt)
+longest-run cs n e rest (inr b) = run-free cs (b .all)
+
+longest-free : (ts : List Tok) → AllLongest ts → FreeRuns ts
+longest-free [] h = tt
+longest-free (newLine ∷ ts) h = longest-free ts (h .1)
+longest-free (carriageReturn ∷ ts) h = longest-free ts (h .1)
+longest-free (tab ∷ ts) h = longest-free ts (h .1)
+longest-free (softHyphen ∷ ts) h = longest-free ts (h .1)
+longest-free (space cs n e ∷ ts) h = (longest-run cs n e (spell ts) (h .0), longest-free ts (h .1))
+longest-free (word cs e ∷ ts) h = longest-free ts (h .1)
+
+held-free : (n count : ℕ) (cs : List ℕ) → letters (take n cs) ≡ 0 → FreeRuns (heldTokens n count cs)
+unfolding heldTokens
+held-free zero count cs h = longest-free (tokens cs) (tokens-longest cs)
+held-free (suc k) count cs h = (h, longest-free (tokens (drop (suc k) cs)) (tokens-longest (drop (suc k) cs)))
+
+-- Nor has one of a line's, if what is held before it has none.
+pub line-free : (h : Held) (cs : List ℕ) → letters (take (h .chars) cs) ≡ 0 → FreeRuns (lineTokens h cs)
+unfolding lineTokens
+line-free h cs = held-free (h .chars) (h .count) cs
