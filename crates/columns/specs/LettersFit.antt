@@ -52,3 +52,49 @@ module _ (s : Settings) (h : Held) (cs : List ℕ) (f : FitsIn cs h) (free : let
       rw (line-tokens-cover h cs) at
       (pass-room s ts (startPlace s (p .left .0) (p .spaces)) 0 (line-tokens-sound h cs (f .0) (f .1)) (line-free h cs free)
       (record { width = refl; low = left-by }) .held)
+
+-- ---- a text
+
+module _ (s : Settings) where
+  -- The lines of a text, none of which drops anything, have room for its word characters, if none is held before it.
+  abbrev HaveRoom : (start before : ℕ) → Held → List ℕ → List Row → Type 0
+  HaveRoom start before h cs rs =
+      letters (take (h .chars) cs) ≡ 0 → DropNothing (map entryOfRow rs) → letters cs * s .glyph .0 ≤ length rs * s .width .0
+
+  last-has : (start before : ℕ) (h : Held) (cs : List ℕ) → FitsIn cs h → layLine s h cs .ended ≡ EndOfText
+      → HaveRoom start before h cs (rowAt start before h cs (layLine s h cs) ∷ [])
+  unfolding rowAt entryAt letters
+  last-has start before h cs f e free kept =
+      let past : length cs ≤ layLine s h cs .chars = omega (arith, line-end s h cs (f .0) (f .1) e .0) in
+      let all : drop (layLine s h cs .chars) cs ≡ [] = drop-of-length-le cs past in
+      let line = rw all at (line-room s h cs f free (kept .0)) in
+      omega (arith, line, one-mul (s .width .0), zero-mul (s .glyph .0))
+
+  more-have : (start before : ℕ) (h : Held) (cs : List ℕ) → FitsIn cs h → (layLine s h cs .ended ≡ EndOfText → ⊥) → (r : Row) (rs : List Row)
+      → HaveRoom 0 0 (layLine s h cs .held) (drop (layLine s h cs .chars) cs) (r ∷ rs)
+      → HaveRoom start before h cs (rowAt start before h cs (layLine s h cs) ∷ r ∷ rs)
+  unfolding rowAt entryAt
+  more-have start before h cs f _ r rs after free kept =
+      let line = line-room s h cs f free (kept .0) in
+      let others = after (line-held-free s h cs f free) (kept .1) in
+      let one : suc (length (r ∷ rs)) * s .width .0 ≡ s .width .0 + length (r ∷ rs) * s .width .0 = omega arith in
+      omega (arith, line, others, one)
+
+  pub layout-room : (cs : List ℕ) → DropNothing (layout s cs) → letters cs * s .glyph .0 ≤ length (layout s cs) * s .width .0
+  unfolding layout rows letters
+  layout-room cs kept =
+      let all = each-row s HaveRoom last-has more-have (mostLines cs) 0 0 nothingHeld cs (omega arith) (omega arith, omega arith) refl kept in
+      subst (λ (n : ℕ). letters cs * s .glyph .0 ≤ n * s .width .0) (sym (length-map (rows s cs) entryOfRow)) all
+
+-- A width in which the text fits h lines whole has room in them.
+pub fits-room : (s : Settings) (w h : ℕ) (cs : List ℕ) → fitsWhole (withWidth s w) h cs ≡ true → letters cs * s .glyph .0 ≤ h * w
+unfolding withWidth
+fits-room s w h cs e =
+    let both = fits-says (withWidth s w) h cs .0 e in
+    let room = layout-room (withWidth s w) cs (both .1) in
+    omega (arith, room, mul-le-mul-right w (both .0))
+
+-- So in none that has not it fits.
+pub narrow-none : (s : Settings) (w h : ℕ) (cs : List ℕ) → h * w < letters cs * s .glyph .0 → fitsWhole (withWidth s w) h cs ≡ false
+narrow-none s w h cs less =
+    by-test (fitsWhole (withWidth s w) h cs) (λ e. absurd (omega (arith, fits-room s w h cs e))) (λ e. e)
