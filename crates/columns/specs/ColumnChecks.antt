@@ -1,22 +1,21 @@
 -- The tests of the two calls, in their order, and what each leaves (refusal 1, refusal 2, refusal 3, refusal 4).
 -- Assumes nothing.
 use Prim.Native.Nat.{ℕ, _≤_}
-use mathlib.Core.Path.{_≡_, refl, sym}
+use mathlib.Core.Path.{_≡_, sym}
 use mathlib.Core.Bool.{true, false}
 use mathlib.Core.List.{List, [], _∷_}
+use lib.ListN.{length}
 use Rattle.basis.specs.Choice.{pick-true, pick-false}
 use Rattle.unicode.specs.Decoding.{decodeAll}
-use Rattle.meaning.specs.Checks.{firstOf, checkLimit, checkSettings, checkText}
+use Rattle.meaning.specs.Checks.{firstOf, checkLimit, checkSettings, checkLength, checkUtf8, checkText}
 use Rattle.meaning.specs.Columns.{fitsWhole, narrowest}
 use Rattle.meaning.specs.ColumnCalls.{checkColumns, fittingAnswer, planningAnswer}
 use Rattle.meaning.specs.declared.settings.Settings.{Settings}
 use Rattle.meaning.specs.declared.refusals.Refusal.{Refusal}
-use Rattle.meaning.specs.declared.refusals.Checked.{Checked}
 use Rattle.meaning.specs.declared.refusals.Checked.the-variants.{Good, Refused}
 use Rattle.meaning.specs.declared.answers.Fitted.the-variants as fitted
-use Rattle.meaning.specs.declared.answers.Planned.{Planned}
 use Rattle.meaning.specs.declared.answers.Planned.the-variants as planned
-use Rattle.laws.specs.TestOrder.{first-alone, three-good}
+use Rattle.laws.specs.TestOrder.{first-alone, none-refuses, three-good}
 use Rattle.checks.specs.LimitLaws.{limit-some}
 use Rattle.rows.specs.RowsFrom.{TextReady}
 use Rattle.rows.specs.GoodInput.{text-ready}
@@ -48,6 +47,10 @@ module _ (s : Settings) (h : ℕ) (t : List ℕ) where
 
     pub good-ready : TextReady s t
     good-ready = text-ready s (all-good .1) t (all-good .2)
+
+    pub good-utf8 : checkUtf8 t ≡ Good
+    unfolding checkText
+    good-utf8 = none-refuses (checkUtf8 t) [] (none-refuses (checkLength (length t)) (checkUtf8 t ∷ []) (all-good .2) .1) .0
 
   -- ---- the check of a width
 

@@ -3,7 +3,7 @@
 use Prim.Native.Nat.{ℕ, zero, suc, _+_, _≤_}
 use mathlib.Core.Path.{_≡_, refl, sym, ap, _∙_}
 use mathlib.Core.Bool.{Bool, true, false, false≢true}
-use mathlib.Core.Logic.{_⊎_, inl, inr}
+use mathlib.Core.Logic.{inl, inr}
 use mathlib.Core.List.{List, [], _∷_, _++_}
 use native.Mathlib.Omega.{arith}
 use lib.ListN.{length, take, drop, take-append-drop}
@@ -14,35 +14,39 @@ use Rattle.meaning.specs.LineIter.{Held}
 use Rattle.meaning.specs.Line.{heldTokens, lineTokens}
 use Rattle.laws.specs.Spell.{spell}
 use Rattle.laws.specs.Runs.{Pass}
-use Rattle.laws.specs.Longest.{Longest, AllLongest, Alone, Spaces, tokens-longest}
+use Rattle.laws.specs.Longest.{Longest, AllLongest, tokens-longest}
+
+-- How many of these numbers pass a test.
+unfoldable pub howMany : (ℕ → Bool) → List ℕ → ℕ
+howMany f [] = 0
+howMany f (c ∷ cs) =
+    let n = howMany f cs in
+    pick (f c) (suc n) n
 
 -- How many of these characters are of words.
-unfoldable pub letters : List ℕ → ℕ
-letters [] = 0
-letters (c ∷ cs) =
-    let n = letters cs in
-    pick (inWord c) (suc n) n
+abbrev pub letters : List ℕ → ℕ
+letters = howMany inWord
 
 -- ---- of parts of a text
 
-pub letters-append : (xs ys : List ℕ) → letters (xs ++ ys) ≡ letters xs + letters ys
-unfolding letters pick
-letters-append [] ys = omega arith
-letters-append (x ∷ xs) ys = one-more (inWord x) (letters (xs ++ ys)) (letters xs) (letters-append xs ys)
+pub many-append : (f : ℕ → Bool) (xs ys : List ℕ) → howMany f (xs ++ ys) ≡ howMany f xs + howMany f ys
+unfolding howMany pick
+many-append f [] ys = omega arith
+many-append f (x ∷ xs) ys = one-more (f x) (howMany f (xs ++ ys)) (howMany f xs) (many-append f xs ys)
   where
-    one-more : (b : Bool) (m n : ℕ) → m ≡ n + letters ys → pick b (suc m) m ≡ pick b (suc n) n + letters ys
+    one-more : (b : Bool) (m n : ℕ) → m ≡ n + howMany f ys → pick b (suc m) m ≡ pick b (suc n) n + howMany f ys
     one-more true m n e = omega arith
     one-more false m n e = e
 
-pub letters-few : (cs : List ℕ) → letters cs ≤ length cs
-unfolding letters
-letters-few [] = omega arith
-letters-few (c ∷ cs) =
-    let h = letters-few cs in
-    pick-cases (λ n. n ≤ suc (length cs)) (inWord c) (λ _. omega arith) (λ _. omega arith)
+pub many-few : (f : ℕ → Bool) (cs : List ℕ) → howMany f cs ≤ length cs
+unfolding howMany
+many-few f [] = omega arith
+many-few f (c ∷ cs) =
+    let h = many-few f cs in
+    pick-cases (λ n. n ≤ suc (length cs)) (f c) (λ _. omega arith) (λ _. omega arith)
 
 pub letters-split : (k : ℕ) (cs : List ℕ) → letters cs ≡ letters (take k cs) + letters (drop k cs)
-letters-split k cs = ap letters (sym (take-append-drop k cs)) ∙ letters-append (take k cs) (drop k cs)
+letters-split k cs = ap letters (sym (take-append-drop k cs)) ∙ many-append inWord (take k cs) (drop k cs)
 
 -- ---- of space runs
 
@@ -56,7 +60,7 @@ no-letter shy e = refl
 no-letter letter e = absurd (false≢true e)
 
 run-free : (cs : List ℕ) → Pass inRun cs → letters cs ≡ 0
-unfolding letters pick inWord inRun
+unfolding howMany pick inWord inRun
 run-free [] h = refl
 run-free (c ∷ cs) h = rw (no-letter (classOf c) (h .0)) (run-free cs (h .1))
 

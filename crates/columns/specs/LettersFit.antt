@@ -1,15 +1,15 @@
 -- A text that fits so many lines whole has room in them for the characters of its words: a line is as wide as the box at most. So it fits
 -- in no width that is too narrow for them (rule 8, rule 10).
 -- Assumes nothing.
-use Prim.Native.Nat.{ℕ, zero, suc, _+_, _*_, _≤_, _<_}
-use mathlib.Core.Path.{_≡_, refl, sym, ap, subst, _∙_}
+use Prim.Native.Nat.{ℕ, suc, _+_, _*_, _≤_, _<_}
+use mathlib.Core.Path.{_≡_, refl, sym, subst}
 use mathlib.Core.Bool.{true, false}
 use mathlib.Core.List.{List, [], _∷_, map}
-use native.Mathlib.Nat.{add-mul, one-mul, zero-mul, mul-le-mul-right}
+use native.Mathlib.Nat.{one-mul, zero-mul, mul-le-mul-right}
 use native.Mathlib.Omega.{arith}
 use lib.ListN.{length, take, drop, length-map, drop-of-length-le}
 use Rattle.basis.specs.Choice.{by-test}
-use Rattle.meaning.specs.LineIter.{Held, nothingHeld, process}
+use Rattle.meaning.specs.LineIter.{Held, nothingHeld}
 use Rattle.meaning.specs.Line.{lineTokens, startPlace, measuring, placing, lineOf, layLine, entryAt}
 use Rattle.meaning.specs.Layout.{Row, rowAt, mostLines, rows, entryOfRow, layout}
 use Rattle.meaning.specs.Columns.{fitsWhole, withWidth}
@@ -21,8 +21,8 @@ use Rattle.laws.specs.InsideBox.{left-inside}
 use Rattle.laws.specs.RowInduction.{FitsIn, each-row}
 use Rattle.laws.specs.NothingDropped.{DropNothing}
 use Rattle.laws.specs.NarrowestWidth.{fits-says}
-use Rattle.columns.specs.Letters.{letters, line-free}
-use Rattle.columns.specs.WordRoom.{Room, pass-room}
+use Rattle.columns.specs.Letters.{howMany, letters, line-free}
+use Rattle.columns.specs.WordRoom.{pass-room}
 
 -- ---- a line
 
@@ -63,7 +63,7 @@ module _ (s : Settings) where
 
   last-has : (start before : ℕ) (h : Held) (cs : List ℕ) → FitsIn cs h → layLine s h cs .ended ≡ EndOfText
       → HaveRoom start before h cs (rowAt start before h cs (layLine s h cs) ∷ [])
-  unfolding rowAt entryAt letters
+  unfolding rowAt entryAt howMany
   last-has start before h cs f e free kept =
       let past : length cs ≤ layLine s h cs .chars = omega (arith, line-end s h cs (f .0) (f .1) e .0) in
       let all : drop (layLine s h cs .chars) cs ≡ [] = drop-of-length-le cs past in
@@ -81,7 +81,7 @@ module _ (s : Settings) where
       omega (arith, line, others, one)
 
   pub layout-room : (cs : List ℕ) → DropNothing (layout s cs) → letters cs * s .glyph .0 ≤ length (layout s cs) * s .width .0
-  unfolding layout rows letters
+  unfolding layout rows howMany
   layout-room cs kept =
       let all = each-row s HaveRoom last-has more-have (mostLines cs) 0 0 nothingHeld cs (omega arith) (omega arith, omega arith) refl kept in
       subst (λ (n : ℕ). letters cs * s .glyph .0 ≤ n * s .width .0) (sym (length-map (rows s cs) entryOfRow)) all

@@ -7,3 +7,5 @@ pub mod WidthTurns
 pub mod Letters
 pub mod WordRoom
 pub mod LettersFit
+pub mod LeadBytes
+pub mod FirstWidth

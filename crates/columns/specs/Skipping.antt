@@ -5,7 +5,7 @@ use Prim.Native.Nat.{ℕ, suc, _+_, _*_, _/_, _≤_, _<_}
 use mathlib.Core.Path.{_≡_, sym, ap, _∙_}
 use mathlib.Core.Bool.{Bool, true, false, _&&_, not}
 use mathlib.Core.List.{List}
-use native.Mathlib.Nat.{zero-mul, one-mul, add-mul, mul-le-mul, mul-le-mul-right, zero-div, div-one, le-div-iff-mul-le, div-lt-iff-lt-mul, add-div-right}
+use native.Mathlib.Nat.{one-mul, add-mul, mul-le-mul, mul-le-mul-right, div-one, le-div-iff-mul-le, div-lt-iff-lt-mul, add-div-right}
 use native.Mathlib.Omega.{arith}
 use borrow.Author.Tests.{eq-eqb, ne-eqb, eqb-true, not-true}
 use lib.Dec.{eqb, leb}
@@ -118,9 +118,6 @@ module _ (s : Settings) (t : List ℕ) (r : TextReady s t) where
 -- ---- whole steps
 
 module _ (k : Skips) (small : SmallSkips k) where
-  pub none-whole : Whole k 0
-  none-whole = ap (λ (n : ℕ). n * k .step) (zero-div (k .step)) ∙ zero-mul (k .step)
-
   module _ (w : ℕ) (whole : Whole k w) where
     pub next-whole : Whole k (w + k .step)
     next-whole = rw (add-div-right w (small .0), add-mul (w / k .step) 1 (k .step), one-mul (k .step)) (ap (λ (n : ℕ). n + k .step) whole)

@@ -1,7 +1,7 @@
 -- One turn of the loop that tries widths.
 -- Assumes nothing.
 use Prim.Native.Nat.{ℕ, suc, _+_, _-_, _≤_, _<_}
-use mathlib.Core.Path.{_≡_, refl, sym, ap, _∙_}
+use mathlib.Core.Path.{_≡_, sym, ap, _∙_}
 use mathlib.Core.Bool.{true, false}
 use mathlib.Core.List.{List}
 use native.Mathlib.Omega.{arith}
@@ -13,7 +13,7 @@ use Rattle.meaning.specs.Columns.{fitsWhole, withWidth, narrowestFrom, widestBo
 use Rattle.meaning.specs.declared.settings.Settings.{Settings}
 use Rattle.meaning.specs.declared.answers.Planned.the-variants.{Width, NoWidth}
 use Rattle.laws.specs.NarrowestWidth.{NoneFits, narrowest-here, narrowest-skip}
-use Rattle.columns.specs.Skipping.{nextWidth, Whole, SkipsFairly, none-whole, next-whole, same-whole}
+use Rattle.columns.specs.Skipping.{nextWidth, Whole, SkipsFairly, next-whole, same-whole}
 use Rattle.columns.specs.declared.skipping.Skips.{Skips}
 
 module _ (s : Settings) (h : ℕ) (cs : List ℕ) where
@@ -23,10 +23,6 @@ module _ (s : Settings) (h : ℕ) (cs : List ℕ) where
     pub low : w ≤ widestBox + 64
     pub whole : w ≤ widestBox → Whole k w
     pub same : narrowestFrom s h cs w (suc widestBox - w) ≡ narrowest s h cs
-
-  pub sought-start : (k : Skips) → SkipsFairly s cs k → Sought k 0
-  unfolding narrowest
-  sought-start k fair = record { fair = fair; low = omega arith; whole = λ _. none-whole k (fair .small); same = refl }
 
   -- None is left.
   none-left : (w : ℕ) → widestBox < w → narrowestFrom s h cs w (suc widestBox - w) ≡ NoWidth
@@ -50,6 +46,13 @@ module _ (s : Settings) (h : ℕ) (cs : List ℕ) where
           ap (narrowestFrom s h cs w) all
           ∙ narrowest-skip s h cs (x - w) (suc widestBox - x) w (λ v c d. g v c (omega arith))
           ∙ ap (λ (y : ℕ). narrowestFrom s h cs y (suc widestBox - x)) there
+
+  -- A search may begin with any width of whole steps, if in no narrower one the text fits.
+  pub sought-from : (k : Skips) → SkipsFairly s cs k → (w : ℕ) → w ≤ widestBox + 64 → (w ≤ widestBox → Whole k w)
+      → ((v : ℕ) → v < w → fitsWhole (withWidth s v) h cs ≡ false) → Sought k w
+  unfolding narrowest
+  sought-from k fair w low whole none =
+      record { fair = fair; low = low; whole = whole; same = sym (pass-to 0 w (omega arith) (omega arith) (λ v _ less _. none v less)) }
 
   module _ (k : Skips) (w : ℕ) (f : Sought k w) where
     -- All are tried.

@@ -1,15 +1,15 @@
 -- Each character of a word that a pass takes moves the cursor by a glyph, and the cursor does not pass the box: so a line that drops
 -- nothing has room for its word characters, and a text for all of them (rule 4, rule 8, rule 9, rule 10).
 -- Assumes nothing.
-use Prim.Native.Nat.{ℕ, zero, suc, _+_, _*_, _/_, _≤_, _<_, min}
-use mathlib.Core.Path.{_≡_, refl, sym, ap, subst, _∙_}
-use mathlib.Core.Bool.{Bool, true, false, _&&_, _||_, not}
-use mathlib.Core.List.{List, [], _∷_, _++_, map}
-use native.Mathlib.Nat.{add-mul, zero-mul, one-mul, div-mul-le-self, mul-le-mul-right}
+use Prim.Native.Nat.{ℕ, _+_, _*_, _/_, _≤_, min}
+use mathlib.Core.Path.{_≡_, refl, ap, _∙_}
+use mathlib.Core.Bool.{Bool, true, _&&_, _||_, not}
+use mathlib.Core.List.{List, [], _∷_, _++_}
+use native.Mathlib.Nat.{add-mul, zero-mul, div-mul-le-self, mul-le-mul-right}
 use native.Mathlib.Omega.{arith}
 use borrow.Author.Tests.{leb-true}
 use lib.Dec.{eqb}
-use lib.ListN.{length, take, drop, length-take, length-drop, length-map}
+use lib.ListN.{length, take, drop, length-take, length-drop}
 use lib.Seq.{take-append-le, drop-append-le, drop-append-add}
 use Rattle.basis.specs.Choice.{pick, pick-cases}
 use Rattle.meaning.specs.Tokens.{Tok, newLine, carriageReturn, tab, softHyphen, space, word, charsOf, sizeOf, needOf}
@@ -17,16 +17,16 @@ use Rattle.meaning.specs.Cursor.{roomOf, fitsIn, advance, hasMoved, tabWidth}
 use Rattle.meaning.specs.SpaceConfig.{spacesWidth}
 use Rattle.meaning.specs.Lookahead.{Looked}
 use Rattle.meaning.specs.Characters.{classOf, inWord}
-use Rattle.meaning.specs.LineIter.{Held, Step, go, stop, heldAfter, skips, cutRun, onSpace, onTab, hyphenated, onBreak, wrapOn, unfitWord, cutWord, onWord, step, Ran, passOn, process}
+use Rattle.meaning.specs.LineIter.{Step, go, stop, heldAfter, skips, cutRun, onSpace, onTab, hyphenated, onBreak, wrapOn, unfitWord, cutWord, onWord, step, Ran, passOn, process}
 use Rattle.meaning.specs.declared.settings.Settings.{Settings}
 use Rattle.meaning.specs.declared.cursor.Spaces.{Spaces}
 use Rattle.meaning.specs.declared.cursor.Place.{Place}
 use Rattle.meaning.specs.declared.cursor.NextWord.{NextWord}
 use Rattle.meaning.specs.declared.cursor.NextWord.the-variants.{Nothing, Width}
-use Rattle.laws.specs.Spell.{textOf, spell, SoundTok, Sound}
+use Rattle.laws.specs.Spell.{textOf, spell, Sound}
 use Rattle.laws.specs.TokenLaws.{chars-text}
 use Rattle.laws.specs.Steps.{SoundStep, step-sound}
-use Rattle.columns.specs.Letters.{letters, letters-append, letters-few, letters-split, FreeRuns}
+use Rattle.columns.specs.Letters.{howMany, letters, many-append, many-few, letters-split, FreeRuns}
 
 -- The cursor stands in the box.
 pub record InBox (s : Settings) (p : Place) : Type 0 where
@@ -52,7 +52,7 @@ none-of k cs e = (omega (arith, letters-split k cs), omega (arith, letters-split
 
 -- No characters have none.
 nothing-of : (cs : List ℕ) → letters (take 0 cs) ≡ 0
-unfolding letters
+unfolding howMany
 nothing-of cs = refl
 
 module _ (s : Settings) (p : Place) (at : ℕ) (f : InBox s p) where
@@ -123,7 +123,7 @@ module _ (s : Settings) (p : Place) (at : ℕ) (f : InBox s p) where
   -- So many characters of a word are taken, for which there is room.
   part-room : (cs : List ℕ) (k : ℕ) → k * g ≤ roomOf (p .cursor) → position + letters (take k cs) * g ≤ s .width .0
   part-room cs k h =
-      let few : letters (take k cs) ≤ k = omega (arith, letters-few (take k cs), length-take k cs) in
+      let few : letters (take k cs) ≤ k = omega (arith, many-few inWord (take k cs), length-take k cs) in
       omega (arith, room-is, mul-le-mul-right g few)
 
   none-room : (cs : List ℕ) → position + letters (take 0 cs) * g ≤ s .width .0
@@ -133,7 +133,7 @@ module _ (s : Settings) (p : Place) (at : ℕ) (f : InBox s p) where
   unfolding onWord cutWord unfitWord
   word-room cs =
       pick-cases (Roomy s p cs) (fitsIn (p .cursor) (length cs * g))
-      (λ e. moves cs _ _ _ (fits-by _ e) (mul-le-mul-right g (letters-few cs))) λ _.
+      (λ e. moves cs _ _ _ (fits-by _ e) (mul-le-mul-right g (many-few inWord cs))) λ _.
       pick-cases (Roomy s p cs) (p .empty)
       (λ _.
       pick-cases (Roomy s p cs) (eqb (roomOf (p .cursor) / g) 0)
@@ -143,7 +143,7 @@ module _ (s : Settings) (p : Place) (at : ℕ) (f : InBox s p) where
       (λ _. (λ _. none-room cs, nothing-of cs))
 
   step-room : (t : Tok) (ts : List Tok) → FreeRuns (t ∷ ts) → Roomy s p (textOf t) (step s p at t ts)
-  unfolding step letters pick inWord classOf
+  unfolding step howMany pick inWord classOf
   step-room newLine ts h = ends (textOf newLine) refl 1 0 0
   step-room carriageReturn ts h = ends (textOf carriageReturn) refl 1 0 0
   step-room tab ts h = tab-room (textOf tab) refl _
@@ -161,7 +161,7 @@ pub record Room (s : Settings) (p : Place) (cs : List ℕ) (r : Ran) : Type 0 wh
 module _ (s : Settings) where
   -- A token and what stands after it.
   letters-apart : (xs ys : List ℕ) → letters (xs ++ ys) * s .glyph .0 ≡ letters xs * s .glyph .0 + letters ys * s .glyph .0
-  letters-apart xs ys = ap (λ (n : ℕ). n * s .glyph .0) (letters-append xs ys) ∙ add-mul (letters xs) (letters ys) (s .glyph .0)
+  letters-apart xs ys = ap (λ (n : ℕ). n * s .glyph .0) (many-append inWord xs ys) ∙ add-mul (letters xs) (letters ys) (s .glyph .0)
 
   letters-parted : (k : ℕ) (cs : List ℕ) → letters cs * s .glyph .0 ≡ letters (take k cs) * s .glyph .0 + letters (drop k cs) * s .glyph .0
   letters-parted k cs = ap (λ (n : ℕ). n * s .glyph .0) (letters-split k cs) ∙ add-mul (letters (take k cs)) (letters (drop k cs)) (s .glyph .0)
@@ -202,7 +202,7 @@ module _ (s : Settings) where
 
   -- From where the cursor stands in the box.
   pub pass-room : (ts : List Tok) (p : Place) (at : ℕ) → Sound ts → FreeRuns ts → InBox s p → Room s p (spell ts) (process s p at ts)
-  unfolding process spell letters
+  unfolding process spell howMany
   pass-room [] p at sound free f = record { room = λ _. omega (arith, f .low); held = refl }
   pass-room (t ∷ ts) p at sound free f =
       room-on p (at + needOf t) t (spell ts) (step s p at t ts) (λ q. process s q (at + sizeOf t) ts)

@@ -3,4 +3,5 @@ mod checked;
 pub mod fitting;
 pub mod planning;
 mod skipping;
+mod starting;
 mod width;

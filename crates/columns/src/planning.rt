@@ -4,6 +4,7 @@ use crate::checked::check_columns;
 use crate::fitting::fits_whole;
 use crate::skipping::next_width;
 use crate::skipping::skips_of;
+use crate::starting::first_width;
 use crate::width::WIDEST_BOX;
 use crate::width::with_width;
 use meaning::answers::Planned;
@@ -12,17 +13,19 @@ use meaning::settings::Settings;
 ghost use Prim.Native.Nat.{_≤_};
 ghost use mathlib.Core.Path.{_≡_};
 ghost use Rattle.unicode.specs.Decoding.{decodeAll};
+ghost use Rattle.meaning.specs.Checks.{checkUtf8};
+ghost use Rattle.meaning.specs.declared.refusals.Checked.the-variants.{Good};
 ghost use Rattle.meaning.specs.Columns.{narrowest};
 ghost use Rattle.meaning.specs.ColumnCalls.{planningAnswer};
 ghost use Rattle.rows.specs.RowsFrom.{TextReady};
 
-// The smallest width of all. Those that lay the text as one does in which it did not fit are passed over.
+// The smallest width of all. Those are passed over that have no room for its words, or lay the text as one does in which it did not fit.
 fn narrowest_width(s: Settings, text: &[u8], h: u32) -> Planned
-    requires { ⌜ TextReady s (now text) × (1 ≤ h) ⌝ }
+    requires { ⌜ TextReady s (now text) × (1 ≤ h) × (checkUtf8 (now text) ≡ Good) ⌝ }
     ensures { λ r. ⌜ r ≡ narrowest s h (decodeAll (now (text .entry))) ⌝ }
 {
     let skips = skips_of(s, text);
-    let mut w: u32 = 0;
+    let mut w = first_width(s, text, h, skips);
     while w <= WIDEST_BOX {
         let tried = with_width(s, w);
         if fits_whole(text, tried, h) {

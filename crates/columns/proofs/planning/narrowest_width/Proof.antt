@@ -10,7 +10,8 @@ use Rattle.meaning.specs.Columns.{fitsWhole, withWidth}
 use Rattle.meaning.specs.declared.settings.Settings.{Settings}
 use Rattle.columns.specs.OtherWidths.{ready-with}
 use Rattle.columns.specs.Skipping.{SkipsFairly, skips-fairly, next-wider}
-use Rattle.columns.specs.WidthTurns.{Sought, sought-start, sought-none, sought-here, sought-next}
+use Rattle.columns.specs.WidthTurns.{Sought, sought-none, sought-here, sought-next}
+use Rattle.columns.specs.FirstWidth.{sought-first}
 use Rattle.columns.proofs.planning.narrowest_width.Statement.{statement}
 use Rattle.columns.proofs.planning.narrowest_width.Tie as tie
 
@@ -23,11 +24,25 @@ abbrev μ-loop : tie.MeasureT-loop
 skips-of-requires : tie.Need-skips-of-requires Inv-loop μ-loop
 skips-of-requires c κs = c .before .pre .0
 
-loop-holds : tie.Need-loop-holds Inv-loop μ-loop
-loop-holds c =
+-- What is passed over is so fairly.
+fairly : (c : tie.After-skips-of Inv-loop μ-loop) →
+    let a = c .before .before .args in
+    SkipsFairly (a .s) (decodeAll (a .text .now)) (c .skips-of .result)
+fairly c =
     let start = c .before .before in
     let a = start .args in
-    sought-start _ _ _ _ (subst (SkipsFairly (a .s) (decodeAll (a .text .now))) (sym (c .skips-of .ensures)) (skips-fairly (a .s) (a .text .now) (start .pre .0)))
+    subst (SkipsFairly (a .s) (decodeAll (a .text .now))) (sym (c .skips-of .ensures)) (skips-fairly (a .s) (a .text .now) (start .pre .0))
+
+first-width-requires : tie.Need-first-width-requires Inv-loop μ-loop
+first-width-requires c κs = let start = c .before .before in (start .pre .0, start .pre .1, fairly c .small)
+
+loop-holds : tie.Need-loop-holds Inv-loop μ-loop
+loop-holds c =
+    let k = c .before in
+    let start = k .before .before in
+    let a = start .args in
+    subst (Sought (a .s) (a .h) (decodeAll (a .text .now)) (k .skips-of .result)) (sym (c .first-width .ensures))
+    (sought-first (a .s) (a .text .now) (start .pre .2) (a .h) (start .pre .1) (k .skips-of .result) (fairly k))
 
 with-width-requires : tie.Need-with-width-requires Inv-loop μ-loop
 with-width-requires c κs = search needs
@@ -35,16 +50,16 @@ with-width-requires c κs = search needs
 fits-whole-requires : tie.Need-fits-whole-requires Inv-loop μ-loop
 fits-whole-requires c κs =
     let t = c .before in
-    let start = t .before .before .before .before in
+    let start = t .before .before .before .before .before in
     (ready-with (start .args .s) (t .before .loop .w) (omega (arith, t .loop-test .taken)) _ (start .pre .0) _ (c .with-width .ensures), start .pre .1)
 
 -- Whether it fits the width that is tried.
 tried : (c : tie.After-fits-whole Inv-loop μ-loop) →
     let l = c .before .before .before in
-    let a = l .before .before .before .args in
+    let a = l .before .before .before .before .args in
     c .fits-whole .result ≡ fitsWhole (withWidth (a .s) (l .loop .w)) (a .h) (decodeAll (a .text .now))
 tried c =
-    let a = c .before .before .before .before .before .before .args in
+    let a = c .before .before .before .before .before .before .before .args in
     c .fits-whole .ensures ∙ ap (λ (x : Settings). fitsWhole x (a .h) (decodeAll (a .text .now))) (c .before .with-width .ensures)
 
 cast-t9 : tie.Need-cast-t9 Inv-loop μ-loop
@@ -63,7 +78,7 @@ loop-less : tie.Need-loop-less Inv-loop μ-loop
 loop-less c =
     let t = c .before .before .before .before in
     let l = t .before in
-    let wider = next-wider (l .before .skips-of .result) (l .loop .w) (l .loop .inv .fair .small) (omega (arith, t .loop-test .taken)) in
+    let wider = next-wider (l .before .before .skips-of .result) (l .loop .w) (l .loop .inv .fair .small) (omega (arith, t .loop-test .taken)) in
     omega (arith, t .loop-test .taken, c .next-width .ensures)
 
 loop-again : tie.Need-loop-again Inv-loop μ-loop
@@ -83,6 +98,7 @@ narrowest-width-spec =
     Inv-loop
     μ-loop
     skips-of-requires
+    first-width-requires
     loop-holds
     with-width-requires
     fits-whole-requires

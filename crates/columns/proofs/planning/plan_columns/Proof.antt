@@ -4,7 +4,7 @@ use mathlib.Core.Path.{_≡_, sym, _∙_}
 use borrow.Author.Needs.{needs}
 use Rattle.meaning.specs.ColumnCalls.{checkColumns}
 use Rattle.meaning.specs.declared.refusals.Checked.the-variants.{Good}
-use Rattle.columns.specs.ColumnChecks.{good-limit, good-ready, planning-refused, planning-done}
+use Rattle.columns.specs.ColumnChecks.{good-limit, good-ready, good-utf8, planning-refused, planning-done}
 use Rattle.columns.proofs.planning.plan_columns.Statement.{statement}
 use Rattle.columns.proofs.planning.plan_columns.Tie as tie
 
@@ -27,7 +27,7 @@ passed : (c : tie.After-enum-told) →
 passed c = sym (c .before .before .check-columns .ensures) ∙ c .enum-told .given .1
 
 narrowest-width-requires : tie.Need-narrowest-width-requires
-narrowest-width-requires c κs = (good-ready _ _ _ (passed c), good-limit _ _ _ (passed c))
+narrowest-width-requires c κs = (good-ready _ _ _ (passed c), good-limit _ _ _ (passed c), good-utf8 _ _ _ (passed c))
 
 returns-2 : tie.Need-returns-2
 returns-2 c = c .narrowest-width .ensures ∙ planning-done _ _ _ (passed (c .before))

@@ -1,0 +1,63 @@
+// The width that a search begins with: in a narrower one the words of a text have no room (rule 8, rule 10).
+use crate::skipping::Skips;
+use crate::skipping::glyphs_wide;
+use crate::width::WIDEST_BOX;
+use meaning::settings::Settings;
+ghost use Prim.Native.Nat.{_≤_};
+ghost use mathlib.Core.Path.{_≡_};
+ghost use Rattle.rows.specs.RowsFrom.{TextReady};
+ghost use Rattle.columns.specs.Letters.{howMany};
+ghost use Rattle.columns.specs.LeadBytes.{leads};
+ghost use Rattle.columns.specs.Skipping.{SmallSkips};
+ghost use Rattle.columns.specs.FirstWidth.{firstWidth, wordsWide};
+
+// A byte that begins a character of a word, whatever follows it.
+fn begins_word(b: u8) -> bool
+    ensures { λ r. ⌜ r ≡ leads b ⌝ }
+{
+    if b < 0x21 {
+        return false;
+    }
+    if b < 0x80 {
+        return true;
+    }
+    if b < 0xC3 {
+        return false;
+    }
+    if b < 0xE1 {
+        return true;
+    }
+    0xE4 <= b
+}
+
+// So many are among these.
+fn word_bytes(text: &[u8]) -> usize
+    ensures { λ r. ⌜ r ≡ howMany leads (now (text .entry)) ⌝ }
+{
+    let mut n: usize = 0;
+    let mut i: usize = 0;
+    while i < text.len() {
+        if begins_word(text[i]) {
+            n += 1;
+            i += 1;
+        } else {
+            i += 1;
+        }
+    }
+    n
+}
+
+// Each of h lines takes its part of the words at least: whole steps of that, or past all widths.
+pub fn first_width(s: Settings, text: &[u8], h: u32, skips: Skips) -> u32
+    requires { ⌜ TextReady s (now text) × (1 ≤ h) × SmallSkips skips ⌝ }
+    ensures { λ r. ⌜ r ≡ firstWidth skips (wordsWide s (now (text .entry))) h ⌝ }
+{
+    let many = word_bytes(text);
+    let wide = glyphs_wide(s, many);
+    let least = wide / h;
+    if WIDEST_BOX < least {
+        return WIDEST_BOX + 1;
+    }
+    let step = skips.step;
+    least / step * step
+}
