@@ -6,7 +6,8 @@ use mathlib.Core.Bool.{Bool, true, false, false≢true}
 use mathlib.Core.Logic.{inl, inr}
 use mathlib.Core.List.{List, [], _∷_, _++_}
 use native.Mathlib.Omega.{arith}
-use lib.ListN.{length, take, drop, take-append-drop}
+use lib.ListN.{length, take, drop, take-append-drop, length-drop}
+use lib.Seq.{take-append-le, drop-append-le}
 use Rattle.basis.specs.Choice.{pick, pick-cases}
 use Rattle.meaning.specs.Characters.{Class, lf, cr, ht, shy, zwsp, blank, letter, classOf, wordClass, inWord, runClass, inRun}
 use Rattle.meaning.specs.Tokens.{Tok, newLine, carriageReturn, tab, softHyphen, space, word, tokens}
@@ -45,8 +46,17 @@ many-few f (c ∷ cs) =
     let h = many-few f cs in
     pick-cases (λ n. n ≤ suc (length cs)) (f c) (λ _. omega arith) (λ _. omega arith)
 
-pub letters-split : (k : ℕ) (cs : List ℕ) → letters cs ≡ letters (take k cs) + letters (drop k cs)
-letters-split k cs = ap letters (sym (take-append-drop k cs)) ∙ many-append inWord (take k cs) (drop k cs)
+pub many-split : (f : ℕ → Bool) (k : ℕ) (cs : List ℕ) → howMany f cs ≡ howMany f (take k cs) + howMany f (drop k cs)
+many-split f k cs = ap (howMany f) (sym (take-append-drop k cs)) ∙ many-append f (take k cs) (drop k cs)
+
+-- Where there are none, no part has one.
+pub none-of : (f : ℕ → Bool) (k : ℕ) (cs : List ℕ) → howMany f cs ≡ 0 → (howMany f (take k cs) ≡ 0) × (howMany f (drop k cs) ≡ 0)
+none-of f k cs e = (omega (arith, many-split f k cs), omega (arith, many-split f k cs))
+
+-- A part of what stands in front, behind its first characters.
+pub part-first : (k j : ℕ) (xs cs : List ℕ) → k + j ≤ length xs → take j (drop k (xs ++ cs)) ≡ take j (drop k xs)
+part-first k j xs cs h =
+    ap (take j) (drop-append-le k xs cs (omega arith)) ∙ take-append-le j (drop k xs) cs (rw length-drop (omega arith))
 
 -- ---- of space runs
 

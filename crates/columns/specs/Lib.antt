@@ -9,3 +9,5 @@ pub mod WordRoom
 pub mod LettersFit
 pub mod LeadBytes
 pub mod FirstWidth
+pub mod HardBreaks
+pub mod BreakBytes

@@ -26,7 +26,7 @@ use Rattle.meaning.specs.declared.cursor.NextWord.the-variants.{Nothing, Width}
 use Rattle.laws.specs.Spell.{textOf, spell, Sound}
 use Rattle.laws.specs.TokenLaws.{chars-text}
 use Rattle.laws.specs.Steps.{SoundStep, step-sound}
-use Rattle.columns.specs.Letters.{howMany, letters, many-append, many-few, letters-split, FreeRuns}
+use Rattle.columns.specs.Letters.{howMany, letters, many-append, many-few, many-split, none-of, part-first, FreeRuns}
 
 -- The cursor stands in the box.
 pub record InBox (s : Settings) (p : Place) : Type 0 where
@@ -45,10 +45,6 @@ EndsThere s p cs k h d =
 abbrev Roomy : Settings → Place → List ℕ → Step → Type 0
 Roomy s p cs (go q ds r) = GoesOn s p cs q
 Roomy s p cs (stop e ds k h d r) = EndsThere s p cs k (h .chars) d
-
--- Of none there is no part.
-none-of : (k : ℕ) (cs : List ℕ) → letters cs ≡ 0 → (letters (take k cs) ≡ 0) × (letters (drop k cs) ≡ 0)
-none-of k cs e = (omega (arith, letters-split k cs), omega (arith, letters-split k cs))
 
 -- No characters have none.
 nothing-of : (cs : List ℕ) → letters (take 0 cs) ≡ 0
@@ -91,8 +87,8 @@ module _ (s : Settings) (p : Place) (at : ℕ) (f : InBox s p) where
 
     ends : (k h d : ℕ) → EndsThere s p cs k h d
     ends k h d = (
-      λ _. omega (arith, f .low, no-width (letters (take k cs)) (none-of k cs none .0)),
-      none-of h (drop k cs) (none-of k cs none .1) .0,
+      λ _. omega (arith, f .low, no-width (letters (take k cs)) (none-of inWord k cs none .0)),
+      none-of inWord h (drop k cs) (none-of inWord k cs none .1) .0,
     )
 
     space-room : (n : ℕ) (look : Looked) → Roomy s p cs (onSpace s p at cs n look)
@@ -153,6 +149,10 @@ module _ (s : Settings) (p : Place) (at : ℕ) (f : InBox s p) where
 
 -- ---- a pass
 
+-- What is left of a text after a token and k characters more.
+pub past-token : (t : Tok) (cs : List ℕ) (k : ℕ) → drop (charsOf t + k) (textOf t ++ cs) ≡ drop k cs
+past-token t cs k = rw (chars-text t) (drop-append-add (textOf t) cs k)
+
 -- What a pass over the text cs takes of it has room, if it drops nothing, and nothing of a word is held.
 pub record Room (s : Settings) (p : Place) (cs : List ℕ) (r : Ran) : Type 0 where
   pub room : r .dropped ≡ 0 → p .cursor .position .0 + letters cs * s .glyph .0 ≤ s .width .0 + letters (drop (r .chars) cs) * s .glyph .0
@@ -164,11 +164,7 @@ module _ (s : Settings) where
   letters-apart xs ys = ap (λ (n : ℕ). n * s .glyph .0) (many-append inWord xs ys) ∙ add-mul (letters xs) (letters ys) (s .glyph .0)
 
   letters-parted : (k : ℕ) (cs : List ℕ) → letters cs * s .glyph .0 ≡ letters (take k cs) * s .glyph .0 + letters (drop k cs) * s .glyph .0
-  letters-parted k cs = ap (λ (n : ℕ). n * s .glyph .0) (letters-split k cs) ∙ add-mul (letters (take k cs)) (letters (drop k cs)) (s .glyph .0)
-
-  -- What is left of a text after a token and k characters more.
-  past-token : (t : Tok) (cs : List ℕ) (k : ℕ) → drop (charsOf t + k) (textOf t ++ cs) ≡ drop k cs
-  past-token t cs k = rw (chars-text t) (drop-append-add (textOf t) cs k)
+  letters-parted k cs = ap (λ (n : ℕ). n * s .glyph .0) (many-split inWord k cs) ∙ add-mul (letters (take k cs)) (letters (drop k cs)) (s .glyph .0)
 
   room-on : (p : Place) (here : ℕ) (t : Tok) (cs : List ℕ) (x : Step) (more : Place → Ran) → SoundStep (charsOf t) p x
       → Roomy s p (textOf t) x → ((q : Place) → InBox s q → Room s q cs (more q))
@@ -185,11 +181,9 @@ module _ (s : Settings) where
       let xs = textOf t in
       let inside : k + h .chars ≤ length xs = omega (arith, sound .within, chars-text t) in
       let first : take k (xs ++ cs) ≡ take k xs = take-append-le k xs cs (omega arith) in
-      let later : take (h .chars) (drop k (xs ++ cs)) ≡ take (h .chars) (drop k xs) =
-      ap (take (h .chars)) (drop-append-le k xs cs (omega arith)) ∙ take-append-le (h .chars) (drop k xs) cs (rw length-drop (omega arith)) in
       record {
         room = λ z. omega (arith, letters-parted k (xs ++ cs), x .0 z, ap (λ (ys : List ℕ). letters ys * s .glyph .0) first);
-        held = ap letters later ∙ x .1;
+        held = ap letters (part-first k (h .chars) xs cs inside) ∙ x .1;
       }
 
   rest-free : (t : Tok) (ts : List Tok) → FreeRuns (t ∷ ts) → FreeRuns ts
