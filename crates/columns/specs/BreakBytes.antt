@@ -1,15 +1,11 @@
 -- LF and CR are bytes by themselves: there are as many among a text's characters as among its bytes, at least (rule 2, Table 3-6).
 -- Assumes nothing.
-use Prim.Native.Nat.{ℕ, _+_, _/_, _≤_, _<_}
+use Prim.Native.Nat.{ℕ, _+_, _/_, _≤_}
 use mathlib.Core.Path.{_≡_, refl, subst}
-use mathlib.Core.Bool.{true, false}
 use mathlib.Core.List.{List, [], _∷_}
-use native.Mathlib.Numerals.{add-one}
 use native.Mathlib.Omega.{arith}
 use borrow.Author.Tests.{ne-eqb}
 use lib.Dec.{ltb}
-use lib.ListN.{length, getD, drop, drop-of-length-le}
-use lib.Seq.{drop-cons}
 use Rattle.basis.specs.Choice.{pick, pick-cases}
 use Rattle.unicode.specs.Encoding.{trail, encode, encodeAll}
 use Rattle.unicode.specs.Decoding.{decodeAll}

@@ -1,23 +1,23 @@
 -- A line takes one LF or CR at most, as its last character: so a text has a line more than it has of these, in any width (rule 2,
 -- rule 8, rule 10).
 -- Assumes nothing.
-use Prim.Native.Nat.{ℕ, zero, suc, _+_, _/_, _%_, _≤_, _<_}
+use Prim.Native.Nat.{ℕ, zero, suc, _+_, _≤_, _<_}
 use mathlib.Core.Path.{_≡_, refl, sym, ap, subst, _∙_}
 use mathlib.Core.Bool.{Bool, true, false, false≢true}
 use mathlib.Core.Logic.{inl, inr}
-use mathlib.Core.List.{List, [], _∷_, _++_, map}
+use mathlib.Core.List.{List, [], _∷_, _++_}
 use native.Mathlib.Omega.{arith}
-use borrow.Author.Tests.{ne-eqb, eqb-true}
+use borrow.Author.Tests.{eqb-true}
 use lib.Dec.{eqb}
-use lib.ListN.{length, take, drop, length-map, drop-of-length-le}
+use lib.ListN.{length, take, drop, length-map}
 use lib.Seq.{take-append-le}
 use Rattle.basis.specs.Choice.{pick, pick-cases, by-test}
-use Rattle.meaning.specs.Characters.{Class, lf, cr, ht, shy, zwsp, blank, letter, classOf, inWord, inRun}
+use Rattle.meaning.specs.Characters.{classOf, inWord, inRun}
 use Rattle.meaning.specs.Tokens.{Tok, newLine, carriageReturn, tab, softHyphen, space, word, charsOf, sizeOf, needOf, tokens}
 use Rattle.meaning.specs.LineIter.{Held, nothingHeld, Step, go, stop, step, Ran, passOn, process}
 use Rattle.meaning.specs.Line.{heldTokens, lineTokens, startPlace, measuring, placing, lineOf, layLine}
-use Rattle.meaning.specs.Layout.{Row, rowAt, mostLines, rows, entryOfRow, layout}
-use Rattle.meaning.specs.Columns.{fitsWhole, withWidth}
+use Rattle.meaning.specs.Layout.{Row, mostLines, rows, entryOfRow, layout}
+use Rattle.meaning.specs.Columns.{fitsWhole}
 use Rattle.meaning.specs.declared.settings.Settings.{Settings}
 use Rattle.meaning.specs.declared.cursor.Place.{Place}
 use Rattle.meaning.specs.declared.line.LineEnd.the-variants.{EndOfText}
@@ -27,10 +27,9 @@ use Rattle.laws.specs.Longest.{Longest, AllLongest, tokens-longest}
 use Rattle.laws.specs.TokenLaws.{chars-text}
 use Rattle.laws.specs.Steps.{SoundStep, step-sound}
 use Rattle.laws.specs.LineTokens.{line-tokens-cover, line-tokens-sound}
-use Rattle.laws.specs.LineBounds.{line-end}
 use Rattle.laws.specs.RowInduction.{FitsIn, each-row}
 use Rattle.laws.specs.NarrowestWidth.{fits-says}
-use Rattle.columns.specs.Letters.{howMany, many-append, many-few, many-split, none-of, part-first}
+use Rattle.columns.specs.Letters.{howMany, many-append, many-split, none-of, part-first}
 use Rattle.columns.specs.WordRoom.{past-token}
 
 -- LF or CR: as a character, and as a byte.

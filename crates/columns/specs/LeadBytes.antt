@@ -6,12 +6,9 @@ use mathlib.Core.Path.{_≡_, refl, sym, subst}
 use mathlib.Core.Bool.{Bool, true, false, _&&_, false≢true}
 use mathlib.Core.List.{List, [], _∷_}
 use native.Mathlib.Nat.{mod-lt}
-use native.Mathlib.Numerals.{add-one}
 use native.Mathlib.Omega.{arith}
 use borrow.Author.Tests.{lt-ltb, le-ltb, ne-eqb, ltb-true, ltb-false, leb-true}
 use lib.Dec.{ltb, leb}
-use lib.ListN.{length, getD, drop, drop-of-length-le}
-use lib.Seq.{drop-cons}
 use Rattle.basis.specs.Choice.{pick, pick-cases, by-test}
 use Rattle.basis.specs.Order.{by-lt}
 use Rattle.basis.specs.Tables.{agree-below}
@@ -116,19 +113,6 @@ char-leads c =
     pick-cases P (ltb c 0x10000) (λ e. three-bytes c (ltb-false c 0x800 d) (ltb-true c 0x10000 e)) (λ e. four-bytes c (ltb-false c 0x10000 e))
 
 -- ---- a text
-
--- Its bytes one after the other.
-module _ (t : List ℕ) (i : ℕ) where
-  pub lead-more : i < length t → leads (getD t i 0) ≡ true → howMany leads (drop i t) ≡ 1 + howMany leads (drop (i + 1) t)
-  unfolding howMany pick
-  lead-more h e = rw (add-one, drop-cons t i 0 h, e) (omega arith)
-
-  pub lead-none : i < length t → leads (getD t i 0) ≡ false → howMany leads (drop i t) ≡ howMany leads (drop (i + 1) t)
-  unfolding howMany pick
-  lead-none h e = rw (add-one, drop-cons t i 0 h, e)
-
-  pub lead-end : length t ≤ i → howMany leads (drop i t) ≡ 0
-  lead-end h = rw (drop-of-length-le t h) no-more
 
 encoded-leads : (cs : List ℕ) → howMany leads (encodeAll cs) ≤ letters cs
 unfolding encodeAll

@@ -1,13 +1,14 @@
 -- The characters of words, counted among others: no space run has one, nor do the tokens of one character (rule 2).
 -- Assumes nothing.
-use Prim.Native.Nat.{ℕ, zero, suc, _+_, _≤_}
+use Prim.Native.Nat.{ℕ, zero, suc, _+_, _≤_, _<_}
 use mathlib.Core.Path.{_≡_, refl, sym, ap, _∙_}
 use mathlib.Core.Bool.{Bool, true, false, false≢true}
 use mathlib.Core.Logic.{inl, inr}
 use mathlib.Core.List.{List, [], _∷_, _++_}
+use native.Mathlib.Numerals.{add-one}
 use native.Mathlib.Omega.{arith}
-use lib.ListN.{length, take, drop, take-append-drop, length-drop}
-use lib.Seq.{take-append-le, drop-append-le}
+use lib.ListN.{length, getD, take, drop, take-append-drop, length-drop, drop-of-length-le}
+use lib.Seq.{drop-cons, take-append-le, drop-append-le}
 use Rattle.basis.specs.Choice.{pick, pick-cases}
 use Rattle.meaning.specs.Characters.{Class, lf, cr, ht, shy, zwsp, blank, letter, classOf, wordClass, inWord, runClass, inRun}
 use Rattle.meaning.specs.Tokens.{Tok, newLine, carriageReturn, tab, softHyphen, space, word, tokens}
@@ -57,6 +58,20 @@ none-of f k cs e = (omega (arith, many-split f k cs), omega (arith, many-split f
 pub part-first : (k j : ℕ) (xs cs : List ℕ) → k + j ≤ length xs → take j (drop k (xs ++ cs)) ≡ take j (drop k xs)
 part-first k j xs cs h =
     ap (take j) (drop-append-le k xs cs (omega arith)) ∙ take-append-le j (drop k xs) cs (rw length-drop (omega arith))
+
+-- One look over them, from the front.
+module _ (f : ℕ → Bool) (t : List ℕ) (i : ℕ) where
+  pub many-here : i < length t → f (getD t i 0) ≡ true → howMany f (drop i t) ≡ 1 + howMany f (drop (i + 1) t)
+  unfolding howMany pick
+  many-here h e = rw (add-one, drop-cons t i 0 h, e) (omega arith)
+
+  pub many-further : i < length t → f (getD t i 0) ≡ false → howMany f (drop i t) ≡ howMany f (drop (i + 1) t)
+  unfolding howMany pick
+  many-further h e = rw (add-one, drop-cons t i 0 h, e)
+
+  pub many-end : length t ≤ i → howMany f (drop i t) ≡ 0
+  unfolding howMany
+  many-end h = rw (drop-of-length-le t h)
 
 -- ---- of space runs
 

@@ -8,6 +8,6 @@ pub mod Letters
 pub mod WordRoom
 pub mod LettersFit
 pub mod LeadBytes
-pub mod FirstWidth
 pub mod HardBreaks
 pub mod BreakBytes
+pub mod FirstWidth

@@ -9,8 +9,8 @@ use native.Mathlib.Nat.{add-mul, zero-mul, div-mul-le-self, mul-le-mul-right}
 use native.Mathlib.Omega.{arith}
 use borrow.Author.Tests.{leb-true}
 use lib.Dec.{eqb}
-use lib.ListN.{length, take, drop, length-take, length-drop}
-use lib.Seq.{take-append-le, drop-append-le, drop-append-add}
+use lib.ListN.{length, take, drop, length-take}
+use lib.Seq.{take-append-le, drop-append-add}
 use Rattle.basis.specs.Choice.{pick, pick-cases}
 use Rattle.meaning.specs.Tokens.{Tok, newLine, carriageReturn, tab, softHyphen, space, word, charsOf, sizeOf, needOf}
 use Rattle.meaning.specs.Cursor.{roomOf, fitsIn, advance, hasMoved, tabWidth}

@@ -1,55 +1,36 @@
 -- `columns::starting::first_width` meets its contract.
 -- Assumes nothing.
-use Prim.Native.Nat.{ℕ, _*_, _/_}
-use mathlib.Core.Path.{_≡_, sym, ap, _∙_}
-use native.Mathlib.Nat.{div-mul-le-self}
+use mathlib.Core.Path.{_∙_}
 use native.Mathlib.Omega.{arith}
 use borrow.Author.Needs.{needs}
-use Rattle.columns.specs.Letters.{many-few}
-use Rattle.columns.specs.LeadBytes.{leads}
-use Rattle.columns.specs.FirstWidth.{wordsWide, first-past, first-whole}
+use Rattle.columns.specs.Letters.{howMany}
+use Rattle.columns.specs.HardBreaks.{breaks}
+use Rattle.columns.specs.FirstWidth.{wordsWide, first-ended, first-room}
 use Rattle.columns.proofs.starting.first_width.Statement.{statement}
 use Rattle.columns.proofs.starting.first_width.Tie as tie
 
-word-bytes-requires : tie.Need-word-bytes-requires
-word-bytes-requires c κs = search needs
-
-glyphs-wide-requires : tie.Need-glyphs-wide-requires
-glyphs-wide-requires c κs =
-    let start = c .before .before in
-    let t = start .args .text .now in
-    (start .pre .0 .settings .1, omega (arith, c .word-bytes .ensures, many-few leads t, start .pre .0 .short))
-
--- The glyphs of the words.
-wide-is : (c : tie.After-glyphs-wide) →
-    let a = c .before .before .before .args in
-    c .glyphs-wide .result ≡ wordsWide (a .s) (a .text .now)
-wide-is c = c .glyphs-wide .ensures ∙ ap (λ (n : ℕ). n * c .before .before .before .args .s .glyph .0) (c .before .word-bytes .ensures)
-
-div-least : tie.Need-div-least
-div-least c = c .before .before .before .pre .1
+break-bytes-requires : tie.Need-break-bytes-requires
+break-bytes-requires c κs = search needs
 
 add-result : tie.Need-add-result
 add-result c = search needs
 
 returns : tie.Need-returns
 returns c =
-    let a = c .before .before .before .before .args in
-    rw (sym (wide-is (c .before))) (first-past (a .skips) (c .before .glyphs-wide .result) (a .h) (c .if1 .taken))
+    let a = c .before .before .before .args in
+    let t = a .text .now in
+    first-ended (a .skips) (howMany breaks t) (wordsWide (a .s) t) (a .h) (omega (arith, c .if1 .taken, c .before .break-bytes .ensures))
 
-div-result : tie.Need-div-result
-div-result c = c .before .before .before .before .pre .2 .0
-
-mul-result : tie.Need-mul-result
-mul-result c =
-    let a = c .before .before .before .before .args in
-    let least = c .before .glyphs-wide .result / a .h in
-    record { fits = omega (arith, div-mul-le-self least (a .skips .step), c .if1 .left) }
+room-width-requires : tie.Need-room-width-requires
+room-width-requires c κs = search needs
 
 returns-2 : tie.Need-returns-2
 returns-2 c =
-    let a = c .before .before .before .before .args in
-    rw (sym (wide-is (c .before))) (first-whole (a .skips) (c .before .glyphs-wide .result) (a .h) (omega (arith, c .if1 .left)))
+    let e = c .before in
+    let a = e .before .before .before .args in
+    let t = a .text .now in
+    c .room-width .ensures
+    ∙ first-room (a .skips) (howMany breaks t) (wordsWide (a .s) t) (a .h) (omega (arith, e .if1 .left, e .before .break-bytes .ensures))
 
 pub first-width-spec : {M : Type 1} → statement M
-first-width-spec = tie.close (tie.spec word-bytes-requires glyphs-wide-requires div-least add-result returns div-result mul-result returns-2)
+first-width-spec = tie.close (tie.spec break-bytes-requires add-result returns room-width-requires returns-2)

@@ -5,8 +5,8 @@ use native.Mathlib.Omega.{arith}
 use mathlib.Core.Path.{_≡_, sym, _∙_}
 use borrow.Author.Needs.{needs}
 use lib.ListN.{length, drop}
-use Rattle.columns.specs.Letters.{howMany}
-use Rattle.columns.specs.LeadBytes.{leads, lead-more, lead-none, lead-end}
+use Rattle.columns.specs.Letters.{howMany, many-here, many-further, many-end}
+use Rattle.columns.specs.LeadBytes.{leads}
 use Rattle.columns.proofs.starting.word_bytes.Statement.{statement}
 use Rattle.columns.proofs.starting.word_bytes.Tie as tie
 
@@ -40,7 +40,7 @@ loop-again c =
     let i = b .before .before in
     let l = i .before in
     let t = l .before .before .args .text .now in (
-      omega (arith, lead-more t (l .loop .i) (i .loop-test .taken) (sym (b .begins-word .ensures) ∙ c .if1 .taken), l .loop .inv .0),
+      omega (arith, many-here leads t (l .loop .i) (i .loop-test .taken) (sym (b .begins-word .ensures) ∙ c .if1 .taken), l .loop .inv .0),
       omega (arith, l .loop .inv .1),
     )
 
@@ -56,14 +56,14 @@ loop-again-2 c =
     let i = b .before .before in
     let l = i .before in
     let t = l .before .before .args .text .now in (
-      omega (arith, lead-none t (l .loop .i) (i .loop-test .taken) (sym (b .begins-word .ensures) ∙ c .if1 .left), l .loop .inv .0),
+      omega (arith, many-further leads t (l .loop .i) (i .loop-test .taken) (sym (b .begins-word .ensures) ∙ c .if1 .left), l .loop .inv .0),
       omega (arith, l .loop .inv .1),
     )
 
 returns : tie.Need-returns Inv-loop μ-loop
 returns c =
     let l = c .before in
-    omega (arith, lead-end (l .before .before .args .text .now) (l .loop .i) (c .loop-test .left), l .loop .inv .0)
+    omega (arith, many-end leads (l .before .before .args .text .now) (l .loop .i) (c .loop-test .left), l .loop .inv .0)
 
 pub word-bytes-spec : {M : Type 1} → statement M
 word-bytes-spec =
