@@ -24,6 +24,7 @@ pub mod Calls
 pub mod PageCalls
 pub mod Columns
 pub mod ColumnCalls
+pub mod Month
 pub mod Answers
 pub mod Examples
 pub mod EditExamples

@@ -4,6 +4,7 @@ pub mod counts;
 pub mod cursor;
 pub mod edit;
 pub mod fields;
+pub mod figures;
 pub mod line;
 pub mod page;
 pub mod refusals;
