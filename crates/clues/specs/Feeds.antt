@@ -1,0 +1,58 @@
+-- The lines of a stream, found by their line feeds.
+-- Assumes nothing.
+use Prim.Native.Nat.{ℕ, suc, _+_, _≤_, _<_}
+use mathlib.Core.Path.{_≡_, refl, sym, ap, _∙_}
+use mathlib.Core.List.{List, [], _∷_, _++_}
+use native.Mathlib.Numerals.{add-one}
+use native.Mathlib.Nat.{add-zero}
+use native.Mathlib.Omega.{arith}
+use borrow.Author.Tests.{eq-eqb, ne-eqb}
+use lib.Dec.{eqb}
+use lib.ListN.{length, getD, take, drop, drop-of-length-le, length-drop, length-append}
+use lib.Seq.{drop-cons, getD-take, length-take-le}
+use Rattle.basis.specs.Choice.{pick, pick-cases, by-test}
+use Rattle.meaning.specs.Month.{ontoFirst, streamLines}
+
+-- How many bytes stand before the first line feed, or all of them if there is none.
+unfoldable pub beforeFeed : List ℕ → ℕ
+beforeFeed [] = 0
+beforeFeed (b ∷ bs) =
+    let more = beforeFeed bs in
+    pick (eqb b 10) 0 (suc more)
+
+-- ---- the search for it, in the part of a buffer from i up to end
+
+module _ (s : List ℕ) (end : ℕ) (long : end ≤ length s) where
+  part-length : length (take end s) ≡ end
+  part-length = length-take-le end s long
+
+  module _ (i : ℕ) (h : i < end) where
+    here : i < length (take end s)
+    here = omega (arith, part-length)
+
+    pub feed-here : getD s i 0 ≡ 10 → i ≡ i + beforeFeed (drop i (take end s))
+    unfolding beforeFeed pick
+    feed-here e = rw (drop-cons (take end s) i 0 here, getD-take end s i 0 h, eq-eqb _ _ e) (omega arith)
+
+    pub feed-later : (getD s i 0 ≡ 10 → ⊥) → i + 1 + beforeFeed (drop (i + 1) (take end s)) ≡ i + beforeFeed (drop i (take end s))
+    unfolding beforeFeed pick
+    feed-later n = rw (drop-cons (take end s) i 0 here, getD-take end s i 0 h, add-one i, ne-eqb _ _ n) (omega arith)
+
+  pub no-feed : (i : ℕ) → end ≤ i → i ≡ i + beforeFeed (drop i (take end s))
+  unfolding beforeFeed
+  no-feed i h = rw (drop-of-length-le (take end s) (let e : length (take end s) ≤ i = omega (arith, part-length) in e)) (omega arith)
+
+-- ---- the lines
+
+pub before-most : (xs : List ℕ) → beforeFeed xs ≤ length xs
+unfolding beforeFeed
+before-most [] = omega arith
+before-most (x ∷ xs) = pick-cases (λ (n : ℕ). n ≤ suc (length xs)) (eqb x 10) (λ _. omega arith) (λ _. omega (arith, before-most xs))
+
+-- A line that ends is the bytes before its feed.
+pub ended-line : (xs rest : List ℕ) → beforeFeed xs < length xs
+    → streamLines (xs ++ rest) ≡ take (beforeFeed xs) xs ∷ streamLines (drop (suc (beforeFeed xs)) xs ++ rest)
+unfolding streamLines ontoFirst beforeFeed pick
+ended-line [] rest h = absurd (omega arith)
+ended-line (x ∷ xs) rest h =
+    by-test (eqb x 10) (λ e. rw e) (λ e. rw e (ap (ontoFirst x) (ended-line xs rest (let g : pick (eqb x 10) 0 (suc (beforeFeed xs)) < suc (length xs) = h in let k = rw e at g in omega arith))))

@@ -1,0 +1,8 @@
+pub mod FigureBounds
+pub mod Tallying
+pub mod Summing
+pub mod Sums
+pub mod Adding
+pub mod Gathering
+pub mod Feeds
+pub mod Counting
