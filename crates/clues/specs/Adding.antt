@@ -24,7 +24,6 @@ pub width-fine : (s : Settings) (w : ℕ) → FineSettings s → w ≤ 4096 → 
 unfolding withWidth
 width-fine s w f h = (f .0, f .1, h, f .3, f .4, f .5)
 
-
 -- What adding a text takes for granted.
 pub record AllReady (s : Settings) (t : List ℕ) (k : Checked) (ws : List ℕ) (fs : List Figures) : Type 0 where
   pub settings : FineSettings s

@@ -42,9 +42,12 @@ rows-drop (suc n) s start before h cs f =
     let took = line-chars s h cs (f .0) (f .1) in
     unless-cases (λ qs. l .dropped + droppedIn (map entryOfRow qs) ≤ length cs) (l .ended) (rowsBy n s next (before + l .chars) (l .held) rest)
     (λ _. omega (arith, line-drops s h cs))
-    (λ _. omega
-    (arith, line-drops s h cs, length-drop (l .chars) cs,
-    rows-drop n s next (before + l .chars) (l .held) rest (line-rest s h cs (f .0) (f .1), line-held s h cs (f .0) (f .1))))
+    (λ _. omega (
+      arith,
+      line-drops s h cs,
+      length-drop (l .chars) cs,
+      rows-drop n s next (before + l .chars) (l .held) rest (line-rest s h cs (f .0) (f .1), line-held s h cs (f .0) (f .1)),
+    ))
 
 pub dropped-few : (s : Settings) (t : List ℕ) → droppedIn (entriesOf s t) ≤ length t
 unfolding entriesOf rows

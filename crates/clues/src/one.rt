@@ -17,6 +17,7 @@ ghost use Rattle.rows.specs.RowsFrom.{TextReady, entriesOf};
 
 // The refusals that a text by itself can have.
 const TEXT_TOO_LONG: u32 = 3;
+
 const NOT_UTF8: u32 = 4;
 
 pub fn one_where(a: u32, b: u32) -> u64

@@ -33,7 +33,15 @@ pub fn add_clue(text: &[u8], s: Settings, widths: &[u32], sums: &mut [u64], clue
 }
 
 // All clues that end in the part of the buffer from a place up to another.
-pub fn count_ended(buffer: &[u8], from: usize, end: usize, s: Settings, widths: &[u32], sums: &mut [u64], clues: u64) -> Ended
+pub fn count_ended(
+    buffer: &[u8],
+    from: usize,
+    end: usize,
+    s: Settings,
+    widths: &[u32],
+    sums: &mut [u64],
+    clues: u64,
+) -> Ended
     requires { ⌜ from ≤ end ⌝ }
     requires { ⌜ end ≤ length (now buffer) ⌝ }
     requires { ⌜ Counts s (now widths) (now sums) clues ⌝ }
