@@ -1,0 +1,180 @@
+-- The blocks of a stream: what is held of a clue between two of them, and a clue that is too long.
+-- Assumes nothing.
+use Prim.Native.Nat.{ℕ, zero, suc, _+_, _-_, _*_, _≤_, _<_}
+use mathlib.Core.Path.{_≡_, refl, sym, ap, _∙_}
+use mathlib.Core.Bool.{true, false, false≢true}
+use mathlib.Core.List.{List, [], _∷_}
+use native.Mathlib.Omega.{arith}
+use lib.ListN.{length, getD, take, drop, length-drop, replicate, length-replicate}
+use lib.Seq.{paste, take-paste, take-all, length-take-le}
+use Rattle.basis.specs.Order.{by-lt}
+use Rattle.meaning.specs.Checks.{textLimit, checkText}
+use Rattle.meaning.specs.Month.{mostClues, figuresBy, together}
+use Rattle.meaning.specs.declared.settings.Settings.{Settings}
+use Rattle.meaning.specs.declared.figures.Figures.{Figures}
+use Rattle.meaning.specs.declared.refusals.Refusal.the-variants.{TextTooLong}
+use Rattle.meaning.specs.declared.refusals.Checked.{Checked}
+use Rattle.meaning.specs.declared.refusals.Checked.the-variants.{Good, Refused}
+use Rattle.checks.specs.TextLaws.{too-long}
+use Rattle.moves.specs.Fine.{FineSettings}
+use Rattle.clues.specs.Summing.{Of, Narrow, EachOf, addedTo, each-more}
+use Rattle.clues.specs.Sums.{sumNumbers, sumAt, sumsFrom, sumsOf}
+use Rattle.clues.specs.Adding.{EachReady}
+use Rattle.clues.specs.Gathering.{withClue}
+use Rattle.clues.specs.Feeds.{beforeFeed, before-most}
+use Rattle.clues.specs.Counting.{Counts, same-part}
+use Rattle.clues.specs.declared.stream.Ended.{Ended}
+use Rattle.month.specs.declared.block.Step.{Step}
+use Rattle.month.specs.declared.stream.Got.{Got}
+use Rattle.month.specs.declared.stream.Got.the-variants as got
+
+-- Bytes that came after those up to a place stand within so many.
+abbrev pub Came : (end n : ℕ) → Got → Type 0
+Came end n (got.UpTo k) = (end < k) × (k ≤ n)
+Came end n got.Nothing = Unit {0}
+Came end n got.Failed = Unit {0}
+
+-- ---- what is left of a block
+
+-- The buffer b, read up to `end` and counted up to `at`, is b' now: it holds what is left, or what is left is all of it.
+pub record Kept (b : List ℕ) (at end clues : ℕ) (r : Step) (b' : List ℕ) : Type 0 where
+  pub counted : r .clues ≡ clues
+  pub inside : r .held < length b'
+  pub held : r .long ≡ false → take (r .held) b' ≡ drop at (take end b)
+  pub full : r .long ≡ true → length (drop at (take end b)) ≡ length b
+
+module _ (b : List ℕ) (at end clues : ℕ) (h : at ≤ end) (f : end ≤ length b) where
+  left-length : length (drop at (take end b)) ≡ end - at
+  left-length = omega (arith, length-drop at (take end b), length-take-le end b f)
+
+  pub kept-long : 0 < length b → end - at ≡ length b → Kept b at end clues (record { clues = clues; held = 0; long = true }) b
+  kept-long some e = record { counted = refl; inside = some; held = λ l. absurd (false≢true (sym l)); full = λ _. left-length ∙ e }
+
+  pub kept-held : (end - at ≡ length b → ⊥) → (n : ℕ) (b' : List ℕ) → n ≡ end - at → b' ≡ paste b 0 (drop at b) (end - at) → length b' ≡ length b
+      → Kept b at end clues (record { clues = clues; held = n; long = false }) b'
+  kept-held d n b' n-is b-is same =
+      let size = end - at in
+      let zero-size : 0 + size ≡ size = omega arith in
+      let moved : take size (paste b 0 (drop at b) size) ≡ take size (drop at b) =
+      ap (λ (k : ℕ). take k (paste b 0 (drop at b) size)) (sym zero-size) ∙ take-paste b 0 (drop at b) size (omega arith) (omega (arith, length-drop at b))
+      in
+      let part : take size (drop at b) ≡ drop at (take end b) =
+      same-part b at end end (omega arith) ∙ take-all size (drop at (take end b)) (omega (arith, left-length))
+      in
+      record {
+        counted = refl;
+        inside = by-lt n (length b') (λ less. less) (λ more. absurd (d (omega (arith, same, n-is))));
+        held = λ _. (λ i. take (n-is i) (b-is i)) ∙ moved ∙ part;
+        full = λ l. absurd (false≢true l);
+      }
+
+-- ---- a clue that is too long
+
+-- One clue more is counted, and the figures are with any text that is too long.
+pub record LongAdded (s : Settings) (ws u : List ℕ) (clues r : ℕ) (u' : List ℕ) : Type 0 where
+  pub counted : r ≡ clues + 1
+  pub counts : Counts s ws u' (clues + 1)
+  pub added : (t : List ℕ) → textLimit < length t → sumsOf ws u' ≡ withClue s ws (sumsOf ws u) t
+
+any-long : (s : Settings) (t t' : List ℕ) (m n : ℕ) (ws : List ℕ) (fs : List Figures)
+    → addedTo s t (Refused (TextTooLong m)) ws fs ≡ addedTo s t' (Refused (TextTooLong n)) ws fs
+unfolding addedTo figuresBy
+any-long s t t' m n [] fs = refl
+any-long s t t' m n (w ∷ ws) [] = refl
+any-long s t t' m n (w ∷ ws) (f ∷ fs) = ap (λ (gs : List Figures). together f (figuresBy (Refused (TextTooLong m)) []) ∷ gs) (any-long s t t' m n ws fs)
+
+refused-bad : (n : ℕ) → Refused (TextTooLong n) ≡ Good → ⊥
+refused-bad n e = let z : _≡_ {A = ℕ} 0 1 = cc in omega arith
+
+module _ (s : Settings) (ws u : List ℕ) (n : ℕ) (c : Counts s ws u n) (t : List ℕ) where
+  pub long-ready : n < mostClues → (k : Checked) → k ≡ Refused (TextTooLong 65536) → EachReady s t k ws u
+  long-ready h k e =
+      record {
+        all =
+            record {
+              settings = c .settings;
+              widths = c .widths;
+              short = λ g. absurd (refused-bad 65536 (sym e ∙ g));
+              count = n;
+              few = h;
+              each = c .each;
+            };
+        room = c .room;
+      }
+
+  pub long-added : (k : Checked) → k ≡ Refused (TextTooLong 65536) → (u' : List ℕ) → length u' ≡ length u → sumsOf ws u' ≡ addedTo s t k ws (sumsOf ws u)
+      → LongAdded s ws u n (n + 1) u'
+  unfolding withClue
+  long-added k k-is u' same e =
+      let one : n + 1 ≡ suc n = omega arith in
+      let all : sumsOf ws u' ≡ addedTo s t (Refused (TextTooLong 65536)) ws (sumsOf ws u) = e ∙ ap (λ (j : Checked). addedTo s t j ws (sumsOf ws u)) k-is in
+      record {
+        counted = refl;
+        counts =
+            record {
+              settings = c .settings;
+              widths = c .widths;
+              room = omega (arith, c .room, same);
+              each = rw (all, one) (each-more s t (Refused (TextTooLong 65536)) n ws (sumsOf ws u) (λ g. absurd (refused-bad 65536 g)) (c .each));
+            };
+        added =
+            λ x long.
+            all ∙ any-long s t x 65536 (length x) ws (sumsOf ws u) ∙ ap (λ (j : Checked). addedTo s x j ws (sumsOf ws u)) (too-long x long);
+      }
+
+-- It has ended before a place of the block, or not yet.
+pub record LongEnded (s : Settings) (ws u' : List ℕ) (end : ℕ) (r : Ended) : Type 0 where
+  pub counts : Counts s ws u' (r .clues)
+  pub few : r .clues ≤ mostClues
+  pub within : r .at ≤ end
+
+pub long-ended : (s : Settings) (ws u u' : List ℕ) (clues n at end : ℕ) → LongAdded s ws u clues n u' → clues < mostClues → at ≤ end
+    → LongEnded s ws u' end (record { at = at; clues = n })
+long-ended s ws u u' clues n at end a h w = record { counts = rw (a .counted) (a .counts); few = omega (arith, a .counted); within = w }
+
+-- ---- what a block leaves
+
+pub record Stepped (s : Settings) (ws u' : List ℕ) (room : ℕ) (r : Step) : Type 0 where
+  pub counts : Counts s ws u' (r .clues)
+  pub few : r .clues ≤ mostClues
+  pub inside : r .held < room
+
+pub stepped : (s : Settings) (ws u : List ℕ) (n room : ℕ) (r : Step) → Counts s ws u n → n ≤ mostClues → r .clues ≡ n → r .held < room
+    → Stepped s ws u room r
+stepped s ws u n room r c f e i = record { counts = rw e c; few = omega (arith, e); inside = i }
+
+-- ---- places in a buffer
+
+pub feed-within : (b : List ℕ) (at end stop : ℕ) → at ≤ end → end ≤ length b → stop ≡ at + beforeFeed (drop at (take end b))
+    → (at ≤ stop) × (stop ≤ end)
+feed-within b at end stop h f e =
+    (omega (arith, e), omega (arith, e, before-most (drop at (take end b)), length-drop at (take end b), length-take-le end b f))
+
+-- ---- before the first clue, the array holds zeros
+
+zero-at : (n i : ℕ) → _≡_ {A = ℕ} (getD (replicate n 0) i 0) 0
+zero-at zero i = refl
+zero-at (suc n) zero = refl
+zero-at (suc n) (suc i) = zero-at n i
+
+zero-of : (n k : ℕ) → Of 0 (sumAt (replicate n 0) k)
+unfolding sumAt
+zero-of n k =
+    record {
+      texts = zero-at n (7 * k);
+      lines = omega (arith, zero-at n (7 * k + 1));
+      broken = omega (arith, zero-at n (7 * k + 2));
+      dropped = omega (arith, zero-at n (7 * k + 3));
+      long = omega (arith, zero-at n (7 * k + 4));
+      invalid = omega (arith, zero-at n (7 * k + 5));
+    }
+
+zero-each : (ws : List ℕ) (k n : ℕ) → EachOf 0 ws (sumsFrom ws k (replicate n 0))
+unfolding sumsFrom
+zero-each [] k n = tt
+zero-each (w ∷ ws) k n = (zero-of n k, zero-each ws (suc k) n)
+
+pub zero-counts : (s : Settings) (ws : List ℕ) (n : ℕ) → FineSettings s → Narrow ws → sumNumbers * length ws ≤ n → Counts s ws (replicate n 0) 0
+unfolding sumsOf
+zero-counts s ws n f w h =
+    record { settings = f; widths = w; room = omega (arith, length-replicate {A = ℕ} n 0); each = zero-each ws 0 n }

@@ -1,0 +1,3 @@
+pub mod WidthFile
+pub mod Fronts
+pub mod Blocks
