@@ -143,6 +143,31 @@ pub stepped : (s : Settings) (ws u : List ℕ) (n room : ℕ) (r : Step) → Cou
     → Stepped s ws u room r
 stepped s ws u n room r c f e i = record { counts = rw e c; few = omega (arith, e); inside = i }
 
+-- ---- the end of the input
+
+-- What is held is a clue that is too long, none, or one of the bytes that are held, though it has no line feed.
+pub record LastCounted (s : Settings) (ws b u : List ℕ) (r : Step) (u' : List ℕ) : Type 0 where
+  pub long : r .long ≡ true → (t : List ℕ) → textLimit < length t → sumsOf ws u' ≡ withClue s ws (sumsOf ws u) t
+  pub none : r .long ≡ false → r .held ≡ 0 → sumsOf ws u' ≡ sumsOf ws u
+  pub some : r .long ≡ false → (r .held ≡ 0 → ⊥) → sumsOf ws u' ≡ withClue s ws (sumsOf ws u) (take (r .held) b)
+
+module _ (s : Settings) (ws b u : List ℕ) (r : Step) where
+  pub last-long : (u' : List ℕ) → r .long ≡ true → ((t : List ℕ) → textLimit < length t → sumsOf ws u' ≡ withClue s ws (sumsOf ws u) t)
+      → LastCounted s ws b u r u'
+  last-long u' l h =
+      record {
+        long = λ _. h;
+        none = λ e. absurd (false≢true (sym e ∙ l));
+        some = λ e. absurd (false≢true (sym e ∙ l));
+      }
+
+  module _ (short : r .long ≡ false) where
+    pub last-none : r .held ≡ 0 → LastCounted s ws b u r u
+    last-none z = record { long = λ e. absurd (false≢true (sym short ∙ e)); none = λ _ _. refl; some = λ _ d. absurd (d z) }
+
+    pub last-some : (u' : List ℕ) → (r .held ≡ 0 → ⊥) → sumsOf ws u' ≡ withClue s ws (sumsOf ws u) (take (r .held) b) → LastCounted s ws b u r u'
+    last-some u' d e = record { long = λ l. absurd (false≢true (sym short ∙ l)); none = λ _ z. absurd (d z); some = λ _ _. e }
+
 -- ---- places in a buffer
 
 pub feed-within : (b : List ℕ) (at end stop : ℕ) → at ≤ end → end ≤ length b → stop ≡ at + beforeFeed (drop at (take end b))

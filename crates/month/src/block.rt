@@ -17,7 +17,7 @@ ghost use Rattle.meaning.specs.Month.{mostClues};
 ghost use Rattle.clues.specs.Sums.{sumsOf};
 ghost use Rattle.clues.specs.Gathering.{withClue};
 ghost use Rattle.clues.specs.Counting.{Counts, Passed};
-ghost use Rattle.month.specs.Blocks.{Kept, Stepped, LongAdded, LongEnded};
+ghost use Rattle.month.specs.Blocks.{Kept, Stepped, LongAdded, LongEnded, LastCounted};
 
 // How many clues are counted, how many bytes of the next one are held at the buffer's front, and whether it is too long already.
 pub struct Step {
@@ -158,6 +158,7 @@ pub fn count_last(buffer: &[u8], step: Step, s: Settings, widths: &[u32], sums: 
     requires { ⌜ step .held ≤ length (now buffer) ⌝ }
     requires { ⌜ Counts s (now widths) (now sums) (step .clues) ⌝ }
     requires { ⌜ step .clues < mostClues ⌝ }
+    ensures { λ _. ⌜ LastCounted s (now (widths .entry)) (now (buffer .entry)) (now (sums .entry)) step (now (sums .exit)) ⌝ }
 {
     let clues = step.clues;
     let held = step.held;
