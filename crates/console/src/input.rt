@@ -1,5 +1,4 @@
-// Standard input, read to its end.
-use libc::STDIN_FILENO;
+// A file that is open, read up to a buffer's end or to its own.
 ghost use Prim.Native.Nat.{_+_, _^_, _≤_};
 ghost use lib.ListN.{length};
 ghost use Rattle.io.specs.Counts.{Counts};
@@ -10,14 +9,14 @@ pub struct Read {
     pub failed: bool,
 }
 
-// Reads until the buffer is full or the input ends.
-pub fn fill(buffer: &mut [u8]) -> Read
+// Reads until the buffer is full or the file ends.
+pub fn fill(fd: i32, buffer: &mut [u8]) -> Read
     ensures { λ r. ⌜ r .bytes ≤ length (now (buffer .entry)) ⌝ }
     ensures { λ r. ⌜ Counts (r .bytes) (now (buffer .exit)) ⌝ }
 {
     let mut bytes: usize = 0;
     while bytes < buffer.len() {
-        let got = libc::read(STDIN_FILENO, &mut buffer[bytes..]);
+        let got = libc::read(fd, &mut buffer[bytes..]);
         if got < 0 {
             return Read {
                 bytes,
@@ -40,24 +39,24 @@ pub fn fill(buffer: &mut [u8]) -> Read
 const LARGE: usize = 65536;
 
 // Reads as many bytes as such a buffer has, or as are left, and forgets them.
-fn skip() -> Read
+fn skip(fd: i32) -> Read
     ensures { λ r. ⌜ r .bytes ≤ 2 ^ 16 ⌝ }
 {
     let mut buffer = io::large_buffer();
-    fill(&mut buffer)
+    fill(fd, &mut buffer)
 }
 
 // 2 ^ 62
 const MANY: usize = 0x4000000000000000;
 
-// Reads to the end and counts the bytes. Nothing says that an input ends, and a proved loop has to, so this one stops
+// Reads to the end and counts the bytes. Nothing says that a file ends, and a proved loop has to, so this one stops
 // when it has counted 2 ^ 62 bytes or more, which would take centuries to read, and answers that count.
-pub fn count_rest() -> Read
+pub fn count_rest(fd: i32) -> Read
     ensures { λ r. ⌜ r .bytes ≤ 2 ^ 62 + 2 ^ 16 ⌝ }
 {
     let mut bytes: usize = 0;
     while bytes < MANY {
-        let read = skip();
+        let read = skip(fd);
         bytes += read.bytes;
         if read.failed {
             return Read {

@@ -3,6 +3,7 @@ use crate::input::count_rest;
 use checks::refusals::number;
 use checks::refusals::value;
 use libc::STDERR_FILENO;
+use libc::STDIN_FILENO;
 use libc::STDOUT_FILENO;
 use meaning::refusals::Refusal;
 ghost use Prim.Native.Nat.{_≤_};
@@ -35,7 +36,7 @@ pub fn say_unread(program: &[u8]) {
 fn say_too_long(program: &[u8], number: u32, first: usize)
     requires { ⌜ first ≤ 65536 ⌝ }
 {
-    let rest = count_rest();
+    let rest = count_rest(STDIN_FILENO);
     if rest.failed {
         say_unread(program);
         return;

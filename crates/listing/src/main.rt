@@ -7,6 +7,7 @@ use console::saying::say;
 use console::saying::say_number;
 use console::saying::say_unread;
 use layout::fresh::layout;
+use libc::STDIN_FILENO;
 use meaning::answers::Laid;
 use meaning::sizes::ENTRY_NUMBERS;
 ghost use Prim.Native.Nat.{_+_, _*_, _≤_};
@@ -65,7 +66,7 @@ fn list(text: &[u8])
 fn main() {
     // one byte more than a text may have
     let mut text = io::large_buffer();
-    let read = fill(&mut text);
+    let read = fill(STDIN_FILENO, &mut text);
     if read.failed {
         say_unread(b"listing");
         return;

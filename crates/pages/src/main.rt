@@ -14,6 +14,7 @@ use console::saying::say;
 use console::saying::say_number;
 use console::saying::say_unread;
 use libc::STDERR_FILENO;
+use libc::STDIN_FILENO;
 use meaning::answers::Paged;
 use meaning::sizes::ENTRY_NUMBERS;
 use meaning::sizes::PAGE_NUMBERS;
@@ -107,7 +108,7 @@ fn list(h: u32, text: &[u8], as_text: bool)
 fn run(h: u32, as_text: bool) {
     // one byte more than a text may have
     let mut text = io::large_buffer();
-    let read = fill(&mut text);
+    let read = fill(STDIN_FILENO, &mut text);
     if read.failed {
         say_unread(b"pages");
         return;

@@ -6,10 +6,10 @@ use Rattle.console.proofs.input.count_rest.Statement.{statement}
 use Rattle.console.proofs.input.count_rest.Tie as tie
 
 abbrev Inv-loop : tie.InvT-loop
-Inv-loop bytes₀ bytes = bytes ≤ 2 ^ 62 + 2 ^ 16
+Inv-loop fd bytes₀ bytes = bytes ≤ 2 ^ 62 + 2 ^ 16
 
 abbrev μ-loop : tie.MeasureT-loop
-μ-loop bytes₀ bytes = 2 ^ 62 - bytes
+μ-loop fd bytes₀ bytes = 2 ^ 62 - bytes
 
 loop-holds : tie.Need-loop-holds Inv-loop μ-loop
 loop-holds c = search needs

@@ -11,10 +11,10 @@ use Rattle.console.proofs.input.fill.Statement.{statement}
 use Rattle.console.proofs.input.fill.Tie as tie
 
 abbrev Inv-loop : tie.InvT-loop
-Inv-loop buffer₀ bytes₀ buffer bytes = (length buffer ≡ length buffer₀) × (bytes ≤ length buffer₀)
+Inv-loop fd buffer₀ bytes₀ buffer bytes = (length buffer ≡ length buffer₀) × (bytes ≤ length buffer₀)
 
 abbrev μ-loop : tie.MeasureT-loop
-μ-loop buffer₀ bytes₀ buffer bytes = length buffer₀ - bytes
+μ-loop fd buffer₀ bytes₀ buffer bytes = length buffer₀ - bytes
 
 counts : (n : ℕ) (xs : List ℕ) → n ≤ length xs → Counts n xs
 counts n xs h = (h, sym (length-take-le n xs h))
