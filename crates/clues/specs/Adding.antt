@@ -17,12 +17,9 @@ use Rattle.meaning.specs.declared.refusals.Checked.{Checked}
 use Rattle.meaning.specs.declared.refusals.Checked.the-variants.{Good, Refused}
 use Rattle.moves.specs.Fine.{FineSettings}
 use Rattle.rows.specs.RowsFrom.{TextReady, entriesOf}
+use Rattle.columns.specs.OtherWidths.{ready-with}
 use Rattle.clues.specs.Summing.{Room, Of, of-room, of-one, Narrow, EachOf, addedTo, each-length, each-at, narrow-at}
 use Rattle.clues.specs.Sums.{sumNumbers, sumAt, putSum, sumsOf, sums-length, sums-at, sums-put}
-
-pub width-fine : (s : Settings) (w : ℕ) → FineSettings s → w ≤ 4096 → FineSettings (withWidth s w)
-unfolding withWidth
-width-fine s w f h = (f .0, f .1, h, f .3, f .4, f .5)
 
 -- What adding a text takes for granted.
 pub record AllReady (s : Settings) (t : List ℕ) (k : Checked) (ws : List ℕ) (fs : List Figures) : Type 0 where
@@ -47,9 +44,6 @@ adding-start s t k ws fs = record { left = refl; kept = refl; same = refl; withi
 module _ (s : Settings) (t : List ℕ) (k : Checked) (ws : List ℕ) (fs₀ fs : List Figures) (j : ℕ) (r : AllReady s t k ws fs₀) (a : Adding s t k ws fs₀ fs j) (h : j < length ws) where
   pub adding-inside : j < length fs
   adding-inside = omega (arith, a .same, each-length (r .count) ws fs₀ (r .each))
-
-  pub adding-text : k ≡ Good → TextReady (withWidth s (getD ws j 0)) t
-  adding-text e = record { settings = width-fine s (getD ws j 0) (r .settings) (narrow-at ws j (r .widths) h); short = r .short e }
 
   module _ (d : Figures) where
     here : getD fs j d ≡ getD fs₀ j d
@@ -93,7 +87,9 @@ module _ (s : Settings) (t : List ℕ) (k : Checked) (ws u₀ u : List ℕ) (j :
 
   module _ (h : j < length ws) (s' : Settings) (is : s' ≡ withWidth s (getD ws j 0)) where
     pub added-text : k ≡ Good → TextReady s' t
-    added-text e = rw is (adding-text s t k ws (sumsOf ws u₀) (sumsOf ws u) j (r .all) (a .adding) h e)
+    added-text e =
+        let ready : TextReady s t = record { settings = r .all .settings; short = r .all .short e } in
+        ready-with s (getD ws j 0) (narrow-at ws j (r .all .widths) h) t ready s' is
 
     pub added-figures : (g : Figures) → g ≡ figuresBy k (entriesOf s' t) → g ≡ figuresBy k (entriesOf (withWidth s (getD ws j 0)) t)
     added-figures g e = e ∙ ap (λ (y : Settings). figuresBy k (entriesOf y t)) is

@@ -1,8 +1,8 @@
 // The figures of each width, and one text more in all of them.
 use crate::one::figures_in;
-use crate::one::with_width;
 use crate::sums::read_sum;
 use crate::sums::write_sum;
+use columns::width::with_width;
 use meaning::figures::Figures;
 use meaning::refusals::Checked;
 use meaning::settings::Settings;

@@ -1,7 +1,6 @@
 // The figures of one text: those of a text that is refused, and of one in one width (refusal 3, refusal 4).
 use crate::tally::laid_figures;
 use checks::refusals::number;
-use meaning::counts::Pixels;
 use meaning::figures::Figures;
 use meaning::refusals::Checked;
 use meaning::refusals::Refusal;
@@ -10,7 +9,6 @@ ghost use mathlib.Core.Path.{_≡_};
 ghost use mathlib.Core.List.{[]};
 ghost use lib.Dec.{eqb};
 ghost use Rattle.basis.specs.Choice.{pick};
-ghost use Rattle.meaning.specs.Columns.{withWidth};
 ghost use Rattle.meaning.specs.Month.{figuresBy};
 ghost use Rattle.meaning.specs.declared.refusals.Checked.the-variants.{Good, Refused};
 ghost use Rattle.rows.specs.RowsFrom.{TextReady, entriesOf};
@@ -56,14 +54,4 @@ pub fn figures_in(text: &[u8], checked: Checked, s: Settings) -> Figures
         Checked::Good => laid_figures(text, s),
         Checked::Refused(refusal) => refused_figures(refusal),
     }
-}
-
-// The same settings with another box width.
-pub fn with_width(s: Settings, w: u32) -> Settings
-    ensures { λ r. ⌜ r ≡ withWidth s w ⌝ }
-{
-    let mut changed = s;
-    let width = Pixels(w);
-    changed.width = width;
-    changed
 }

@@ -4,4 +4,4 @@ pub mod fitting;
 pub mod planning;
 mod skipping;
 mod starting;
-mod width;
+pub mod width;
