@@ -2,15 +2,16 @@
 -- Assumes nothing.
 use Prim.Native.Nat.{ℕ, suc, _+_, _≤_, _<_}
 use mathlib.Core.Path.{_≡_, refl, sym, ap, _∙_}
-use mathlib.Core.List.{List, [], _∷_, _++_}
+use mathlib.Core.List.{List, [], _∷_, _++_, append-nil}
 use native.Mathlib.Numerals.{add-one}
 use native.Mathlib.Nat.{add-zero}
 use native.Mathlib.Omega.{arith}
 use borrow.Author.Tests.{eq-eqb, ne-eqb}
 use lib.Dec.{eqb}
 use lib.ListN.{length, getD, take, drop, drop-of-length-le, length-drop, length-append}
-use lib.Seq.{drop-cons, getD-take, length-take-le}
+use lib.Seq.{drop-cons, getD-take, length-take-le, take-all}
 use Rattle.basis.specs.Choice.{pick, pick-cases, by-test}
+use Rattle.basis.specs.Order.{by-lt}
 use Rattle.meaning.specs.Month.{ontoFirst, streamLines}
 
 -- How many bytes stand before the first line feed, or all of them if there is none.
@@ -56,3 +57,30 @@ unfolding streamLines ontoFirst beforeFeed pick
 ended-line [] rest h = absurd (omega arith)
 ended-line (x ∷ xs) rest h =
     by-test (eqb x 10) (λ e. rw e) (λ e. rw e (ap (ontoFirst x) (ended-line xs rest (let g : pick (eqb x 10) 0 (suc (beforeFeed xs)) < suc (length xs) = h in let k = rw e at g in omega arith))))
+
+-- A last line with no feed is all that is left.
+last-line : (xs : List ℕ) → 0 < length xs → length xs ≤ beforeFeed xs → streamLines xs ≡ xs ∷ []
+unfolding streamLines ontoFirst beforeFeed pick
+last-line [] some h = absurd (omega arith)
+last-line (x ∷ []) some h =
+    by-test (eqb x 10) (λ e. absurd (let g : 1 ≤ pick (eqb x 10) 0 1 = h in let k = rw e at g in omega arith)) (λ e. rw e)
+last-line (x ∷ y ∷ ys) some h =
+    let g : suc (length (y ∷ ys)) ≤ pick (eqb x 10) 0 (suc (beforeFeed (y ∷ ys))) = h in
+    by-test (eqb x 10)
+    (λ e. absurd (let k = rw e at g in omega arith))
+    (λ e. rw e (ap (ontoFirst x) (last-line (y ∷ ys) (omega arith) (let k = rw e at g in omega arith))))
+
+none-after : (xs : List ℕ) → length xs ≤ beforeFeed xs → xs ∷ [] ≡ take (beforeFeed xs) xs ∷ streamLines (drop (suc (beforeFeed xs)) xs)
+unfolding streamLines
+none-after xs h =
+    let past : length xs ≤ suc (beforeFeed xs) = omega arith in
+    let none : drop (suc (beforeFeed xs)) xs ≡ [] = drop-of-length-le xs past in
+    let all : take (beforeFeed xs) xs ≡ xs = take-all (beforeFeed xs) xs h in
+    sym (λ i. all i ∷ streamLines (none i))
+
+-- One line off the front.
+pub line-off : (xs : List ℕ) → 0 < length xs → streamLines xs ≡ take (beforeFeed xs) xs ∷ streamLines (drop (suc (beforeFeed xs)) xs)
+line-off xs some =
+    by-lt (beforeFeed xs) (length xs)
+    (λ h. ap streamLines (sym (append-nil xs)) ∙ ended-line xs [] h ∙ ap (λ (l : List ℕ). take (beforeFeed xs) xs ∷ streamLines l) (append-nil (drop (suc (beforeFeed xs)) xs)))
+    (λ h. last-line xs some h ∙ none-after xs h)

@@ -1,3 +1,4 @@
 pub mod WidthFile
+pub mod WidthTurns
 pub mod Fronts
 pub mod Blocks

@@ -1,96 +1,115 @@
 -- The widths of a file: one decimal number of 1 to 4 digits, at most 4,096, for each line (refusal 13).
 -- Assumes nothing.
-use Prim.Native.Nat.{ℕ, suc, _+_, _-_, _*_, _≤_, _<_}
-use mathlib.Core.Path.{_≡_, refl, sym, ap, subst, _∙_}
-use mathlib.Core.List.{List, [], _∷_, _++_}
-use native.Mathlib.Numerals.{add-one}
+use Prim.Native.Nat.{ℕ, suc, _≤_, _<_}
+use mathlib.Core.Path.{_≡_, sym, subst, _∙_}
+use mathlib.Core.List.{List, [], _∷_}
 use native.Mathlib.Omega.{arith}
-use borrow.Author.Tests.{lt-ltb, le-ltb, ltb-false, eq-eqb, ne-eqb}
-use lib.Dec.{ltb, eqb}
-use lib.ListN.{length, getD, set, take, drop, drop-of-length-le, length-set}
-use lib.Seq.{drop-cons, take-suc-set}
+use borrow.Author.Tests.{lt-ltb, le-ltb, ltb-true}
+use lib.Dec.{ltb}
+use lib.ListN.{length, take}
 use Rattle.basis.specs.Choice.{pick, pick-cases}
+use Rattle.meaning.specs.Columns.{widestBox}
+use Rattle.meaning.specs.Month.{streamLines}
 use Rattle.clues.specs.Summing.{Narrow}
-use Rattle.month.specs.declared.widths.Width.{Width}
-use Rattle.month.specs.declared.widths.Width.the-variants as width
+use Rattle.console.specs.Digits.{decimalIn, AtMost, decimal-most}
+use Rattle.console.specs.declared.digits.Decimal.{Decimal}
+use Rattle.console.specs.declared.digits.Decimal.the-variants.{Number, NoNumber}
 use Rattle.month.specs.declared.widths.Widths.{Widths}
-use Rattle.month.specs.declared.widths.Widths.the-variants as widths
+use Rattle.month.specs.declared.widths.Widths.the-variants.{Listed, Bad, Unread}
 
--- The digits of a line, behind others that have this value.
-unfoldable pub widthFrom : ℕ → List ℕ → Width
-widthFrom v [] = width.Of v
-widthFrom v (b ∷ bs) =
-    let more = widthFrom (10 * v + (b - 48)) bs in
-    pick (ltb b 48) width.Bad (pick (ltb 57 b) width.Bad (pick (ltb 4096 (10 * v + (b - 48))) width.Bad more))
+-- A line: an empty one is none, and one of more than 4 bytes.
+unfoldable pub widthOf : (line : List ℕ) → Decimal
+widthOf line = pick (ltb 4 (length line)) NoNumber (decimalIn widestBox line)
 
--- A line: an empty one is bad, and one of more than 4 bytes.
-unfoldable pub widthOf : List ℕ → Width
-widthOf line = pick (eqb (length line) 0) width.Bad (pick (ltb 4 (length line)) width.Bad (widthFrom 0 line))
+-- ---- the lines of a file, of which k are passed, where there is room for so many widths
 
--- ---- one turn of the loop over the digits
+abbrev pub ifWidth : Decimal → (k : ℕ) → Widths → Widths
+ifWidth (Number w) k more = more
+ifWidth NoNumber k more = Bad k
 
-module _ (line : List ℕ) (i v : ℕ) (h : i < length line) where
-  pub digit-low : getD line i 0 < 48 → width.Bad ≡ widthFrom v (drop i line)
-  unfolding widthFrom pick
-  digit-low b = rw (drop-cons line i 0, lt-ltb _ _ b)
+unfoldable pub widthsFrom : (room k : ℕ) → (lines : List (List ℕ)) → Widths
+widthsFrom room k [] = Listed k
+widthsFrom room k (line ∷ lines) =
+    let more = widthsFrom room (suc k) lines in
+    pick (ltb k room) (ifWidth (widthOf line) k more) (Bad k)
 
-  pub digit-high : 48 ≤ getD line i 0 → 57 < getD line i 0 → width.Bad ≡ widthFrom v (drop i line)
-  unfolding widthFrom pick
-  digit-high a b = rw (drop-cons line i 0, le-ltb _ _ a, lt-ltb _ _ b)
+-- How many widths a file has, or its first bad line: one that is no width, or one more than there is room for.
+unfoldable pub widthsIn : (room : ℕ) → (file : List ℕ) → Widths
+widthsIn room file = widthsFrom room 0 (streamLines file)
 
-  pub digit-over : 48 ≤ getD line i 0 → getD line i 0 ≤ 57 → 4096 < 10 * v + (getD line i 0 - 48) → width.Bad ≡ widthFrom v (drop i line)
-  unfolding widthFrom pick
-  digit-over a b c = rw (drop-cons line i 0, le-ltb _ _ a, le-ltb _ _ b, lt-ltb _ _ c)
+-- The widths themselves, up to a line that is none.
+abbrev pub ontoWidths : Decimal → List ℕ → List ℕ
+ontoWidths (Number w) more = w ∷ more
+ontoWidths NoNumber more = []
 
-  pub digit-next : 48 ≤ getD line i 0 → getD line i 0 ≤ 57 → 10 * v + (getD line i 0 - 48) ≤ 4096
-      → widthFrom (10 * v + (getD line i 0 - 48)) (drop (i + 1) line) ≡ widthFrom v (drop i line)
-  unfolding widthFrom pick
-  digit-next a b c = rw (drop-cons line i 0, add-one i, le-ltb _ _ a, le-ltb _ _ b, le-ltb _ _ c)
+unfoldable pub listed : (lines : List (List ℕ)) → List ℕ
+listed [] = []
+listed (line ∷ lines) =
+    let more = listed lines in
+    ontoWidths (widthOf line) more
 
-pub digits-end : (line : List ℕ) (i v : ℕ) → length line ≤ i → width.Of v ≡ widthFrom v (drop i line)
-unfolding widthFrom
-digits-end line i v h = rw drop-of-length-le
+unfoldable pub listedIn : (file : List ℕ) → List ℕ
+listedIn file = listed (streamLines file)
 
--- ---- a width that is read is in range
+-- The widths that are listed stand at the array's front.
+abbrev pub Held : (file : List ℕ) → Widths → List ℕ → Type 0
+Held file (Listed n) u = take n u ≡ listedIn file
+Held file (Bad k) u = Unit {0}
+Held file Unread u = Unit {0}
 
-abbrev pub InRange : Width → Type 0
-InRange (width.Of w) = w ≤ 4096
-InRange width.Bad = Unit {0}
+-- ---- a line by its length
 
-from-range : (v : ℕ) (line : List ℕ) → v ≤ 4096 → InRange (widthFrom v line)
-unfolding widthFrom
-from-range v [] h = h
-from-range v (b ∷ bs) h =
-    pick-cases InRange (ltb b 48) (λ _. tt) (λ _. pick-cases InRange (ltb 57 b) (λ _. tt) (λ _. pick-cases InRange (ltb 4096 (10 * v + (b - 48))) (λ _. tt) (λ e. from-range (10 * v + (b - 48)) bs (ltb-false 4096 (10 * v + (b - 48)) e))))
-
-pub width-range : (line : List ℕ) → InRange (widthOf line)
-unfolding widthOf
-width-range line = pick-cases InRange (eqb (length line) 0) (λ _. tt) (λ _. pick-cases InRange (ltb 4 (length line)) (λ _. tt) (λ _. from-range 0 line (omega arith)))
-
--- A line by its length.
 module _ (line : List ℕ) where
-  pub width-none : length line ≡ 0 → width.Bad ≡ widthOf line
+  pub width-long : 4 < length line → NoNumber ≡ widthOf line
   unfolding widthOf pick
-  width-none e = rw (eq-eqb _ _ e)
+  width-long h = rw (lt-ltb _ _ h)
 
-  module _ (some : length line ≡ 0 → ⊥) where
-    pub width-long : 4 < length line → width.Bad ≡ widthOf line
-    unfolding widthOf pick
-    width-long h = rw (ne-eqb _ _ some, lt-ltb _ _ h)
+  pub width-short : length line ≤ 4 → (r : Decimal) → r ≡ decimalIn widestBox line → r ≡ widthOf line
+  unfolding widthOf pick
+  width-short h r e = rw (le-ltb _ _ h) e
 
-    pub width-digits : length line ≤ 4 → (r : Width) → r ≡ widthFrom 0 line → r ≡ widthOf line
-    unfolding widthOf pick
-    width-digits h r e = rw (ne-eqb _ _ some, le-ltb _ _ h) e
+-- ---- widths that are listed are in range, and there is room for them
 
--- What is answered of a file: the widths stand at the array's front, each in range.
+width-most : (line : List ℕ) → AtMost widestBox (widthOf line)
+unfolding widthOf
+width-most line = pick-cases (AtMost widestBox) (ltb 4 (length line)) (λ _. tt) (λ _. decimal-most widestBox line)
+
+onto-narrow : (d : Decimal) (ws : List ℕ) → AtMost widestBox d → Narrow ws → Narrow (ontoWidths d ws)
+onto-narrow (Number w) ws h n = (h, n)
+onto-narrow NoNumber ws h n = tt
+
+listed-narrow : (lines : List (List ℕ)) → Narrow (listed lines)
+unfolding listed
+listed-narrow [] = tt
+listed-narrow (line ∷ lines) = onto-narrow (widthOf line) (listed lines) (width-most line) (listed-narrow lines)
+
+abbrev Few : ℕ → Widths → Type 0
+Few room (Listed n) = n ≤ room
+Few room (Bad k) = Unit {0}
+Few room Unread = Unit {0}
+
+if-few : (room : ℕ) (d : Decimal) (k : ℕ) (r : Widths) → Few room r → Few room (ifWidth d k r)
+if-few room (Number w) k r h = h
+if-few room NoNumber k r h = tt
+
+widths-few : (room k : ℕ) (lines : List (List ℕ)) → k ≤ room → Few room (widthsFrom room k lines)
+unfolding widthsFrom
+widths-few room k [] h = h
+widths-few room k (line ∷ lines) h =
+    pick-cases (Few room) (ltb k room)
+    (λ e. if-few room (widthOf line) k _ (widths-few room (suc k) lines (omega (arith, ltb-true k room e))))
+    (λ _. tt)
+
+-- What is known of an answer, whatever the file is.
 abbrev pub Read : Widths → List ℕ → Type 0
-Read (widths.Listed n) u = (n ≤ length u) × Narrow (take n u)
-Read (widths.Bad k) u = Unit {0}
-Read widths.Unread u = Unit {0}
+Read (Listed n) u = (n ≤ length u) × Narrow (take n u)
+Read (Bad k) u = Unit {0}
+Read Unread u = Unit {0}
 
-narrow-more : (ws : List ℕ) (w : ℕ) → Narrow ws → w ≤ 4096 → Narrow (ws ++ w ∷ [])
-narrow-more [] w n h = (h, tt)
-narrow-more (x ∷ ws) w n h = (n .0, narrow-more ws w (n .1) h)
-
-pub narrow-next : (u : List ℕ) (k w : ℕ) → Narrow (take k u) → k < length u → w ≤ 4096 → Narrow (take (k + 1) (set u k w))
-narrow-next u k w n h b = rw (add-one k, take-suc-set u k w h) (narrow-more (take k u) w n b)
+pub read-of : (file : List ℕ) (r : Widths) (u : List ℕ) (room : ℕ) → length u ≡ room → r ≡ widthsIn room file → Held file r u → Read r u
+unfolding widthsIn listedIn
+read-of file (Listed n) u room same e h =
+    let few : n ≤ room = subst (Few room) (sym e) (widths-few room 0 (streamLines file) (omega arith)) in
+    (omega arith, subst Narrow (sym h) (listed-narrow (streamLines file)))
+read-of file (Bad k) u room same e h = tt
+read-of file Unread u room same e h = tt

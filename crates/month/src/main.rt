@@ -1,12 +1,10 @@
 // A month of clues in numbers: month WIDTHS [people] < CLUES. Each line of standard input is a clue, and each line of the file WIDTHS a box
 // width. Printed is a line of figures for each width, or a table for people. The other settings are those of the listing program.
 mod block;
-mod file;
 mod say;
 mod stream;
 mod widths;
 
-use crate::file::fill;
 use crate::say::say_bad_width;
 use crate::say::say_month;
 use crate::say::say_usage;
@@ -16,6 +14,7 @@ use crate::widths::MOST_WIDTHS;
 use crate::widths::Widths;
 use crate::widths::parse_widths;
 use clues::sums::SUM_NUMBERS;
+use console::input::fill;
 use libc::STDERR_FILENO;
 use meaning::counts::Pixels;
 use meaning::settings::Settings;

@@ -1,23 +1,17 @@
 // The widths: one decimal of 1 to 4 digits for each line of their file (refusal 13).
 use clues::feeds::find_feed;
-ghost use Prim.Native.Nat.{_≤_};
+use columns::width::WIDEST_BOX;
+use console::digits::Decimal;
+use console::digits::decimal_in;
 ghost use mathlib.Core.Path.{_≡_};
 ghost use lib.ListN.{length};
-ghost use Rattle.month.specs.WidthFile.{widthFrom, widthOf, Read};
+ghost use Rattle.month.specs.WidthFile.{widthOf, widthsIn, Held};
 
 // The most widths that are listed.
 pub const MOST_WIDTHS: usize = 64;
 
-// The widest box, and the most digits of a width.
-const WIDEST: u32 = 4096;
-
+// The most digits of a width.
 const DIGITS: usize = 4;
-
-// A line of the file.
-pub enum Width {
-    Of(u32),
-    Bad,
-}
 
 // The file: so many widths; the first bad line, counted from 0; or it could not be read.
 pub enum Widths {
@@ -26,43 +20,19 @@ pub enum Widths {
     Unread,
 }
 
-fn parse_digits(line: &[u8]) -> Width
-    ensures { λ r. ⌜ r ≡ widthFrom 0 (now (line .entry)) ⌝ }
-{
-    let mut value: u32 = 0;
-    let mut i: usize = 0;
-    while i < line.len() {
-        let b = line[i];
-        if b < b'0' {
-            return Width::Bad;
-        }
-        if b'9' < b {
-            return Width::Bad;
-        }
-        value = 10 * value + (b - b'0') as u32;
-        if WIDEST < value {
-            return Width::Bad;
-        }
-        i += 1;
-    }
-    Width::Of(value)
-}
-
-pub fn parse_width(line: &[u8]) -> Width
+pub fn parse_width(line: &[u8]) -> Decimal
     ensures { λ r. ⌜ r ≡ widthOf (now (line .entry)) ⌝ }
 {
-    if line.len() == 0 {
-        return Width::Bad;
-    }
     if DIGITS < line.len() {
-        return Width::Bad;
+        return Decimal::NoNumber;
     }
-    parse_digits(line)
+    decimal_in(line, WIDEST_BOX)
 }
 
 // All widths of a file, at the array's front.
 pub fn parse_widths(file: &[u8], widths: &mut [u32]) -> Widths
-    ensures { λ r. ⌜ Read r (now (widths .exit)) ⌝ }
+    ensures { λ r. ⌜ r ≡ widthsIn (length (now (widths .entry))) (now (file .entry)) ⌝ }
+    ensures { λ r. ⌜ Held (now (file .entry)) r (now (widths .exit)) ⌝ }
 {
     let mut k: usize = 0;
     let mut at: usize = 0;
@@ -71,7 +41,7 @@ pub fn parse_widths(file: &[u8], widths: &mut [u32]) -> Widths
             return Widths::Bad(k);
         }
         let stop = find_feed(file, at, file.len());
-        let Width::Of(w) = parse_width(&file[at..stop]) else {
+        let Decimal::Number(w) = parse_width(&file[at..stop]) else {
             return Widths::Bad(k);
         };
         widths[k] = w;

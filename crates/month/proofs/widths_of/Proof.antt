@@ -5,6 +5,7 @@ use native.Mathlib.Omega.{arith}
 use lib.ListN.{length, take}
 use lib.Seq.{length-take-le}
 use borrow.Author.Needs.{needs}
+use Rattle.month.specs.WidthFile.{read-of}
 use Rattle.month.proofs.widths_of.Statement.{statement}
 use Rattle.month.proofs.widths_of.Tie as tie
 
@@ -40,7 +41,7 @@ same-length : tie.Need-same-length
 same-length c = search needs
 
 returns-2 : tie.Need-returns-2
-returns-2 c = c .before .before .parse-widths .ensures
+returns-2 c = let p = c .before .before .parse-widths in read-of _ _ _ _ (p .kept .1 .0) (p .ensures .0) (p .ensures .1)
 
 pub widths-of-spec : {M : Type 1} → statement M
 widths-of-spec = tie.close (tie.spec buffer-requires slice-aggregate-fill fill-requires fail-requires returns array-share-prefix-text slice-aggregate-parse-widths parse-widths-requires same-length returns-2)

@@ -1,30 +1,31 @@
--- `month::widths::parse_widths` meets its contract. The invariant: the widths so far are in range (refusal 13).
+-- `month::widths::parse_widths` meets its contract. The invariant: the lines so far are widths, and what is left gives what the whole gives (refusal 13).
 -- Assumes nothing.
 use Prim.Native.Nat.{_+_, _-_, _≤_}
-use mathlib.Core.Path.{_≡_, refl, sym, subst, _∙_}
+use mathlib.Core.Path.{_≡_, refl, sym, _∙_}
 use native.Mathlib.Omega.{arith}
-use lib.ListN.{length, take, length-set}
-use Rattle.clues.specs.Summing.{Narrow}
+use lib.ListN.{length}
 use Rattle.month.specs.Blocks.{feed-within}
-use Rattle.month.specs.WidthFile.{InRange, width-range, narrow-next}
+use Rattle.month.specs.WidthTurns.{Reading, reading-start, reading-end, reading-full, reading-bad, reading-next}
 use borrow.Author.Needs.{needs}
 use Rattle.month.proofs.widths.parse_widths.Statement.{statement}
 use Rattle.month.proofs.widths.parse_widths.Tie as tie
 
 abbrev Inv-loop : tie.InvT-loop
-Inv-loop file widths₀ k₀ at₀ widths k at = Narrow (take k widths) × (k ≤ length widths) × (length widths ≡ length widths₀) × (at ≤ length file + 1)
+Inv-loop file widths₀ k₀ at₀ widths k at = Reading file widths₀ at k widths
 
 abbrev μ-loop : tie.MeasureT-loop
 μ-loop file widths₀ k₀ at₀ widths k at = length file + 1 - at
 
 loop-holds : tie.Need-loop-holds Inv-loop μ-loop
-loop-holds c = (tt, omega arith, refl, omega arith)
+loop-holds c = reading-start _ _
 
 same-length : tie.Need-same-length Inv-loop μ-loop
-same-length c = c .before .before .loop .inv .2
+same-length c = c .before .before .loop .inv .same
 
 returns : tie.Need-returns Inv-loop μ-loop
-returns c = tt
+returns c =
+    let l = c .before in
+    (reading-full _ _ _ _ _ (l .before .loop .inv) (l .loop-test .taken) _ refl (c .if1 .taken), tt)
 
 find-feed-requires : tie.Need-find-feed-requires Inv-loop μ-loop
 find-feed-requires c κs = (omega (arith, c .before .loop-test .taken), omega arith)
@@ -56,10 +57,15 @@ enum-told : tie.Need-enum-told Inv-loop μ-loop
 enum-told c = search needs
 
 same-length-2 : tie.Need-same-length-2 Inv-loop μ-loop
-same-length-2 c = c .before .before .before .before .before .before .before .loop .inv .2
+same-length-2 c = c .before .before .before .before .before .before .before .loop .inv .same
 
 returns-2 : tie.Need-returns-2 Inv-loop μ-loop
-returns-2 c = tt
+returns-2 c =
+    let p = c .before .before in
+    let f = p .before .before in
+    let e = f .before in
+    let l = e .before in
+    (reading-bad _ _ _ _ _ (l .before .loop .inv) (l .loop-test .taken) _ (f .find-feed .ensures) (e .if1 .left) (sym (p .parse-width .ensures) ∙ c .enum-told .given .1), tt)
 
 mul-widths : tie.Need-mul-widths Inv-loop μ-loop
 mul-widths c = search needs
@@ -81,19 +87,15 @@ loop-again c =
     let p = c .before .before .before in
     let f = p .before .before in
     let e = f .before in
-    let l = e .before .before in
-    let fits = subst InRange (sym (p .parse-width .ensures) ∙ c .before .w .given .1) (width-range _) in (
-      narrow-next _ _ _ (l .loop .inv .0) (e .if1 .left) fits,
-      simp length-set (omega (arith, e .if1 .left)),
-      simp length-set (l .loop .inv .2),
-      omega (arith, stops f),
-    )
+    let l = e .before in
+    let w = sym (p .parse-width .ensures) ∙ c .before .w .given .1 in
+    reading-next _ _ _ _ _ (l .before .loop .inv) (l .loop-test .taken) _ (f .find-feed .ensures) (e .if1 .left) _ w (stops f .1)
 
 same-length-3 : tie.Need-same-length-3 Inv-loop μ-loop
-same-length-3 c = c .before .loop .inv .2
+same-length-3 c = c .before .loop .inv .same
 
 returns-3 : tie.Need-returns-3 Inv-loop μ-loop
-returns-3 c = (c .before .loop .inv .1, c .before .loop .inv .0)
+returns-3 c = reading-end _ _ _ _ _ (c .before .loop .inv) (c .loop-test .left)
 
 pub parse-widths-spec : {M : Type 1} → statement M
 parse-widths-spec = tie.close (tie.spec Inv-loop μ-loop loop-holds same-length returns find-feed-requires sub-parse-width part-parse-width-start part-parse-width-end parse-width-requires enum-known-w enum-told same-length-2 returns-2 mul-widths slice-write-widths add-k add-at loop-less loop-again same-length-3 returns-3)
