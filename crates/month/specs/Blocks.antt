@@ -9,9 +9,8 @@ use lib.ListN.{length, getD, take, drop, length-drop, replicate, length-replicat
 use lib.Seq.{paste, take-paste, take-all, length-take-le}
 use Rattle.basis.specs.Order.{by-lt}
 use Rattle.meaning.specs.Checks.{textLimit, checkText}
-use Rattle.meaning.specs.Month.{mostClues, figuresBy, together}
+use Rattle.meaning.specs.Month.{mostClues}
 use Rattle.meaning.specs.declared.settings.Settings.{Settings}
-use Rattle.meaning.specs.declared.figures.Figures.{Figures}
 use Rattle.meaning.specs.declared.refusals.Refusal.the-variants.{TextTooLong}
 use Rattle.meaning.specs.declared.refusals.Checked.{Checked}
 use Rattle.meaning.specs.declared.refusals.Checked.the-variants.{Good, Refused}
@@ -24,6 +23,7 @@ use Rattle.clues.specs.Gathering.{withClue}
 use Rattle.clues.specs.Feeds.{beforeFeed, before-most}
 use Rattle.clues.specs.Counting.{Counts, same-part}
 use Rattle.clues.specs.declared.stream.Ended.{Ended}
+use Rattle.month.specs.Pending.{any-long}
 use Rattle.month.specs.declared.block.Step.{Step}
 use Rattle.month.specs.declared.stream.Got.{Got}
 use Rattle.month.specs.declared.stream.Got.the-variants as got
@@ -75,13 +75,6 @@ pub record LongAdded (s : Settings) (ws u : List ℕ) (clues r : ℕ) (u' : List
   pub counted : r ≡ clues + 1
   pub counts : Counts s ws u' (clues + 1)
   pub added : (t : List ℕ) → textLimit < length t → sumsOf ws u' ≡ withClue s ws (sumsOf ws u) t
-
-any-long : (s : Settings) (t t' : List ℕ) (m n : ℕ) (ws : List ℕ) (fs : List Figures)
-    → addedTo s t (Refused (TextTooLong m)) ws fs ≡ addedTo s t' (Refused (TextTooLong n)) ws fs
-unfolding addedTo figuresBy
-any-long s t t' m n [] fs = refl
-any-long s t t' m n (w ∷ ws) [] = refl
-any-long s t t' m n (w ∷ ws) (f ∷ fs) = ap (λ (gs : List Figures). together f (figuresBy (Refused (TextTooLong m)) []) ∷ gs) (any-long s t t' m n ws fs)
 
 refused-bad : (n : ℕ) → Refused (TextTooLong n) ≡ Good → ⊥
 refused-bad n e = let z : _≡_ {A = ℕ} 0 1 = cc in omega arith
