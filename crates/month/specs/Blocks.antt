@@ -3,13 +3,13 @@
 use Prim.Native.Nat.{ℕ, zero, suc, _+_, _-_, _*_, _≤_, _<_}
 use mathlib.Core.Path.{_≡_, refl, sym, ap, _∙_}
 use mathlib.Core.Bool.{true, false, false≢true}
-use mathlib.Core.List.{List, [], _∷_}
+use mathlib.Core.List.{List, [], _∷_, _++_, append-assoc}
 use native.Mathlib.Omega.{arith}
-use lib.ListN.{length, getD, take, drop, length-drop, replicate, length-replicate}
+use lib.ListN.{length, getD, take, drop, length-drop, length-append, replicate, length-replicate}
 use lib.Seq.{paste, take-paste, take-all, length-take-le}
 use Rattle.basis.specs.Order.{by-lt}
 use Rattle.meaning.specs.Checks.{textLimit, checkText}
-use Rattle.meaning.specs.Month.{mostClues}
+use Rattle.meaning.specs.Month.{mostClues, streamLines}
 use Rattle.meaning.specs.declared.settings.Settings.{Settings}
 use Rattle.meaning.specs.declared.refusals.Refusal.the-variants.{TextTooLong}
 use Rattle.meaning.specs.declared.refusals.Checked.{Checked}
@@ -20,10 +20,10 @@ use Rattle.clues.specs.Summing.{Of, Narrow, EachOf, addedTo, each-more}
 use Rattle.clues.specs.Sums.{sumNumbers, sumAt, sumsFrom, sumsOf}
 use Rattle.clues.specs.Adding.{EachReady}
 use Rattle.clues.specs.Gathering.{withClue}
-use Rattle.clues.specs.Feeds.{beforeFeed, before-most}
-use Rattle.clues.specs.Counting.{Counts, same-part}
+use Rattle.clues.specs.Feeds.{beforeFeed, before-most, ended-line}
+use Rattle.clues.specs.Counting.{counting, Counts, same-part}
 use Rattle.clues.specs.declared.stream.Ended.{Ended}
-use Rattle.month.specs.Pending.{any-long}
+use Rattle.month.specs.Pending.{longClue, NoFeed, long-long, long-feed, feed-after, line-after, rest-after, any-long, long-same, one-counted}
 use Rattle.month.specs.declared.block.Step.{Step}
 use Rattle.month.specs.declared.stream.Got.{Got}
 use Rattle.month.specs.declared.stream.Got.the-variants as got
@@ -115,15 +115,64 @@ module _ (s : Settings) (ws u : List ℕ) (n : ℕ) (c : Counts s ws u n) (t : L
             all ∙ any-long s t x 65536 (length x) ws (sumsOf ws u) ∙ ap (λ (j : Checked). addedTo s x j ws (sumsOf ws u)) (too-long x long);
       }
 
--- It has ended before a place of the block, or not yet.
-pub record LongEnded (s : Settings) (ws u' : List ℕ) (end : ℕ) (r : Ended) : Type 0 where
+-- It has ended before a place of the block, or not yet. The figures at the end are the same, whatever bytes follow the block.
+pub record LongEnded (s : Settings) (ws b u : List ℕ) (end clues : ℕ) (r : Ended) (u' : List ℕ) : Type 0 where
   pub counts : Counts s ws u' (r .clues)
   pub few : r .clues ≤ mostClues
   pub within : r .at ≤ end
+  pub still : r .at ≡ 0 → (more : List ℕ)
+      → counting s ws (r .clues) (sumsOf ws u') (longClue ++ more) ≡ counting s ws clues (sumsOf ws u) (longClue ++ (take end b ++ more))
+  pub ended : (r .at ≡ 0 → ⊥) → (more : List ℕ)
+      → counting s ws (r .clues) (sumsOf ws u') (drop (r .at) (take end b) ++ more) ≡ counting s ws clues (sumsOf ws u) (longClue ++ (take end b ++ more))
 
-pub long-ended : (s : Settings) (ws u u' : List ℕ) (clues n at end : ℕ) → LongAdded s ws u clues n u' → clues < mostClues → at ≤ end
-    → LongEnded s ws u' end (record { at = at; clues = n })
-long-ended s ws u u' clues n at end a h w = record { counts = rw (a .counted) (a .counts); few = omega (arith, a .counted); within = w }
+module _ (s : Settings) (ws b u : List ℕ) (end clues stop : ℕ) (f : end ≤ length b) (h : clues < mostClues) (stop-is : stop ≡ 0 + beforeFeed (take end b)) where
+  block-length : length (take end b) ≡ end
+  block-length = length-take-le end b f
+
+  pub long-still : Counts s ws u clues → end ≤ stop → LongEnded s ws b u end clues (record { at = 0; clues = clues }) u
+  long-still c none =
+      let x = take end b in
+      let whole = longClue ++ x in
+      let long : textLimit < length whole = omega (arith, long-long, length-append longClue x) in
+      let feed : NoFeed whole =
+      omega (arith, feed-after longClue x long-feed, length-append longClue x, stop-is, block-length, before-most x)
+      in
+      record {
+        counts = c;
+        few = omega arith;
+        within = omega arith;
+        still =
+            λ _ more.
+            long-same s ws clues (sumsOf ws u) longClue whole more long-long long-feed long feed
+            ∙ ap (counting s ws clues (sumsOf ws u)) (append-assoc longClue x more);
+        ended = λ d. absurd (d refl);
+      }
+
+  pub long-ended : (u' : List ℕ) (n : ℕ) → LongAdded s ws u clues n u' → stop < end → LongEnded s ws b u end clues (record { at = stop + 1; clues = n }) u'
+  long-ended u' n a w =
+      let x = take end b in
+      let k = beforeFeed x in
+      let t = longClue ++ take k x in
+      let place : stop + 1 ≡ suc k = omega (arith, stop-is) in
+      let inside : beforeFeed (longClue ++ x) < length (longClue ++ x) =
+      omega (arith, feed-after longClue x long-feed, length-append longClue x, stop-is, block-length)
+      in
+      let lines : (more : List ℕ) → streamLines (longClue ++ (x ++ more)) ≡ t ∷ streamLines (drop (suc k) x ++ more) =
+      λ more.
+      ap streamLines (sym (append-assoc longClue x more)) ∙ ended-line (longClue ++ x) more inside
+      ∙ (let line = line-after longClue x long-feed in let rest = rest-after longClue x long-feed in λ i. line i ∷ streamLines (rest i ++ more))
+      in
+      let added = a .added t (omega (arith, long-long, length-append longClue (take k x))) in
+      record {
+        counts = rw (a .counted) (a .counts);
+        few = omega (arith, a .counted);
+        within = omega arith;
+        still = λ e. absurd (omega arith);
+        ended =
+            λ _ more.
+            (λ i. counting s ws (a .counted i) (sumsOf ws u') (drop (place i) x ++ more))
+            ∙ one-counted s ws clues (sumsOf ws u) (sumsOf ws u') t (longClue ++ (x ++ more)) (drop (suc k) x ++ more) h added (lines more);
+      }
 
 -- ---- what a block leaves
 

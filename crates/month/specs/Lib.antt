@@ -3,3 +3,4 @@ pub mod WidthTurns
 pub mod Fronts
 pub mod Pending
 pub mod Blocks
+pub mod Going

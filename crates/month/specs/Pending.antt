@@ -79,16 +79,18 @@ feed-after (x ∷ p) more h =
     (λ e. let g : pick (eqb x 10) 0 (suc (beforeFeed p)) ≡ suc (length p) = h in let k = rw e at g in absurd (omega arith))
     (λ e. let g : pick (eqb x 10) 0 (suc (beforeFeed p)) ≡ suc (length p) = h in let k = rw e at g in rw e (omega (arith, feed-after p more (let z : beforeFeed p ≡ length p = omega arith in z))))
 
--- The line that they begin.
-pub begun-line : (p more : List ℕ) → 0 < length p → NoFeed p
-    → streamLines (p ++ more) ≡ (p ++ take (beforeFeed more) more) ∷ streamLines (drop (suc (beforeFeed more)) more)
-begun-line p more some h =
-    let k = beforeFeed more in
-    let at = feed-after p more h in
-    let line : take (beforeFeed (p ++ more)) (p ++ more) ≡ p ++ take k more = ap (λ (n : ℕ). take n (p ++ more)) at ∙ take-append-add p more k in
-    let next : suc (beforeFeed (p ++ more)) ≡ length p + suc k = omega (arith, at) in
-    let rest : drop (suc (beforeFeed (p ++ more))) (p ++ more) ≡ drop (suc k) more = ap (λ (n : ℕ). drop n (p ++ more)) next ∙ drop-append-add p more (suc k) in
-    first-line (p ++ more) (omega (arith, length-append p more)) ∙ (λ i. line i ∷ streamLines (rest i))
+module _ (p more : List ℕ) (h : NoFeed p) where
+  pub line-after : take (beforeFeed (p ++ more)) (p ++ more) ≡ p ++ take (beforeFeed more) more
+  line-after = ap (λ (n : ℕ). take n (p ++ more)) (feed-after p more h) ∙ take-append-add p more (beforeFeed more)
+
+  pub rest-after : drop (suc (beforeFeed (p ++ more))) (p ++ more) ≡ drop (suc (beforeFeed more)) more
+  rest-after =
+      let next : suc (beforeFeed (p ++ more)) ≡ length p + suc (beforeFeed more) = omega (arith, feed-after p more h) in
+      ap (λ (n : ℕ). drop n (p ++ more)) next ∙ drop-append-add p more (suc (beforeFeed more))
+
+  -- The line that they begin.
+  pub begun-line : 0 < length p → streamLines (p ++ more) ≡ (p ++ take (beforeFeed more) more) ∷ streamLines (drop (suc (beforeFeed more)) more)
+  begun-line some = first-line (p ++ more) (omega (arith, length-append p more)) ∙ (λ i. line-after i ∷ streamLines (rest-after i))
 
 -- ---- figures
 
@@ -119,9 +121,9 @@ module _ (s : Settings) (ws : List ℕ) where
   long-same n fs p q more h f h' f' =
       let begun = take (beforeFeed more) more in
       let rest = streamLines (drop (suc (beforeFeed more)) more) in
-      ap (λ (ts : List (List ℕ)). withClues s ws fs (take (mostClues - n) ts)) (begun-line p more (omega arith) f)
+      ap (λ (ts : List (List ℕ)). withClues s ws fs (take (mostClues - n) ts)) (begun-line p more f (omega arith))
       ∙ first-long (mostClues - n) fs (p ++ begun) (q ++ begun) rest (omega (arith, length-append p begun)) (omega (arith, length-append q begun))
-      ∙ ap (λ (ts : List (List ℕ)). withClues s ws fs (take (mostClues - n) ts)) (sym (begun-line q more (omega arith) f'))
+      ∙ ap (λ (ts : List (List ℕ)). withClues s ws fs (take (mostClues - n) ts)) (sym (begun-line q more f' (omega arith)))
 
   -- Nothing is counted behind as many clues as a month may have.
   pub full-same : (n : ℕ) (fs : List Figures) (xs : List ℕ) → mostClues ≤ n → counting s ws n fs xs ≡ fs
@@ -136,11 +138,27 @@ module _ (s : Settings) (ws : List ℕ) where
 
 -- ---- the state of a step
 
-module _ (s : Settings) (ws u b : List ℕ) (r : Step) (more : List ℕ) where
-  pub ending-short : r .long ≡ false → ending s ws u b r more ≡ counting s ws (r .clues) (sumsOf ws u) (take (r .held) b ++ more)
-  unfolding ending pending
-  ending-short e = ap (λ (p : List ℕ). counting s ws (r .clues) (sumsOf ws u) (p ++ more)) (pick-false (r .long) longClue (take (r .held) b) e)
+module _ (r : Step) (b : List ℕ) where
+  module _ (e : r .long ≡ false) where
+    pub pending-short : pending r b ≡ take (r .held) b
+    unfolding pending
+    pending-short = pick-false (r .long) longClue (take (r .held) b) e
 
-  pub ending-long : r .long ≡ true → ending s ws u b r more ≡ counting s ws (r .clues) (sumsOf ws u) (longClue ++ more)
-  unfolding ending pending
-  ending-long e = ap (λ (p : List ℕ). counting s ws (r .clues) (sumsOf ws u) (p ++ more)) (pick-true (r .long) longClue (take (r .held) b) e)
+    pub block-short : (end : ℕ) → blockOf r b end ≡ drop (r .held) (take end b)
+    unfolding blockOf
+    block-short end = pick-false (r .long) (take end b) (drop (r .held) (take end b)) e
+
+  module _ (e : r .long ≡ true) where
+    pub pending-long : pending r b ≡ longClue
+    unfolding pending
+    pending-long = pick-true (r .long) longClue (take (r .held) b) e
+
+    pub block-long : (end : ℕ) → blockOf r b end ≡ take end b
+    unfolding blockOf
+    block-long end = pick-true (r .long) (take end b) (drop (r .held) (take end b)) e
+
+-- The figures at the end, where what is pending is known.
+pub ending-of : (s : Settings) (ws u b : List ℕ) (r : Step) (n : ℕ) (p more : List ℕ) → r .clues ≡ n → pending r b ≡ p
+    → ending s ws u b r more ≡ counting s ws n (sumsOf ws u) (p ++ more)
+unfolding ending
+ending-of s ws u b r n p more e f = λ i. counting s ws (e i) (sumsOf ws u) (f i ++ more)

@@ -18,6 +18,7 @@ ghost use Rattle.clues.specs.Sums.{sumsOf};
 ghost use Rattle.clues.specs.Gathering.{withClue};
 ghost use Rattle.clues.specs.Counting.{Counts, Passed};
 ghost use Rattle.month.specs.Blocks.{Kept, Stepped, LongAdded, LongEnded, LastCounted};
+ghost use Rattle.month.specs.Going.{WentFrom, WentOn};
 
 // How many clues are counted, how many bytes of the next one are held at the buffer's front, and whether it is too long already.
 pub struct Step {
@@ -87,7 +88,7 @@ fn end_long(
     requires { ⌜ end ≤ length (now buffer) ⌝ }
     requires { ⌜ Counts s (now widths) (now sums) clues ⌝ }
     requires { ⌜ clues < mostClues ⌝ }
-    ensures { λ r. ⌜ LongEnded s (now (widths .entry)) (now (sums .exit)) end r ⌝ }
+    ensures { λ r. ⌜ LongEnded s (now (widths .entry)) (now (buffer .entry)) (now (sums .entry)) end clues r (now (sums .exit)) ⌝ }
 {
     let stop = find_feed(buffer, 0, end);
     if end <= stop {
@@ -112,10 +113,11 @@ fn count_from(
 ) -> Step
     requires { ⌜ from ≤ end ⌝ }
     requires { ⌜ end ≤ length (now buffer) ⌝ }
-    requires { ⌜ 0 < length (now buffer) ⌝ }
+    requires { ⌜ textLimit < length (now buffer) ⌝ }
     requires { ⌜ Counts s (now widths) (now sums) clues ⌝ }
     requires { ⌜ clues ≤ mostClues ⌝ }
     ensures { λ r. ⌜ Stepped s (now (widths .entry)) (now (sums .exit)) (length (now (buffer .exit))) r ⌝ }
+    ensures { λ r. ⌜ WentFrom s (now (widths .entry)) (now (buffer .entry)) (now (sums .entry)) from end clues (now (sums .exit)) (now (buffer .exit)) r ⌝ }
 {
     let done = count_ended(buffer, from, end, s, widths, sums, clues);
     keep(buffer, done.at, end, done.clues)
@@ -131,10 +133,12 @@ pub fn count_block(
     sums: &mut [u64],
 ) -> Step
     requires { ⌜ end ≤ length (now buffer) ⌝ }
-    requires { ⌜ 0 < length (now buffer) ⌝ }
+    requires { ⌜ textLimit < length (now buffer) ⌝ }
     requires { ⌜ Counts s (now widths) (now sums) (step .clues) ⌝ }
     requires { ⌜ step .clues < mostClues ⌝ }
+    requires { ⌜ step .held ≤ end ⌝ }
     ensures { λ r. ⌜ Stepped s (now (widths .entry)) (now (sums .exit)) (length (now (buffer .exit))) r ⌝ }
+    ensures { λ r. ⌜ WentOn s (now (widths .entry)) (now (buffer .entry)) (now (sums .entry)) end step (now (sums .exit)) (now (buffer .exit)) r ⌝ }
 {
     let clues = step.clues;
     if !step.long {

@@ -1,7 +1,7 @@
 -- `month::block::end_long` meets its contract (refusal 3).
 -- Assumes nothing.
 use native.Mathlib.Omega.{arith}
-use Rattle.month.specs.Blocks.{long-ended}
+use Rattle.month.specs.Blocks.{long-still, long-ended}
 use borrow.Author.Needs.{needs}
 use Rattle.month.proofs.block.end_long.Statement.{statement}
 use Rattle.month.proofs.block.end_long.Tie as tie
@@ -10,7 +10,10 @@ find-feed-requires : tie.Need-find-feed-requires
 find-feed-requires c κs = search needs
 
 returns : tie.Need-returns
-returns c = search needs
+returns c =
+    let f = c .before in
+    let b = f .before .before .before .before in
+    long-still _ _ _ _ _ _ _ (b .pre .0) (b .pre .1 .1) (f .find-feed .ensures) (b .pre .1 .0) (c .if1 .taken)
 
 add-long-requires : tie.Need-add-long-requires
 add-long-requires c κs = search needs
@@ -26,7 +29,7 @@ returns-2 c =
     let a = c .before .before in
     let e = a .before .before in
     let b = e .before .before .before .before .before in
-    long-ended _ _ _ _ _ _ _ _ (a .add-long .ensures) (b .pre .1 .1) (omega (arith, e .if1 .left))
+    long-ended _ _ _ _ _ _ _ (b .pre .0) (b .pre .1 .1) (e .before .find-feed .ensures) _ _ (a .add-long .ensures) (e .if1 .left)
 
 pub end-long-spec : {M : Type 1} → statement M
 end-long-spec =

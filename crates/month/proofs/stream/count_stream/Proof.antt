@@ -40,7 +40,7 @@ count-block-requires c κs =
     let r = c .before .before .before .before .before .before in
     let l = r .before .before .before .loop in
     let came = subst (Came _ _) (c .before .before .before .end .given .1) (r .read-more .ensures) in
-    (came .1, (omega (arith, r .read-more .kept .0, l .inv .4), (l .inv .0, l .inv .1)))
+    (came .1, (omega (arith, r .read-more .kept .0, l .inv .4), (l .inv .0, (l .inv .1, omega (arith, came .0)))))
 
 show-requires : tie.Need-show-requires Inv-loop μ-loop
 show-requires c κs = search needs
@@ -65,7 +65,7 @@ loop-again c =
     let k = c .before .before .before .before .before .before in
     let r = k .before .before .before .before .before .before .before in
     let l = r .before .before .before .loop in
-    let e = k .count-block .ensures in (
+    let e = k .count-block .ensures .0 in (
       e .counts,
       c .if1 .left,
       omega (arith, e .inside, k .count-block .kept .0, r .read-more .kept .0, l .inv .4),
