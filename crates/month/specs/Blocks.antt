@@ -9,7 +9,7 @@ use lib.ListN.{length, getD, take, drop, length-drop, length-append, replicate, 
 use lib.Seq.{paste, take-paste, take-all, length-take-le}
 use Rattle.basis.specs.Order.{by-lt}
 use Rattle.meaning.specs.Checks.{textLimit, checkText}
-use Rattle.meaning.specs.Month.{mostClues, streamLines}
+use Rattle.meaning.specs.Month.{mostClues, noFigures, streamLines}
 use Rattle.meaning.specs.declared.settings.Settings.{Settings}
 use Rattle.meaning.specs.declared.refusals.Refusal.the-variants.{TextTooLong}
 use Rattle.meaning.specs.declared.refusals.Checked.{Checked}
@@ -19,7 +19,7 @@ use Rattle.moves.specs.Fine.{FineSettings}
 use Rattle.clues.specs.Summing.{Of, Narrow, EachOf, addedTo, each-more}
 use Rattle.clues.specs.Sums.{sumNumbers, sumAt, sumsFrom, sumsOf}
 use Rattle.clues.specs.Adding.{EachReady}
-use Rattle.clues.specs.Gathering.{withClue}
+use Rattle.clues.specs.Gathering.{withClue, noneYet}
 use Rattle.clues.specs.Feeds.{beforeFeed, before-most, ended-line}
 use Rattle.clues.specs.Counting.{counting, Counts, same-part}
 use Rattle.clues.specs.declared.stream.Ended.{Ended}
@@ -245,3 +245,24 @@ pub zero-counts : (s : Settings) (ws : List ℕ) (n : ℕ) → FineSettings s �
 unfolding sumsOf
 zero-counts s ws n f w h =
     record { settings = f; widths = w; room = omega (arith, length-replicate {A = ℕ} n 0); each = zero-each ws 0 n }
+
+zero-sum : (n k : ℕ) → sumAt (replicate n 0) k ≡ noFigures
+unfolding sumAt
+zero-sum n k =
+    let texts = zero-at n (7 * k) in
+    let lines = zero-at n (7 * k + 1) in
+    let broken = zero-at n (7 * k + 2) in
+    let dropped = zero-at n (7 * k + 3) in
+    let long = zero-at n (7 * k + 4) in
+    let invalid = zero-at n (7 * k + 5) in
+    let most = zero-at n (7 * k + 6) in
+    λ i. record { texts = texts i; lines = lines i; broken = broken i; dropped = dropped i; long = long i; invalid = invalid i; most = most i }
+
+zero-from : (ws : List ℕ) (k n : ℕ) → sumsFrom ws k (replicate n 0) ≡ noneYet ws
+unfolding sumsFrom
+zero-from [] k n = refl
+zero-from (w ∷ ws) k n = let here = zero-sum n k in let more = zero-from ws (suc k) n in λ i. here i ∷ more i
+
+pub zero-sums : (ws : List ℕ) (n : ℕ) → sumsOf ws (replicate n 0) ≡ noneYet ws
+unfolding sumsOf
+zero-sums ws n = zero-from ws 0 n

@@ -4,3 +4,4 @@ pub mod Fronts
 pub mod Pending
 pub mod Blocks
 pub mod Going
+pub mod WholeStream
