@@ -1,7 +1,8 @@
 -- The lines of a stream, found by their line feeds.
 -- Assumes nothing.
-use Prim.Native.Nat.{ℕ, suc, _+_, _≤_, _<_}
+use Prim.Native.Nat.{ℕ, zero, suc, _+_, _≤_, _<_}
 use mathlib.Core.Path.{_≡_, refl, sym, ap, _∙_}
+use mathlib.Core.Bool.{Bool, true, false, not, _&&_, false≢true}
 use mathlib.Core.List.{List, [], _∷_, _++_, append-nil}
 use native.Mathlib.Numerals.{add-one}
 use native.Mathlib.Nat.{add-zero}
@@ -10,7 +11,7 @@ use borrow.Author.Tests.{eq-eqb, ne-eqb}
 use lib.Dec.{eqb}
 use lib.ListN.{length, getD, take, drop, drop-of-length-le, length-drop, length-append}
 use lib.Seq.{drop-cons, getD-take, length-take-le, take-all}
-use Rattle.basis.specs.Choice.{pick, pick-cases, by-test}
+use Rattle.basis.specs.Choice.{pick, pick-cases, by-test, and-true}
 use Rattle.basis.specs.Order.{by-lt}
 use Rattle.meaning.specs.Month.{ontoFirst, streamLines}
 
@@ -42,6 +43,36 @@ module _ (s : List ℕ) (end : ℕ) (long : end ≤ length s) where
   pub no-feed : (i : ℕ) → end ≤ i → i ≡ i + beforeFeed (drop i (take end s))
   unfolding beforeFeed
   no-feed i h = rw (drop-of-length-le (take end s) (let e : length (take end s) ≤ i = omega (arith, part-length) in e)) (omega arith)
+
+-- ---- stretches with no line feed
+
+abbrev pub Free : List ℕ → (from to : ℕ) → Type 0
+Free s from to = (k : ℕ) → from ≤ k → k < to → getD s k 0 ≡ 10 → ⊥
+
+module _ (s : List ℕ) (from : ℕ) where
+  pub free-none : Free s from from
+  free-none k a b e = omega arith
+
+  free-one : (i : ℕ) → Free s from i → (getD s i 0 ≡ 10 → ⊥) → Free s from (i + 1)
+  free-one i f n k a b e =
+      by-lt k i
+      (λ h. f k a h e)
+      (λ h. let q : i ≡ k = omega arith in n (ap (λ (j : ℕ). getD s j 0) q ∙ e))
+
+  -- One byte more, tested.
+  pub free-tested : (i : ℕ) (none : Bool) → (none ≡ true → Free s from i) → none && not (eqb (getD s i 0) 10) ≡ true → Free s from (i + 1)
+  free-tested i none f e =
+      let both = and-true none (not (eqb (getD s i 0) 10)) e in
+      free-one i (f (both .0)) (λ is. false≢true (sym (ap not (eq-eqb _ _ is)) ∙ both .1))
+
+pub skip-free : (s : List ℕ) (end : ℕ) → end ≤ length s → (i n : ℕ) → Free s i (i + n) → i + n ≤ end
+    → i + n + beforeFeed (drop (i + n) (take end s)) ≡ i + beforeFeed (drop i (take end s))
+skip-free s end long i zero f h = let z : i + 0 ≡ i = omega arith in rw z
+skip-free s end long i (suc n) f h =
+    let z : i + suc n ≡ i + n + 1 = omega arith in
+    rw z
+    (feed-later s end long (i + n) (omega arith) (λ e. f (i + n) (omega arith) (omega arith) e)
+    ∙ skip-free s end long i n (λ k a b e. f k a (omega arith) e) (omega arith))
 
 -- ---- the lines
 
