@@ -8,7 +8,7 @@ use native.Mathlib.Omega.{arith}
 use lib.ListN.{length, getD, take, drop, length-drop, length-append, replicate, length-replicate}
 use lib.Seq.{paste, take-paste, take-all, length-take-le}
 use Rattle.basis.specs.Order.{by-lt}
-use Rattle.meaning.specs.Checks.{textLimit, checkText}
+use Rattle.meaning.specs.Checks.{textLimit}
 use Rattle.meaning.specs.Month.{mostClues, noFigures, streamLines}
 use Rattle.meaning.specs.declared.settings.Settings.{Settings}
 use Rattle.meaning.specs.declared.refusals.Refusal.the-variants.{TextTooLong}

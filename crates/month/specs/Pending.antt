@@ -11,7 +11,7 @@ use lib.Dec.{eqb}
 use lib.ListN.{length, take, drop, length-append, replicate, length-replicate}
 use lib.Seq.{take-append-add, drop-append-add}
 use Rattle.basis.specs.Choice.{pick, pick-true, pick-false, by-test}
-use Rattle.meaning.specs.Checks.{textLimit, checkText}
+use Rattle.meaning.specs.Checks.{textLimit}
 use Rattle.meaning.specs.Month.{mostClues, figuresBy, together, ontoFirst, streamLines}
 use Rattle.meaning.specs.declared.settings.Settings.{Settings}
 use Rattle.meaning.specs.declared.figures.Figures.{Figures}

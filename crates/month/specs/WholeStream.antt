@@ -1,11 +1,11 @@
 -- The whole stream: whatever blocks it comes in, what is counted at its end is the month of its clues (rule 10).
 -- Assumes nothing.
-use Prim.Native.Nat.{ℕ, zero, suc, _+_, _-_, _*_, _≤_, _<_}
+use Prim.Native.Nat.{ℕ, _+_, _-_, _≤_, _<_}
 use mathlib.Core.Path.{_≡_, refl, sym, ap, subst, _∙_}
 use mathlib.Core.Bool.{true, false}
 use mathlib.Core.List.{List, [], _∷_, _++_, append-assoc, append-nil}
 use native.Mathlib.Omega.{arith}
-use lib.ListN.{length, take, drop}
+use lib.ListN.{length, take, replicate}
 use lib.Seq.{take-nil, length-take-le}
 use Rattle.basis.specs.Choice.{pick, by-test}
 use Rattle.basis.specs.Order.{by-eq}
@@ -17,7 +17,7 @@ use Rattle.clues.specs.Gathering.{withClue, withClues, noneYet, month-is}
 use Rattle.clues.specs.Feeds.{beforeFeed}
 use Rattle.clues.specs.Counting.{counting}
 use Rattle.month.specs.Pending.{longClue, pending, blockOf, ending, NoFeed, long-long, long-feed, begun-line, full-same, one-counted, pending-short, pending-long, ending-of}
-use Rattle.month.specs.Blocks.{LastCounted}
+use Rattle.month.specs.Blocks.{LastCounted, zero-sums}
 use Rattle.month.specs.Going.{WentOn}
 use Rattle.month.specs.declared.block.Step.{Step}
 
@@ -127,6 +127,10 @@ pub record Begun (ws : List ℕ) (h : State) : Type 0 where
   pub held : h .step .held ≡ 0
   pub long : h .step .long ≡ false
   pub sums : sumsOf ws (h .sums) ≡ noneYet ws
+
+-- So it is with an array of zeros.
+pub begun-zeros : (ws : List ℕ) (n : ℕ) (b : List ℕ) → Begun ws (record { sums = replicate n 0; buffer = b; step = record { clues = 0; held = 0; long = false } })
+begun-zeros ws n b = record { clues = refl; held = refl; long = refl; sums = zero-sums ws n }
 
 module _ (s : Settings) (ws : List ℕ) (h : State) (begun : Begun ws h) where
   begun-pending : pending (h .step) (h .buffer) ≡ []

@@ -40,7 +40,7 @@ returns-2 c =
     let e = l .before .before .before in
     let b = e .before .before .before .before .before in (
       stepped _ _ _ _ _ _ (l .end-long .ensures .counts) (l .end-long .ensures .few) refl (omega (arith, b .pre .1 .0)),
-      went-still _ _ _ _ _ _ (not-false _ (e .if1 .left)) _ _ (l .end-long .ensures) (c .if2 .taken) _ refl refl,
+      went-still _ _ _ _ _ _ (not-false _ (e .if1 .left)) _ _ (l .end-long .ensures) (omega (arith, c .if2 .taken)) _ refl refl,
     )
 
 count-from-requires-2 : tie.Need-count-from-requires-2
@@ -62,7 +62,7 @@ returns-3 c =
     let l = z .before .before .before in
     let e = l .before .before .before in (
       k .count-from2 .ensures .0,
-      went-ended _ _ _ _ _ _ (not-false _ (e .if1 .left)) _ _ (l .end-long .ensures) (z .if2 .left) _ _ _ (k .count-from2 .ensures .1),
+      went-ended _ _ _ _ _ _ (not-false _ (e .if1 .left)) _ _ (l .end-long .ensures) (λ e. omega (arith, z .if2 .left)) _ _ _ (k .count-from2 .ensures .1),
     )
 
 pub count-block-spec : {M : Type 1} → statement M

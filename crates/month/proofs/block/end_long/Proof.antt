@@ -1,6 +1,5 @@
 -- `month::block::end_long` meets its contract (refusal 3).
 -- Assumes nothing.
-use native.Mathlib.Omega.{arith}
 use Rattle.month.specs.Blocks.{long-still, long-ended}
 use borrow.Author.Needs.{needs}
 use Rattle.month.proofs.block.end_long.Statement.{statement}
