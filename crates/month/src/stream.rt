@@ -8,7 +8,7 @@ use libc::STDIN_FILENO;
 use meaning::settings::Settings;
 ghost use Prim.Native.Nat.{_≤_, _<_};
 ghost use mathlib.Core.Path.{_≡_};
-ghost use lib.ListN.{length};
+ghost use lib.ListN.{length, take};
 ghost use Rattle.clues.specs.Counting.{Counts};
 ghost use Rattle.month.specs.Blocks.{Came};
 
@@ -26,10 +26,11 @@ pub enum Got {
     Failed,
 }
 
-// Reads once, into the buffer from a place on.
+// Reads once, into the buffer from a place on. What stands before it stays.
 fn read_more(buffer: &mut [u8], end: usize) -> Got
     requires { ⌜ end < length (now buffer) ⌝ }
     ensures { λ r. ⌜ Came end (length (now (buffer .exit))) r ⌝ }
+    ensures { λ r. ⌜ take end (now (buffer .exit)) ≡ take end (now (buffer .entry)) ⌝ }
 {
     let got = libc::read(STDIN_FILENO, &mut buffer[end..]);
     if got < 0 {

@@ -39,7 +39,7 @@ count-block-requires : tie.Need-count-block-requires Inv-loop μ-loop
 count-block-requires c κs =
     let r = c .before .before .before .before .before .before in
     let l = r .before .before .before .loop in
-    let came = subst (Came _ _) (c .before .before .before .end .given .1) (r .read-more .ensures) in
+    let came = subst (Came _ _) (c .before .before .before .end .given .1) (r .read-more .ensures .0) in
     (came .1, (omega (arith, r .read-more .kept .0, l .inv .4), (l .inv .0, (l .inv .1, omega (arith, came .0)))))
 
 show-requires : tie.Need-show-requires Inv-loop μ-loop
