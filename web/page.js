@@ -23,6 +23,7 @@ const withCapital = (words) => words[0].toUpperCase() + words.slice(1);
 const WELCOME = 'Who lied?\n            not the baker, not his wife.';
 const AT_FIRST = { ...defaults, spacing: 10, height: 64 };
 const ROWS = 400; // a table of more lines is shown in parts
+const LINES_MOST = TEXT_MAX + 1;
 
 const state = { settings: AT_FIRST, h: 6, compare: false, colour: false, zoom: 0, rows: ROWS, pointed: null };
 let library;
@@ -68,10 +69,18 @@ function forgetRefusals() {
 }
 
 function refusalWords(error) {
-    if (!(error instanceof Refusal)) {
-        return `${withCapital(error.message)}.`;
+    const number = error instanceof Refusal ? ` (Refusal ${error.number}, ${error.name}.)` : '';
+    return `${withCapital(error.message)}.${number}`;
+}
+
+// What is written where a number is wanted, and is none that the library could be asked about.
+class Unfit extends Error {}
+
+function wholeNumber(name, words) {
+    if (words.trim() === '' || !Number.isInteger(Number(words))) {
+        throw new Unfit(`${name} is “${words}”, and has to be a whole number`);
     }
-    return `${withCapital(error.message)}. (Refusal ${error.number}, ${error.name}.)`;
+    return Number(words);
 }
 
 // Does something that the library may refuse. If it does, that is said, and what was there stays.
@@ -81,6 +90,9 @@ function attempt(field, action, before = '') {
     try {
         action();
     } catch (error) {
+        if (!(error instanceof Refusal || error instanceof Unfit)) {
+            throw error;
+        }
         refuse(before + refusalWords(error), field);
         return false;
     }
@@ -207,6 +219,9 @@ let dragged = null; // where the drag of an edge began, by what width and zoom
 class Picture {
     #wrap;
     #layout;
+    #bytes;
+    #starts;
+    #lost;
     #place;
     #glyphs = new Glyphs();
     figure = make('figure');
@@ -299,6 +314,9 @@ class Picture {
     // The zoom stays while the edge is dragged.
     show(layout, place) {
         this.#layout = layout;
+        this.#bytes = layout.bytes;
+        this.#starts = new Set(layout.pages(state.h).map((page) => page.line));
+        this.#lost = new Map(layout.dropped.map(({ line, text }) => [line, text]));
         this.#place = { ...place, ...(dragged && { zoom: dragged.zoom }) };
         this.#showVerdict();
         this.#fit();
@@ -367,7 +385,7 @@ class Picture {
         }
         if (line.dropped > 0) {
             const at = penAfter(this.#layout, k);
-            const text = [...this.#layout.dropped.find((lost) => lost.line === k).text].slice(0, LOST_MOST);
+            const text = [...this.#lost.get(k)].slice(0, LOST_MOST);
             this.#drawText(on, text, colour('lost'), at, y);
             pen.fillStyle = colour('lost');
             pen.fillRect(on.x(at), on.y(y + settings.base) - scale / 2, on.x(at + text.length * settings.glyph) - on.x(at), Math.max(1, scale / 2));
@@ -390,16 +408,9 @@ class Picture {
     }
 
     #printed(event) {
-        const text = decoder.decode(this.#bytes().subarray(event.start, event.end));
+        const text = decoder.decode(this.#bytes.subarray(event.start, event.end));
         return [...(text === '\u00ad' ? '-' : text)];
     }
-    #bytes() {
-        if (this.#kept?.layout !== this.#layout || this.#kept.table !== this.#layout.lines) {
-            this.#kept = { layout: this.#layout, table: this.#layout.lines, bytes: this.#layout.bytes };
-        }
-        return this.#kept.bytes;
-    }
-    #kept = null;
 
     #drawText({ pen, scale, x, y }, text, colour, left, top) {
         const { glyph, base } = this.#layout.settings;
@@ -412,13 +423,12 @@ class Picture {
     #drawNumbers({ pen, colour, y }) {
         const { dense } = this.#place;
         const { base } = this.#layout.settings;
-        const starts = new Map(pagesOf(this.#layout).map((page, k) => [page.line, k]));
         pen.textBaseline = 'middle';
         pen.textAlign = 'right';
         let free = -Infinity;
         for (const { k, y: top, line, shows } of this.#linesDrawn()) {
             const middle = y(top + base / 2);
-            if (starts.get(k) > 0) {
+            if (k > 0 && this.#starts.has(k)) {
                 pen.fillStyle = colour('accent');
                 pen.fillRect(0, y(top) - dense, (GUTTER - 4) * dense, dense);
             }
@@ -470,14 +480,6 @@ function fateOf(edit, line) {
         return '';
     }
     return line < edit.first ? 'untouched' : line < edit.first + edit.laid ? 'laid' : 'moved';
-}
-
-function pagesOf(layout) {
-    try {
-        return layout.pages(state.h);
-    } catch {
-        return [];
-    }
 }
 
 // ---- the line that is pointed at
@@ -546,7 +548,7 @@ function renderLines() {
 
 function renderPages() {
     const layout = shown();
-    const pages = pagesOf(layout);
+    const pages = layout.pages(state.h);
     const rows = pages.slice(0, ROWS).map((page, k) => {
         const last = (pages[k + 1]?.line ?? layout.lineCount) - 1;
         const lines = last === page.line ? String(page.line) : `${page.line} to ${last}`;
@@ -621,24 +623,24 @@ function addressWords() {
 
 function readAddress(address) {
     const words = new URLSearchParams(new URL(address).hash.slice(1));
-    const number = (name, usual) => (words.has(name) ? Number(words.get(name)) : usual);
-    const settings = Object.fromEntries(Object.keys(AT_FIRST).map((name) => [name, number(name, AT_FIRST[name])]));
-    const h = number('h', 6);
+    const number = (name, usual) => (words.has(name) ? wholeNumber(name, words.get(name)) : usual);
     return {
         text: words.get('t') ?? WELCOME,
-        settings,
+        settings: Object.fromEntries(Object.keys(AT_FIRST).map((name) => [name, number(name, AT_FIRST[name])])),
         compare: words.has('t') ? number('compare', 0) === 1 : true,
-        rest: { colour: number('colour', 0) === 1, h: Number.isInteger(h) && h >= 1 && h <= 65536 ? h : 6, zoom: Math.max(0, Math.min(8, Math.round(number('zoom', 0)) || 0)) },
+        rest: { colour: number('colour', 0) === 1, h: fitLines(number('h', 6)), zoom: Math.max(0, Math.min(8, number('zoom', 0))) },
     };
 }
 
-// Shows what a link says. What is bad in it is refused in words: then the text is laid by the settings at first.
+// Shows what a link says. What is bad in it is refused in words, and what was there stays.
 function openAddress(address) {
     clearTimeout(waiting);
-    const { text, settings, compare, rest } = readAddress(address);
-    Object.assign(state, rest);
-    const done = attempt(null, () => layAnew(text, settings, compare), 'The link: ');
-    if (!done && layouts.size === 0) {
+    const open = () => {
+        const { text, settings, compare, rest } = readAddress(address);
+        layAnew(text, settings, compare);
+        Object.assign(state, rest);
+    };
+    if (!attempt(null, open, 'The link: ') && layouts.size === 0) {
         layAnew(WELCOME, AT_FIRST, true);
         render();
     }
@@ -665,7 +667,7 @@ const CHOICES = [
     ['trailing', 'Trailing spaces, retired', ['off']],
 ];
 
-const setSetting = (name, value, field) => attempt(field, () => layAnew(shown().text, { ...state.settings, [name]: value }));
+const setSetting = (name, words, field) => attempt(field, () => layAnew(shown().text, { ...state.settings, [name]: wholeNumber(name, String(words)) }));
 const setWidth = (width) => setSetting('width', Math.max(limits.width[0], Math.min(limits.width[1], width)), $('width'));
 
 function makeField([name, label]) {
@@ -673,12 +675,12 @@ function makeField([name, label]) {
     const field = make('input', { type: 'number', id: name, min, max, step: 1 });
     const slider = make('input', { type: 'range', id: `${name}-slider`, step: 1 });
     slider.setAttribute('aria-label', `${label}, as a slider`);
-    field.addEventListener('input', () => setSetting(name, field.value === '' ? NaN : Number(field.value), field));
+    field.addEventListener('input', () => setSetting(name, field.value, field));
     field.addEventListener('change', () => {
         forgetRefusals();
         renderControls();
     });
-    slider.addEventListener('input', () => setSetting(name, Number(slider.value), field));
+    slider.addEventListener('input', () => setSetting(name, slider.value, field));
     return make('div', { className: 'setting' }, make('label', { htmlFor: name }, `${label} `, make('small', {}, name)), field, slider);
 }
 
@@ -731,14 +733,19 @@ const written = () => attempt($('clue'), () => layEdited(fromBox($('clue').value
 
 // ---- files
 
-async function bytesOfFile(input) {
+// Hands a file's name and bytes on. One that cannot be read, as a folder, is told.
+async function withFile(input, use) {
     const [file] = input.files;
     input.value = '';
-    return { name: file.name, bytes: new Uint8Array(await file.arrayBuffer()) };
+    const bytes = await file.arrayBuffer().catch(() => null);
+    if (bytes === null) {
+        refuse(`${file.name} cannot be read.`);
+    } else {
+        use(file.name, new Uint8Array(bytes));
+    }
 }
 
-async function openText() {
-    const { name, bytes } = await bytesOfFile($('open-text'));
+function openText(name, bytes) {
     if (attempt(null, () => layAnew(bytes, state.settings), `${name} is not opened. `)) {
         $('clue').value = toBox(shown().text);
         tell(`${name} is opened.`);
@@ -746,8 +753,7 @@ async function openText() {
 }
 
 // A layout file has no text: its settings are taken, and its lines are held to those of the text that is here.
-async function openLayout() {
-    const { name, bytes } = await bytesOfFile($('open-layout'));
+function openLayout(name, bytes) {
     let read;
     try {
         read = library.readFile(bytes);
@@ -762,6 +768,9 @@ async function openLayout() {
 }
 
 function openRefused(name, error) {
+    if (!(error instanceof Refusal)) {
+        throw error;
+    }
     if (error.number === Refused.RETIRED_SETTING && attempt(null, () => layAnew(shown().text, error.settings))) {
         tell(`${name}: ${refusalWords(error)} The settings are taken.`);
         return;
@@ -781,24 +790,23 @@ function save() {
 // ---- the other controls
 
 function propose() {
-    attempt($('h'), () => {
-        const width = library.columnsPlan(shown().bytes, state.h, state.settings);
-        setTimeout(() => {
-            const most = counted(state.h, 'line', 'lines');
-            $('planned').textContent = width === null ? `No width from 0 to ${grouped(limits.width[1])} shows it in ${most}.` : `${grouped(width)} pixels is the smallest width for ${most} with nothing lost.`;
-            $('use').hidden = width === null || width === state.settings.width;
-            $('use').value = width ?? '';
-        });
-    });
+    const width = library.columnsPlan(shown().bytes, state.h, state.settings);
+    const most = counted(state.h, 'line', 'lines');
+    $('planned').textContent = width === null ? `No width from 0 to ${grouped(limits.width[1])} shows it in ${most}.` : `${grouped(width)} pixels is the smallest width for ${most} with nothing lost.`;
+    $('use').hidden = width === null || width === state.settings.width;
+    $('use').value = width ?? '';
 }
 
-function setLines() {
-    const h = Number($('h').value);
-    attempt($('h'), () => {
-        library.columnsFit('', h, state.settings);
-        state.h = h;
-    });
+// A number of lines that a page may have: 0 is the library's to refuse.
+function fitLines(h) {
+    if (h < 0 || h > LINES_MOST) {
+        throw new Unfit(`the number of lines is ${h}, and may be 1 to ${grouped(LINES_MOST)}`);
+    }
+    library.columnsFit('', h);
+    return h;
 }
+
+const setLines = () => attempt($('h'), () => (state.h = fitLines(wholeNumber('the number of lines', $('h').value))));
 
 async function copyLink() {
     history.replaceState(null, '', `#${addressWords()}`);
@@ -813,8 +821,8 @@ async function copyLink() {
 function listen() {
     const on = (id, event, action) => $(id).addEventListener(event, action);
     on('clue', 'input', written);
-    on('open-text', 'change', openText);
-    on('open-layout', 'change', openLayout);
+    on('open-text', 'change', () => withFile($('open-text'), openText));
+    on('open-layout', 'change', () => withFile($('open-layout'), openLayout));
     on('save', 'click', save);
     on('link', 'click', copyLink);
     on('compare', 'click', () => attempt(null, () => layAnew(shown().text, state.settings, !state.compare)));

@@ -181,6 +181,7 @@ export interface Bisquemop {
     layout(text: Text, settings?: Partial<Settings>): Line[];
     layoutTable(text: Text, settings?: Partial<Settings>): Uint32Array;
     layoutEvents(text: Text, settings?: Partial<Settings>): { lines: Line[]; events: Event[] };
+    layoutEventNumbers(text: Text, settings?: Partial<Settings>): { table: Uint32Array; events: Uint32Array };
     open(text: Text, settings?: Partial<Settings>): number;
     oneLine(text: Text, from?: Place, settings?: Partial<Settings>): { line: Line; next: Required<Place> | null };
     lineByLine(text: Text, settings?: Partial<Settings>): IterableIterator<Line>;

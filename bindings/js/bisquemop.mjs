@@ -213,7 +213,11 @@ function numbersOf(what, columns, records) {
 function recordsOf(columns, numbers) {
     const records = [];
     for (let at = 0; at < numbers.length; at += columns.length) {
-        records.push(Object.fromEntries(columns.map((column, c) => [column, numbers[at + c]])));
+        const record = {};
+        for (let c = 0; c < columns.length; c++) {
+            record[columns[c]] = numbers[at + c];
+        }
+        records.push(record);
     }
     return records;
 }
@@ -383,6 +387,12 @@ class Bisquemop {
     }
 
     layoutEvents(text, settings = {}) {
+        const { table, events } = this.layoutEventNumbers(text, settings);
+        return { lines: recordsOf(LINE, table), events: recordsOf(EVENT, events) };
+    }
+
+    // The same as two rows of numbers, eleven a line and six an event.
+    layoutEventNumbers(text, settings = {}) {
         this.#begin();
         const drawn = this.#lent.reserve(8);
         const lent = this.#lendText(text);
@@ -392,8 +402,8 @@ class Bisquemop {
         const lines = this.#ask('layout_events', { settings }, ...words);
         const eventCount = Number(this.#lent.number(BigUint64Array, drawn));
         return {
-            lines: recordsOf(LINE, this.#lent.take(Uint32Array, table, LINE.length * lines)),
-            events: recordsOf(EVENT, this.#lent.take(Uint32Array, events[0], EVENT.length * eventCount)),
+            table: this.#lent.take(Uint32Array, table, LINE.length * lines),
+            events: this.#lent.take(Uint32Array, events[0], EVENT.length * eventCount),
         };
     }
 
@@ -612,6 +622,7 @@ class Layout {
     #index;
     #lines;
     #events;
+    #dropped;
 
     constructor(library, bytes, settings) {
         this.#library = library;
@@ -653,7 +664,7 @@ class Layout {
         if (this.#events === undefined) {
             this.#events = this.lines.map(() => []);
             let line = 0;
-            for (const event of this.#library.layoutEvents(this.#bytes, this.#settings).events) {
+            for (const event of recordsOf(EVENT, this.#library.layoutEventNumbers(this.#bytes, this.#settings).events)) {
                 const last = event.end > event.start ? event.start : event.start - 1;
                 while (line + 1 < this.lines.length && this.lines[line + 1].start <= last) {
                     line++;
@@ -667,13 +678,10 @@ class Layout {
     // The words that no line draws.
     get dropped() {
         const { lines } = this;
-        const lost = [];
-        lines.forEach((line, k) => {
-            if (line.dropped > 0) {
-                lost.push(lostIn(this.#bytes, k, lines[k + 1]?.start ?? this.#bytes.length, line.dropped));
-            }
-        });
-        return lost;
+        this.#dropped ??= lines.flatMap((line, k) =>
+            line.dropped > 0 ? [lostIn(this.#bytes, k, lines[k + 1]?.start ?? this.#bytes.length, line.dropped)] : [],
+        );
+        return this.#dropped;
     }
 
     lineText(line) {
@@ -708,6 +716,7 @@ class Layout {
         this.#table = table;
         this.#lines = undefined;
         this.#events = undefined;
+        this.#dropped = undefined;
         return { first, laid, moved: this.lineCount - first - laid, lines: this.lineCount };
     }
 

@@ -174,7 +174,7 @@ def test_opened(driver):
     same('nothing is refused', True, is_hidden(driver, '#refusal'))
     same('both wraps stand side by side', 2, len(driver.find_elements(By.CSS_SELECTOR, 'figure')))
     picture(driver, 'opened')
-    size(driver, 1080, 600)
+    size(driver, 1280, 620)
     driver.execute_script('document.activeElement.blur()')
     picture(driver, 'page', whole=False)
     size(driver, 1280, 1000)
@@ -290,6 +290,8 @@ def test_lists(driver):
     holds('then three lines are enough', 'loses nothing' in text_of(driver, '#fits'))
     fill(driver, '#h', '0')
     same('no lines are refused', 'The number of lines is 0, and has to be 1 at least. (Refusal 1, SETTING_OUT_OF_RANGE.)', text_of(driver, '#refusal'))
+    find(driver, '#h').send_keys(Keys.BACKSPACE)
+    same('so is an empty field', 'The number of lines is “”, and has to be a whole number.', text_of(driver, '#refusal'))
 
 
 # ---- files
@@ -410,6 +412,8 @@ def test_link(driver):
     same('and the rest', ['90', '2', True, 2], [find(driver, '#width').get_attribute('value'), find(driver, '#h').get_attribute('value'), find(driver, '#alignment-2').is_selected(), len(driver.find_elements(By.CSS_SELECTOR, 'figure'))])
     visit(driver, f'{URL}#t=a&width=99999')
     holds('a bad link is refused in words', text_of(driver, '#refusal').startswith('The link: Width is 99999, and may be 0 to 4,096.'))
+    go(driver, 'b', {**AT_FIRST, 'width': 'wide'})
+    same('so is a word where a number is wanted', 'The link: Width is “wide”, and has to be a whole number.', text_of(driver, '#refusal'))
 
 
 ROLES = {'textbox', 'slider', 'spinbutton', 'button', 'checkbox', 'radio', 'combobox', 'image', 'region', 'table'}
