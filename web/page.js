@@ -25,6 +25,8 @@ const AT_FIRST = { ...defaults, spacing: 10, height: 64 };
 const ROWS = 400; // a table of more lines is shown in parts
 const LINES_MOST = TEXT_MAX + 1;
 
+const VIEW_AT_FIRST = { h: 6, compare: 0, colour: 0, zoom: 0 };
+
 const state = { settings: AT_FIRST, h: 6, compare: false, colour: false, zoom: 0, rows: ROWS, pointed: null };
 let library;
 let layouts = new Map(); // by wrap setting: the one that is set, and the other where both are shown
@@ -105,8 +107,9 @@ const toBox = (text) => text.replaceAll('\r', '⏎');
 const fromBox = (text) => text.replaceAll('⏎', '\r');
 
 const SIGNS = { '\n': '↵', '\r': '⏎', '\t': '⇥', '\u00a0': '⍽', '\u2007': '⍽', '\u202f': '⍽', '\u00ad': '¬', '\u200b': '│' };
-const visible = (text) =>
-    text.replace(/^ +| +$/g, (spaces) => '·'.repeat(spaces.length)).replace(/[\n\r\t\u00a0\u2007\u202f\u00ad\u200b]/g, (sign) => SIGNS[sign]);
+const signOf = (character) => SIGNS[character];
+const dotsFor = (spaces) => '·'.repeat(spaces.length);
+const visible = (text) => text.replace(/^ +| +$/g, dotsFor).replace(/[\n\r\t\u00a0\u2007\u202f\u00ad\u200b]/g, signOf);
 
 // ---- the font
 
@@ -175,7 +178,8 @@ const GUTTER = 44; // for line numbers, left of the box; this and the next three
 const TAIL = 26;
 const HEAD = 10;
 const FOOT = 36;
-const LOST_MOST = 18; // so many lost characters are drawn, at most
+const LOST_MOST = 18; // so many lost characters of a line are drawn, at most
+const LOST_TOLD = 5; // and so many lines are told
 
 const decoder = new TextDecoder();
 const colours = () => {
@@ -183,8 +187,6 @@ const colours = () => {
     return (name) => style.getPropertyValue(`--${name}`).trim();
 };
 
-// Which lines show, by rule 11: those that are wholly in the box.
-const isShowing = (y, { top, height, base }) => y >= top && y <= top + height - base;
 const printsSomething = (events) => events.some((event) => event.kind === Drawn.PRINTED && event.end > event.start);
 
 // How far a layout goes beyond its box: by hidden lines above and below, of which some are drawn, and by lost words on the right.
@@ -214,6 +216,11 @@ const penAfter = (layout, line) => {
     return last === undefined ? layout.lines[line].left : last.x + last.width;
 };
 
+function lostItem({ line, count, text }) {
+    const words = `Line ${line}: ${characters(count)} ${count === 1 ? 'is' : 'are'} not on the screen: `;
+    return make('li', { className: 'lost' }, words, make('span', { className: 'word' }, `“${visible(text)}”`));
+}
+
 let dragged = null; // where the drag of an edge began, by what width and zoom
 
 class Picture {
@@ -235,7 +242,7 @@ class Picture {
     constructor(wrap) {
         this.#wrap = wrap;
         this.figure.dataset.wrap = wrap;
-        this.#caption.textContent = wrap === 0 ? 'wrap 0: a word that has no room is dropped' : 'wrap 1: a word that has no room waits for the next line';
+        this.#caption.textContent = `wrap ${wrap}: a word that has no room ${wrap === 0 ? 'is dropped' : 'waits for the next line'}`;
         this.#verdict.setAttribute('role', 'status');
         this.#canvas.setAttribute('role', 'img');
         this.#canvas.setAttribute('aria-describedby', 'pointed');
@@ -333,7 +340,8 @@ class Picture {
         this.#place.dense = density;
         Object.assign(this.#canvas, { width: Math.ceil(wide * density), height: Math.ceil(high * density) });
         Object.assign(this.#canvas.style, { width: `${wide}px`, height: `${high}px` });
-        Object.assign(this.#edge.style, { left: `${GUTTER + width * zoom}px`, top: `${HEAD + above * zoom - 4}px`, height: `${height * zoom + 8}px` });
+        const [left, top] = [GUTTER + width * zoom, HEAD + above * zoom - 4];
+        Object.assign(this.#edge.style, { left: `${left}px`, top: `${top}px`, height: `${height * zoom + 8}px` });
         this.#edge.setAttribute('aria-valuenow', width);
         this.#edge.setAttribute('aria-valuetext', `${width} pixels`);
     }
@@ -352,13 +360,13 @@ class Picture {
 
     // The lines that have a place in the picture, shown or not.
     #linesDrawn() {
-        const { settings, index, lines } = this.#layout;
+        const { settings, index, lines, showing } = this.#layout;
         const { above, below } = this.#place;
         const drawn = [];
         lines.forEach((line, k) => {
             const y = index[k] - settings.top;
             if (y + settings.base > -above && y < settings.height + below) {
-                drawn.push({ k, y, shows: isShowing(index[k], settings), line });
+                drawn.push({ k, y, shows: showing[k], line });
             }
         });
         return drawn;
@@ -369,8 +377,9 @@ class Picture {
         pen.fillStyle = colour('screen');
         pen.fillRect(x(0), y(0), x(width) - x(0), y(height) - y(0));
         pen.strokeStyle = colour('screen-rule');
-        pen.lineWidth = this.#place.dense;
-        pen.strokeRect(x(0) - pen.lineWidth / 2, y(0) - pen.lineWidth / 2, x(width) - x(0) + pen.lineWidth, y(height) - y(0) + pen.lineWidth);
+        const thick = this.#place.dense;
+        pen.lineWidth = thick;
+        pen.strokeRect(x(0) - thick / 2, y(0) - thick / 2, x(width) - x(0) + thick, y(height) - y(0) + thick);
     }
 
     #drawLine(on, { k, y, shows, line }) {
@@ -387,8 +396,9 @@ class Picture {
             const at = penAfter(this.#layout, k);
             const text = [...this.#lost.get(k)].slice(0, LOST_MOST);
             this.#drawText(on, text, colour('lost'), at, y);
+            const end = at + text.length * settings.glyph;
             pen.fillStyle = colour('lost');
-            pen.fillRect(on.x(at), on.y(y + settings.base) - scale / 2, on.x(at + text.length * settings.glyph) - on.x(at), Math.max(1, scale / 2));
+            pen.fillRect(on.x(at), on.y(y + settings.base) - scale / 2, on.x(end) - on.x(at), Math.max(1, scale / 2));
         }
     }
 
@@ -445,30 +455,31 @@ class Picture {
     // ---- what is said
 
     #spoken() {
-        const { settings, index, events } = this.#layout;
+        const { showing, events } = this.#layout;
         const told = events.slice(0, 60).map((line, k) => {
             const words = line.filter((event) => event.kind === Drawn.PRINTED).map((event) => this.#printed(event).join(''));
-            return isShowing(index[k], settings) ? `Line ${k}: ${words.join(' ') || 'empty'}.` : `Line ${k} does not show.`;
+            return showing[k] ? `Line ${k}: ${words.join(' ') || 'empty'}.` : `Line ${k} does not show.`;
         });
         return told.join(' ');
     }
 
     #showVerdict() {
-        const { settings, index, events, dropped } = this.#layout;
-        const hidden = events.filter((line, k) => !isShowing(index[k], settings) && printsSomething(line)).length;
-        const all = dropped.reduce((sum, { count }) => sum + count, 0);
-        const list = make('ul');
-        for (const lost of dropped.slice(0, 5)) {
-            list.append(make('li', { className: 'lost' }, `Line ${lost.line}: ${characters(lost.count)} ${lost.count === 1 ? 'is' : 'are'} not on the screen: `, make('span', { className: 'word' }, `“${visible(lost.text)}”`)));
-        }
-        if (dropped.length > 5) {
-            list.append(make('li', {}, `and ${characters(all - dropped.slice(0, 5).reduce((sum, { count }) => sum + count, 0))} in later lines`));
+        const { showing, events, dropped } = this.#layout;
+        const hidden = events.filter((line, k) => !showing[k] && printsSomething(line)).length;
+        const items = dropped.slice(0, LOST_TOLD).map(lostItem);
+        if (dropped.length > LOST_TOLD) {
+            const more = dropped.slice(LOST_TOLD).reduce((sum, { count }) => sum + count, 0);
+            items.push(make('li', {}, `and ${characters(more)} in later lines`));
         }
         if (hidden > 0) {
-            list.append(make('li', {}, `${counted(hidden, 'line does', 'lines do')} not show: the box is too low`));
+            items.push(make('li', {}, `${counted(hidden, 'line does', 'lines do')} not show: the box is too low`));
         }
-        this.#verdict.className = `verdict ${all > 0 ? 'bad' : hidden > 0 ? 'warn' : ''}`;
-        this.#verdict.replaceChildren(all > 0 || hidden > 0 ? 'Part of the clue is not on the screen' : 'The whole clue is on the screen', ...(list.children.length > 0 ? [list] : []));
+        this.#verdict.className = `verdict ${dropped.length > 0 ? 'bad' : hidden > 0 ? 'warn' : ''}`;
+        if (items.length === 0) {
+            this.#verdict.textContent = 'The whole clue is on the screen';
+        } else {
+            this.#verdict.replaceChildren('Part of the clue is not on the screen', make('ul', {}, ...items));
+        }
     }
 }
 
@@ -484,7 +495,12 @@ function fateOf(edit, line) {
 
 // ---- the line that is pointed at
 
-const END_WORDS = { [End.NEW_LINE]: 'a new line', [End.CARRIAGE_RETURN]: 'a carriage return', [End.END_OF_TEXT]: 'the end of the text', [End.LINE_BREAK]: 'a line break' };
+const END_WORDS = {
+    [End.NEW_LINE]: 'a new line',
+    [End.CARRIAGE_RETURN]: 'a carriage return',
+    [End.END_OF_TEXT]: 'the end of the text',
+    [End.LINE_BREAK]: 'a line break',
+};
 
 function point(wrap, line = null) {
     const pointed = line === null ? null : { wrap, line };
@@ -507,7 +523,8 @@ function renderPointed() {
     }
     const layout = layouts.get(pointed.wrap);
     const line = layout.lines[pointed.line];
-    $('pointed').textContent = `Line ${pointed.line}: “${visible(layout.lineText(pointed.line))}”, from byte ${line.start}, ends by ${END_WORDS[line.end]}.`;
+    const text = visible(layout.lineText(pointed.line));
+    $('pointed').textContent = `Line ${pointed.line}: “${text}”, from byte ${line.start}, ends by ${END_WORDS[line.end]}.`;
     if (pointed.wrap === settings.wrap) {
         document.querySelector(`#lines tr[data-line="${pointed.line}"]`)?.classList.add('pointed');
     }
@@ -533,15 +550,17 @@ function lineRow(layout, k) {
     const line = layout.lines[k];
     const fate = state.colour ? fateOf(edits.get(state.settings.wrap), k) : '';
     const numbers = Object.keys(COLUMNS).map((column) => make('td', { data: { column } }, String(line[column])));
-    const head = make('th', { scope: 'row' }, String(k));
-    return make('tr', { className: `${fate} ${line.dropped > 0 ? 'lost' : ''}`, data: { line: k } }, head, ...numbers, make('td', {}, visible(layout.lineText(k)).slice(0, 80)));
+    const row = make('tr', { className: `${fate} ${line.dropped > 0 ? 'lost' : ''}`, data: { line: k } });
+    row.append(make('th', { scope: 'row' }, String(k)), ...numbers, make('td', {}, visible(layout.lineText(k)).slice(0, 80)));
+    return row;
 }
 
 function renderLines() {
     const layout = shown();
     const rows = Math.min(layout.lineCount, state.rows);
     $('lines').tBodies[0].replaceChildren(...Array.from({ length: rows }, (_, k) => lineRow(layout, k)));
-    $('counts').textContent = `${counted(layout.lineCount, 'line', 'lines')}, counted from 0; ${grouped(layout.height)} pixels high; wrap ${state.settings.wrap}`;
+    const lines = counted(layout.lineCount, 'line', 'lines');
+    $('counts').textContent = `${lines}, counted from 0; ${grouped(layout.height)} pixels high; wrap ${state.settings.wrap}`;
     $('more').hidden = rows === layout.lineCount;
     $('more').textContent = `Show more of the other ${grouped(layout.lineCount - rows)} lines`;
 }
@@ -552,7 +571,8 @@ function renderPages() {
     const rows = pages.slice(0, ROWS).map((page, k) => {
         const last = (pages[k + 1]?.line ?? layout.lineCount) - 1;
         const lines = last === page.line ? String(page.line) : `${page.line} to ${last}`;
-        return make('tr', {}, make('th', { scope: 'row' }, String(k + 1)), make('td', {}, lines), make('td', {}, `${page.start} to ${page.end}`), make('td', {}, visible(layout.lineText(page.line)).slice(0, 60)));
+        const cells = [lines, `${page.start} to ${page.end}`, visible(layout.lineText(page.line)).slice(0, 60)];
+        return make('tr', {}, make('th', { scope: 'row' }, String(k + 1)), ...cells.map((words) => make('td', {}, words)));
     });
     $('pages').tBodies[0].replaceChildren(...rows);
     $('pages-title').textContent = `${counted(pages.length, 'page', 'pages')} of ${counted(state.h, 'line', 'lines')}`;
@@ -561,7 +581,10 @@ function renderPages() {
 function renderFits() {
     const fits = library.columnsFit(shown().bytes, state.h, state.settings);
     const most = counted(state.h, 'line', 'lines');
-    $('fits').textContent = fits ? `A box of ${state.settings.width} pixels shows the clue in at most ${most}, and loses nothing.` : `A box of ${state.settings.width} pixels does not do: the clue has more than ${most}, or loses a word.`;
+    const box = `A box of ${state.settings.width} pixels`;
+    $('fits').textContent = fits
+        ? `${box} shows the clue in at most ${most}, and loses nothing.`
+        : `${box} does not do: the clue has more than ${most}, or loses a word.`;
     $('planned').textContent = '';
     $('use').hidden = true;
 }
@@ -569,7 +592,11 @@ function renderFits() {
 function renderEdited() {
     const edit = edits.get(state.settings.wrap);
     $('legend').hidden = !state.colour;
-    $('edited').textContent = edit === undefined ? '' : `The last edit: ${counted(edit.first, 'line', 'lines')} untouched, ${grouped(edit.laid)} laid, ${grouped(edit.moved)} moved.`;
+    $('edited').textContent = '';
+    if (edit !== undefined) {
+        const untouched = counted(edit.first, 'line', 'lines');
+        $('edited').textContent = `The last edit: ${untouched} untouched, ${grouped(edit.laid)} laid, ${grouped(edit.moved)} moved.`;
+    }
 }
 
 // ---- all of it
@@ -608,13 +635,10 @@ function keepAddress() {
 
 function addressWords() {
     const words = new URLSearchParams({ t: shown().text });
-    for (const [name, value] of Object.entries(state.settings)) {
-        if (value !== AT_FIRST[name]) {
-            words.set(name, value);
-        }
-    }
-    for (const [name, value, usual] of [['h', state.h, 6], ['compare', Number(state.compare), 0], ['colour', Number(state.colour), 0], ['zoom', state.zoom, 0]]) {
-        if (value !== usual) {
+    const { settings, h, compare, colour, zoom } = state;
+    const usual = { ...AT_FIRST, ...VIEW_AT_FIRST };
+    for (const [name, value] of Object.entries({ ...settings, h, compare: Number(compare), colour: Number(colour), zoom })) {
+        if (value !== usual[name]) {
             words.set(name, value);
         }
     }
@@ -623,12 +647,14 @@ function addressWords() {
 
 function readAddress(address) {
     const words = new URLSearchParams(new URL(address).hash.slice(1));
-    const number = (name, usual) => (words.has(name) ? wholeNumber(name, words.get(name)) : usual);
+    const read = ([name, usual]) => [name, words.has(name) ? wholeNumber(name, words.get(name)) : usual];
+    const readAll = (usual) => Object.fromEntries(Object.entries(usual).map(read));
+    const { h, compare, colour, zoom } = readAll(VIEW_AT_FIRST);
     return {
         text: words.get('t') ?? WELCOME,
-        settings: Object.fromEntries(Object.keys(AT_FIRST).map((name) => [name, number(name, AT_FIRST[name])])),
-        compare: words.has('t') ? number('compare', 0) === 1 : true,
-        rest: { colour: number('colour', 0) === 1, h: fitLines(number('h', 6)), zoom: Math.max(0, Math.min(8, number('zoom', 0))) },
+        settings: readAll(AT_FIRST),
+        compare: words.has('t') ? compare === 1 : true,
+        rest: { colour: colour === 1, h: fitLines(h), zoom: Math.max(0, Math.min(8, zoom)) },
     };
 }
 
@@ -667,7 +693,9 @@ const CHOICES = [
     ['trailing', 'Trailing spaces, retired', ['off']],
 ];
 
-const setSetting = (name, words, field) => attempt(field, () => layAnew(shown().text, { ...state.settings, [name]: wholeNumber(name, String(words)) }));
+function setSetting(name, words, field) {
+    attempt(field, () => layAnew(shown().text, { ...state.settings, [name]: wholeNumber(name, String(words)) }));
+}
 const setWidth = (width) => setSetting('width', Math.max(limits.width[0], Math.min(limits.width[1], width)), $('width'));
 
 function makeField([name, label]) {
@@ -690,7 +718,8 @@ function makeChoice([name, label, values]) {
         radio.addEventListener('change', () => setSetting(name, value, radio));
         return make('label', {}, radio, make('span', {}, word));
     });
-    return make('fieldset', {}, make('legend', {}, `${label} `, make('small', {}, name)), make('div', { className: 'choices' }, ...choices));
+    const legend = make('legend', {}, `${label} `, make('small', {}, name));
+    return make('fieldset', {}, legend, make('div', { className: 'choices' }, ...choices));
 }
 
 function renderControls() {
@@ -716,7 +745,15 @@ function renderControls() {
 
 // ---- what is written
 
-const KEYS = [['tab', '\t'], ['carriage return', '⏎'], ['no-break space', '\u00a0'], ['soft hyphen', '\u00ad'], ['zero width space', '\u200b'], ['figure space', '\u2007'], ['narrow space', '\u202f']];
+const KEYS = [
+    ['tab', '\t'],
+    ['carriage return', '⏎'],
+    ['no-break space', '\u00a0'],
+    ['soft hyphen', '\u00ad'],
+    ['zero width space', '\u200b'],
+    ['figure space', '\u2007'],
+    ['narrow space', '\u202f'],
+];
 
 function makeKey([name, character]) {
     const key = make('button', { type: 'button' }, name);
@@ -763,7 +800,8 @@ function openLayout(name, bytes) {
     }
     if (attempt(null, () => layAnew(shown().text, read.settings), `${name} is not opened. `)) {
         const same = JSON.stringify(read.lines) === JSON.stringify(shown().lines);
-        tell(same ? `${name} is the layout of this clue.` : `${name} has ${counted(read.lines.length, 'line', 'lines')} of a text of ${counted(read.textLength, 'byte', 'bytes')}, which is not this clue: its settings are taken.`);
+        const has = `${counted(read.lines.length, 'line', 'lines')} of a text of ${counted(read.textLength, 'byte', 'bytes')}`;
+        tell(same ? `${name} is the layout of this clue.` : `${name} has ${has}, which is not this clue: its settings are taken.`);
     }
 }
 
@@ -792,7 +830,10 @@ function save() {
 function propose() {
     const width = library.columnsPlan(shown().bytes, state.h, state.settings);
     const most = counted(state.h, 'line', 'lines');
-    $('planned').textContent = width === null ? `No width from 0 to ${grouped(limits.width[1])} shows it in ${most}.` : `${grouped(width)} pixels is the smallest width for ${most} with nothing lost.`;
+    $('planned').textContent =
+        width === null
+            ? `No width from 0 to ${grouped(limits.width[1])} shows it in ${most}.`
+            : `${grouped(width)} pixels is the smallest width for ${most} with nothing lost.`;
     $('use').hidden = width === null || width === state.settings.width;
     $('use').value = width ?? '';
 }
@@ -842,7 +883,7 @@ function listen() {
 
 async function start() {
     if (typeof WebAssembly !== 'object') {
-        refuse('This browser has no WebAssembly, in which the library runs. Any browser of the last years has it, unless it is switched off.');
+        refuse('This browser has no WebAssembly, in which the library runs: it is too old, or WebAssembly is switched off.');
         return;
     }
     try {
@@ -853,7 +894,8 @@ async function start() {
     }
     $('settings').append(...CHOICES.slice(0, 1).map(makeChoice), ...FIELDS.map(makeField), ...CHOICES.slice(1).map(makeChoice));
     $('keys').append(...KEYS.map(makeKey));
-    $('lines').tHead.rows[0].append(make('th', { scope: 'col' }, 'line'), ...Object.values(COLUMNS).map(([word, title]) => make('th', { scope: 'col', title }, word)), make('th', { scope: 'col' }, 'text'));
+    const columns = [['line', ''], ...Object.values(COLUMNS), ['text', '']];
+    $('lines').tHead.rows[0].append(...columns.map(([word, title]) => make('th', { scope: 'col', title }, word)));
     document.querySelector('main').hidden = false;
     listen();
     openAddress(location.href);

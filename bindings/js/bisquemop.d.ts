@@ -158,6 +158,8 @@ export interface Layout {
     readonly dropped: readonly Lost[];
     readonly height: number;
     readonly index: Int32Array;
+    /** Whether each line shows: it is wholly in the box. */
+    readonly showing: boolean[];
     /** All that stands in the text from a line's start up to the next. */
     lineText(line: number): string;
     lineY(line: number): { y: number; shows: boolean } | null;

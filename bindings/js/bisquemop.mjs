@@ -102,7 +102,9 @@ function rangeWords({ setting, given }) {
 const SENTENCES = {
     1: (value, about) => rangeWords(about),
     2: (value, { setting }) =>
-        setting === undefined ? `an alignment is ${value}, which is unknown` : `${setting} is ${value}, and may be ${ALIGNMENT_WORDS[setting]}`,
+        setting === undefined
+            ? `an alignment is ${value}, which is unknown`
+            : `${setting} is ${value}, and may be ${ALIGNMENT_WORDS[setting]}`,
     3: (value) => `the text has ${grouped(value)} bytes, and may have ${grouped(TEXT_MAX)} at most`,
     4: (value) => `the text is not UTF-8: it goes wrong after its first ${grouped(value)} bytes`,
     5: (value, { oneLine }) =>
@@ -155,9 +157,10 @@ function settingNumbers(settings) {
         if (!Number.isInteger(number)) {
             throw new TypeError(`${name} is ${String(number)}, and has to be a whole number`);
         }
-        return name === 'top' ? Math.max(-0x80000000, Math.min(number, 0x7fffffff)) : number < 0 || number > 0xffffffff ? 0xffffffff : number;
+        return name === 'top' ? Math.max(-0x80000000, Math.min(number, 0x7fffffff)) : within32Bits(number);
     });
 }
+const within32Bits = (number) => (number < 0 || number > 0xffffffff ? 0xffffffff : number);
 const settingsFrom = (numbers) => Object.fromEntries(SETTINGS.map((name, k) => [name, name === 'top' ? numbers[k] | 0 : numbers[k]]));
 
 // A string's bytes. TextEncoder would put another character for half of a pair: here it becomes bytes that are no UTF-8, so that the
@@ -652,6 +655,12 @@ class Layout {
     }
     get height() {
         return this.#library.height(this.#table, this.#settings);
+    }
+
+    // Whether each line shows, as lineY says it of one: it is wholly in the box.
+    get showing() {
+        const { top, height, base } = this.#settings;
+        return Array.from(this.#index, (y) => y >= top && y <= top + height - base);
     }
     get lines() {
         this.#lines ??= recordsOf(LINE, this.#table);

@@ -1,8 +1,9 @@
 /*
- * What the library for this machine answers, for comparison with what it answers as WebAssembly. Reads cases from standard input, one
- * in a line: thirteen settings, a number of lines, an edit's two offsets, a start, a rest's end and count, a y, and as hexadecimal
- * digits, from a dot to a semicolon the text, what the edit inserts, and a short text. Prints of each case a line for each call: its name, the number
- * returned, the value, and what was written. With the word `table` it prints the line of bisquemop_layout alone.
+ * What the library for this machine answers, for comparison with what it answers as WebAssembly. Reads cases from standard
+ * input, one in a line: thirteen settings, a number of lines, an edit's two offsets, a start, a rest's end and count, a y,
+ * and as hexadecimal digits, each from a dot to a semicolon, the text, what the edit inserts, and a short text. Prints of
+ * each case a line for each call: its name, the number returned, the value, and what was written. With the word `table` it
+ * prints the line of bisquemop_layout alone.
  */
 #include "bisquemop.h"
 

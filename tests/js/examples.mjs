@@ -36,7 +36,8 @@ function testOthers(library) {
     same('characters of two and four bytes are counted as characters', [{ line: 0, count: 2, start: 3, end: 9, text: 'é😀' }], lost);
     const glued = library.lay('ab\u00a0\u00adcd', laid(18));
     same('a print of no text belongs to its own line', [3, 2], glued.events.map((line) => line.length));
-    same('tokens', [[Kind.WORD, 0, 2, 0], [Kind.WHITESPACE, 2, 4, 2], [Kind.BREAK, 4, 6, 0], [Kind.NEW_LINE, 6, 7, 0]], rows(library.tokens('ab  \u00ad\n')));
+    const tokens = [[Kind.WORD, 0, 2, 0], [Kind.WHITESPACE, 2, 4, 2], [Kind.BREAK, 4, 6, 0], [Kind.NEW_LINE, 6, 7, 0]];
+    same('tokens', tokens, rows(library.tokens('ab  \u00ad\n')));
 }
 
 function testPlaces(library) {
@@ -56,8 +57,10 @@ function testLists(library) {
     same('pages', [{ line: 0, start: 0, end: 6 }, { line: 2, start: 6, end: 8 }], pages);
     same('pages of a table', pages, library.pagesAgain(lines, 2, 0, []));
     same('pages from a later line on', pages, library.pagesAgain(lines, 2, 2, pages));
-    same('a long text that has room', { which: Which.LONG_TEXT, length: 5, text: 'aa\nbb', leftOut: 0 }, library.choose('aa\nbb', 'c', 2, settings));
-    same('a long text that has none', { which: Which.SHORT_TEXT, length: 2, text: 'é', leftOut: 2 }, library.choose('aa\nbb', 'é\nf', 1, { ...settings, width: 0, glyph: 1 }));
+    const long = { which: Which.LONG_TEXT, length: 5, text: 'aa\nbb', leftOut: 0 };
+    same('a long text that has room', long, library.choose('aa\nbb', 'c', 2, settings));
+    const short = { which: Which.SHORT_TEXT, length: 2, text: 'é', leftOut: 2 };
+    same('a long text that has none', short, library.choose('aa\nbb', 'é\nf', 1, { ...settings, width: 0, glyph: 1 }));
     expect('a width that is enough', library.columnsFit('not the baker', 3, laid(30)));
     expect('a width that is not', !library.columnsFit('     not the baker', 3, laid(30)));
     same('the smallest width', 30, library.columnsPlan('not the baker', 3, laid(4096)));
@@ -66,12 +69,13 @@ function testLists(library) {
 
 // The smallest file of docs/LAYOUT-FILE.md.
 function testFiles(library) {
-    const settings = { glyph: 6, width: 30, tab: 24, spacing: 10, paragraph: 3, base: 8, height: 40, top: -5, alignment: 1, vertical: 2, leading: 1, trailing: 0, wrap: 0 };
+    const settings = library.checkSettings({ ...laid(30), top: -5, alignment: 1, vertical: 2 });
     const file = library.lay('', settings).file();
     const number = (n) => [n & 255, (n >> 8) & 255, (n >> 16) & 255, (n >> 24) & 255];
     const line = [0, 0, 0, 2, 15, 6, 0, 0, 0, 1, 0];
-    const expected = [1, 52, 0, ...Object.values(settings).flatMap(number), 2, 4, 0, ...number(0), 3, 44, 0, ...line.flatMap(number), 255, 0, 0];
-    same('the smallest file', expected, [...file]);
+    const given = [6, 30, 24, 10, 3, 8, 40, -5, 1, 2, 1, 0, 0];
+    const expected = [[1, 52, 0], given.map(number), [2, 4, 0], number(0), [3, 44, 0], line.map(number), [255, 0, 0]];
+    same('the smallest file', expected.flat(2), [...file]);
     const read = library.readFile(file);
     same('it is read back', { settings, textLength: 0, lines: [line] }, { ...read, lines: rows(read.lines) });
 }

@@ -9,15 +9,17 @@ const header = read('include/bisquemop.h');
 
 function enumOf(name, prefix) {
     const body = header.match(new RegExp(`enum bisquemop_${name} \\{([^}]*)\\}`))[1];
-    return Object.fromEntries([...body.matchAll(new RegExp(`BISQUEMOP_${prefix}(\\w+) = (\\d+)`, 'g'))].map(([, key, number]) => [key, Number(number)]));
+    const pairs = body.matchAll(new RegExp(`BISQUEMOP_${prefix}(\\w+) = (\\d+)`, 'g'));
+    return Object.fromEntries([...pairs].map(([, key, number]) => [key, Number(number)]));
 }
 
 function testNumbers() {
     const { OK, ...refusals } = enumOf('refusal', '');
     same('a call that is done answers 0', 0, OK);
     same('the refusals', refusals, { ...bisquemop.Refused });
-    for (const [mine, name, prefix] of [['Alignment', 'alignment', 'ALIGN_'], ['Vertical', 'vertical', 'VERTICAL_'], ['Wrap', 'wrap', 'WRAP_'], ['End', 'end', 'END_'], ['Kind', 'kind', 'KIND_'], ['Drawn', 'drawn', 'DRAWN_'], ['Which', 'which', '']]) {
-        same(mine, enumOf(name, prefix), { ...bisquemop[mine] });
+    const prefixes = { Alignment: 'ALIGN_', Vertical: 'VERTICAL_', Wrap: 'WRAP_', End: 'END_', Kind: 'KIND_', Drawn: 'DRAWN_', Which: '' };
+    for (const [mine, prefix] of Object.entries(prefixes)) {
+        same(mine, enumOf(mine.toLowerCase(), prefix), { ...bisquemop[mine] });
     }
     const struct = header.match(/struct bisquemop_settings \{([^}]*)\}/)[1];
     same('the settings, in order', [...struct.matchAll(/u?int32_t (\w+);/g)].map(([, name]) => name), Object.keys(bisquemop.limits));
@@ -28,8 +30,20 @@ function testNumbers() {
     same('the longest text', limit('TEXT_MAX'), bisquemop.TEXT_MAX);
 }
 
+const camel = (name) => name.toLowerCase().replace(/_(.)/g, (match, letter) => letter.toUpperCase());
+
+// What a record's numbers are called is what the header calls their columns, in its order.
+function testColumns(library) {
+    const { lines, events } = library.layoutEvents('a');
+    const [page] = library.pages('a', 1).pages;
+    const [token] = library.tokens('a');
+    for (const [name, record] of Object.entries({ line: lines[0], event: events[0], token, page })) {
+        const columns = Object.keys(enumOf(`${name}_column`, `${name.toUpperCase()}_`)).map(camel);
+        same(`the columns of a ${name}`, columns, Object.keys(record));
+    }
+}
+
 function testCalls(library) {
-    const camel = (name) => name.replace(/_(.)/g, (match, letter) => letter.toUpperCase());
     const calls = [...header.matchAll(/^uint32_t bisquemop_(\w+)\(/gm)].map(([, name]) => camel(name));
     same('the calls of the header', 21, calls.length);
     const types = read('bindings/js/bisquemop.d.ts');
@@ -49,6 +63,7 @@ function testCalls(library) {
 
 export function testHeader(library) {
     testNumbers();
+    testColumns(library);
     testCalls(library);
     same('the version', read('VERSION').trim(), JSON.parse(read('bindings/js/package.json')).version);
     same('the version of what was built', read('VERSION').trim(), JSON.parse(read('target/js/package.json')).version);

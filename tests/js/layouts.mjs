@@ -24,14 +24,18 @@ function testOneByOne(library, text, settings) {
 function testProperties(library, text, settings) {
     const layout = library.lay(text, settings);
     same('the lines of a layout join to the text', text, layout.lines.map((line, k) => layout.lineText(k)).join(''));
-    same('the last line alone ends by the text', [layout.lineCount - 1], layout.lines.flatMap((line, k) => (line.end === End.END_OF_TEXT ? [k] : [])));
-    same('the characters dropped', layout.lines.reduce((sum, line) => sum + line.dropped, 0), layout.dropped.reduce((sum, lost) => sum + [...lost.text].length, 0));
+    const last = layout.lines.flatMap((line, k) => (line.end === End.END_OF_TEXT ? [k] : []));
+    same('the last line alone ends by the text', [layout.lineCount - 1], last);
+    const dropped = layout.lines.reduce((sum, line) => sum + line.dropped, 0);
+    same('the characters dropped', dropped, layout.dropped.reduce((sum, lost) => sum + [...lost.text].length, 0));
     same('the events, line by line, are all', library.layoutEvents(text, settings).events, layout.events.flat());
     const { lines, textLength, settings: read } = library.readFile(layout.file());
     same('a file reads back', [layout.lines, layout.bytes.length, layout.settings], [lines, textLength, read]);
     const h = 1 + below(4);
     same('pages', library.pages(text, h, settings).pages, layout.pages(h));
-    same('each line is under its own y', true, layout.lines.every((line, k) => layout.index[layout.findLine(layout.index[k])] === layout.index[k]));
+    same('which lines show', layout.lines.map((line, k) => layout.lineY(k).shows), layout.showing);
+    const { index } = layout;
+    same('each line is under its own y', [...index], Array.from(index, (y) => index[layout.findLine(y)]));
 }
 
 function testRefusedEdits(library) {

@@ -20,7 +20,9 @@ async function refused(source) {
 const empty = bytes.subarray(0, 8);
 
 export async function testLoading() {
-    for (const [what, source] of [['bytes', bytes], ['a buffer', new Uint8Array(bytes).buffer], ['a URL', place], ['a URL in words', place.href], ['a Response', new Response(bytes)], ['nothing', undefined]]) {
+    const buffer = new Uint8Array(bytes).buffer;
+    const sources = { bytes, buffer, 'a URL': place, 'a URL in words': place.href, 'a Response': new Response(bytes), nothing: undefined };
+    for (const [what, source] of Object.entries(sources)) {
         same(`loaded from ${what}`, 2, (await load(source)).layout('aa bb', { width: 12 }).length);
     }
     same('a Response that is none', 'the library could not be loaded: 404 ', await refused(new Response('', { status: 404 })));
