@@ -897,6 +897,7 @@ async function start() {
     const columns = [['line', ''], ...Object.values(COLUMNS), ['text', '']];
     $('lines').tHead.rows[0].append(...columns.map(([word, title]) => make('th', { scope: 'col', title }, word)));
     document.querySelector('main').hidden = false;
+    $('link').hidden = false;
     listen();
     openAddress(location.href);
 }

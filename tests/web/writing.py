@@ -147,7 +147,7 @@ def test_pointed(driver):
     same('the line under the pointer', '2', find(driver, '#lines tr.pointed').get_attribute('data-line'))
     holds('it is read out', text_of(driver, '#pointed').startswith('Line 2: “not the·”, from byte 22, ends by a line break'))
     holds('it is marked in the picture', dots(driver, 'pointed', 1) > 100)
-    picture(driver, 'pointed')
+    picture(driver, 'pointed', whole=False)
     canvas.send_keys(Keys.ESCAPE, Keys.ARROW_DOWN, Keys.ARROW_DOWN, Keys.ARROW_DOWN, Keys.ARROW_DOWN, Keys.ARROW_UP)
     same('arrow keys go from line to line', '2', find(driver, '#lines tr.pointed').get_attribute('data-line'))
 
