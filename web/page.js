@@ -514,6 +514,11 @@ function point(wrap, line = null) {
     renderPointed();
 }
 
+function pointAtRow(event) {
+    const row = event.target.closest('tr[data-line]');
+    point(state.settings.wrap, row === null ? null : Number(row.dataset.line));
+}
+
 function renderPointed() {
     const { pointed, settings } = state;
     document.querySelector('#lines tr.pointed')?.classList.remove('pointed');
@@ -874,7 +879,7 @@ function listen() {
     on('plan', 'click', propose);
     on('use', 'click', () => setWidth(Number($('use').value)));
     on('more', 'click', () => attempt(null, () => (state.rows += ROWS)));
-    on('lines', 'pointerover', (event) => point(state.settings.wrap, Number(event.target.closest('tr[data-line]')?.dataset.line ?? NaN)));
+    on('lines', 'pointerover', pointAtRow);
     on('lines', 'pointerleave', () => point(null));
     window.addEventListener('hashchange', (event) => openAddress(event.newURL));
     window.addEventListener('resize', renderPictures);

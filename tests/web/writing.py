@@ -148,6 +148,10 @@ def test_pointed(driver):
     holds('it is read out', text_of(driver, '#pointed').startswith('Line 2: “not the·”, from byte 22, ends by a line break'))
     holds('it is marked in the picture', dots(driver, 'pointed', 1) > 100)
     picture(driver, 'pointed', whole=False)
+    ActionChains(driver).move_to_element(find(driver, '#lines tr[data-line="1"] th')).perform()
+    holds('a row of the table points at its line too', text_of(driver, '#pointed').startswith('Line 1: '))
+    ActionChains(driver).move_to_element(find(driver, '#lines thead th')).perform()
+    holds('the heading points at none', text_of(driver, '#pointed').startswith('Point at a line'))
     canvas.send_keys(Keys.ESCAPE, Keys.ARROW_DOWN, Keys.ARROW_DOWN, Keys.ARROW_DOWN, Keys.ARROW_DOWN, Keys.ARROW_UP)
     same('arrow keys go from line to line', '2', find(driver, '#lines tr.pointed').get_attribute('data-line'))
 
