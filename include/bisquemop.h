@@ -46,6 +46,12 @@
 
 #include <stdint.h>
 
+/* The version of this header, and of the library that it is for. */
+#define BISQUEMOP_VERSION "0.2.0"
+#define BISQUEMOP_VERSION_MAJOR 0
+#define BISQUEMOP_VERSION_MINOR 2
+#define BISQUEMOP_VERSION_PATCH 0
+
 #ifdef __cplusplus
 extern "C" {
 #endif

@@ -1,0 +1,151 @@
+/* What a check found, as lines for people or as JSON. */
+#include "findings.h"
+
+#include "characters.h"
+#include "json.h"
+#include "refusals.h"
+#include "terminal.h"
+
+#include <inttypes.h>
+#include <stdio.h>
+#include <string.h>
+
+static int in_json;
+static uint64_t found;
+
+/* ---- lines for people */
+
+enum { LINES_SAID = 3 };
+
+/* The first lines that drop something, with what each drops. */
+static void say_lines(const struct laid *laid)
+{
+    uint64_t said = 0;
+    for (uint64_t line = 0; line < laid->lines; line++) {
+        struct stretch dropped = dropped_by(laid, line);
+        if (dropped.at < dropped.end && said++ < LINES_SAID) {
+            printf(", line %" PRIu64 ": \"", line + 1);
+            print_characters(stdout, dropped.at, dropped.end);
+            printf("\"");
+        }
+    }
+    if (said > LINES_SAID) {
+        printf(", and %" PRIu64 " more", said - LINES_SAID);
+    }
+}
+
+static void say_lost(const struct laid *laid)
+{
+    uint64_t dropped = all_dropped(laid), outside = all_outside(laid);
+    print_path(stdout, laid->text->path);
+    printf(": width %" PRIu32 ": ", laid->wanted->settings.width);
+    if (dropped > 0) {
+        print_count_of_characters(stdout, dropped);
+        printf(" not on the screen");
+        say_lines(laid);
+    }
+    if (outside > 0) {
+        printf("%s%" PRIu64 " %s outside of the box", dropped > 0 ? "; " : "", outside,
+               outside == 1 ? "line is" : "lines are");
+    }
+    printf("\n");
+}
+
+/* ---- JSON */
+
+static void begin_object(const struct text *text)
+{
+    printf("%s\n    {", found == 0 ? "" : ",");
+    print_json_path(text->path);
+}
+
+static void print_lines(const struct laid *laid)
+{
+    const char *before = "";
+    printf(", \"lines\": [");
+    for (uint64_t line = 0; line < laid->lines; line++) {
+        struct stretch dropped = dropped_by(laid, line);
+        if (dropped.at < dropped.end) {
+            printf("%s{\"line\": %" PRIu64 ", \"dropped\": %" PRIu32 ", \"text\": ", before, line + 1,
+                   of_line(laid, line, BISQUEMOP_LINE_DROPPED));
+            print_json_string(dropped.at, (size_t)(dropped.end - dropped.at));
+            printf("}");
+            before = ", ";
+        }
+    }
+    printf("]");
+}
+
+static void print_lost(const struct laid *laid)
+{
+    begin_object(laid->text);
+    printf(", \"width\": %" PRIu32 ", \"dropped\": %" PRIu64, laid->wanted->settings.width, all_dropped(laid));
+    print_lines(laid);
+    printf(", \"lines_outside\": %" PRIu64 "}", all_outside(laid));
+}
+
+/* Why in words, and the numbers that go with it. */
+static void print_refused(const struct trouble *trouble, const struct text *text)
+{
+    const char *why = trouble->error ? strerror(trouble->error) : refusal_name(trouble->number);
+    begin_object(text);
+    printf(", \"refused\": ");
+    print_json_string((const uint8_t *)why, strlen(why));
+    if (trouble->number == BISQUEMOP_NOT_UTF8) {
+        uint64_t line, byte;
+        place_in_text(text, trouble->value, &line, &byte);
+        printf(", \"offset\": %" PRIu64 ", \"line\": %" PRIu64 ", \"byte\": %" PRIu64, trouble->value, line, byte);
+    } else if (trouble->number == BISQUEMOP_TEXT_TOO_LONG) {
+        printf(", \"length\": %" PRIu64, trouble->value);
+    }
+    printf("}");
+}
+
+/* ---- either */
+
+void begin_findings(int json, const uint32_t *widths, size_t width_count)
+{
+    in_json = json;
+    if (in_json) {
+        printf("{\n  \"widths\": [");
+        for (size_t k = 0; k < width_count; k++) {
+            printf("%s%" PRIu32, k == 0 ? "" : ", ", widths[k]);
+        }
+        printf("],\n  \"findings\": [");
+    }
+}
+
+void find_lost(const struct laid *laid)
+{
+    clear_progress();
+    if (in_json) {
+        print_lost(laid);
+    } else {
+        say_lost(laid);
+    }
+    found++;
+}
+
+void find_refused(const struct trouble *trouble, const struct text *text)
+{
+    clear_progress();
+    if (in_json) {
+        print_refused(trouble, text);
+    } else {
+        say_text_trouble(stdout, trouble, text);
+    }
+    found++;
+}
+
+void end_findings(const struct tally *tally, size_t width_count)
+{
+    clear_progress();
+    if (in_json) {
+        printf("%s],\n  \"files\": %" PRIu64 ",\n  \"lose\": %" PRIu64 ",\n  \"refused\": %" PRIu64 "\n}\n",
+               found == 0 ? "" : "\n  ", tally->files, tally->lose, tally->refused);
+    } else {
+        printf("%" PRIu64 " %s, %lu %s: %" PRIu64 " %s characters, %" PRIu64 " refused\n", tally->files,
+               tally->files == 1 ? "file" : "files", (unsigned long)width_count, width_count == 1 ? "width" : "widths",
+               tally->lose, tally->lose == 1 ? "loses" : "lose", tally->refused);
+    }
+}

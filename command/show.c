@@ -1,0 +1,110 @@
+/* bisquemop show: a text in a frame, as it will be on the screen. */
+#include "characters.h"
+#include "command.h"
+#include "laid.h"
+#include "picture.h"
+
+#include <inttypes.h>
+#include <stdio.h>
+#include <string.h>
+
+static const char help[] =
+    "usage: bisquemop show [OPTION].. FILE\n"
+    "\n"
+    "Draws the text of FILE, or of standard input for -, in a frame as wide as the box: a row for each line, a cell for\n"
+    "each character. Beside a line stands what it drops, red on a terminal and else in brackets. Lines joined by a\n"
+    "carriage return stand below one another. --wrap both shows the text by both rules.\n"
+    "\n"
+    "Exit status: 0 all is on the screen; 1 a character is not; 2 refused, or the words are wrong.\n";
+
+static struct text text;
+static struct laid laid;
+
+static void say_lost(uint64_t dropped, uint64_t outside)
+{
+    if (dropped > 0) {
+        printf("; ");
+        print_count_of_characters(stdout, dropped);
+        printf(" not on the screen");
+    }
+    if (outside > 0) {
+        printf("; %" PRIu64 " %s outside of the box", outside, outside == 1 ? "line is" : "lines are");
+    }
+    if (dropped == 0 && outside == 0) {
+        printf("; all is on the screen");
+    }
+    printf("\n");
+}
+
+/* Draws it all, and answers the exit status. */
+static int show_laid(const struct wanted *wanted)
+{
+    uint64_t dropped, outside;
+    lay(&laid, &text, wanted);
+    draw_side(&laid);
+    draw_lines(&laid, 0, laid.lines);
+    draw_side(&laid);
+    dropped = all_dropped(&laid);
+    outside = all_outside(&laid);
+    printf("%" PRIu64 " %s", laid.lines, laid.lines == 1 ? "line" : "lines");
+    say_lost(dropped, outside);
+    return dropped > 0 || outside > 0 ? SOME_LOST : ALL_SHOWS;
+}
+
+/* Where words are lost that would wait, that is said. */
+static void say_wait(struct wanted wanted)
+{
+    if (wanted.settings.wrap == BISQUEMOP_WRAP_DROP && all_dropped(&laid) > 0) {
+        wanted.settings.wrap = BISQUEMOP_WRAP_WAIT;
+        lay_lines(&laid, &text, &wanted);
+        if (all_dropped(&laid) == 0) {
+            printf("with --wrap wait no character is dropped\n");
+        }
+    }
+}
+
+static int show_both(struct wanted wanted)
+{
+    int by_drop, by_wait;
+    printf("--wrap drop:\n");
+    wanted.settings.wrap = BISQUEMOP_WRAP_DROP;
+    by_drop = show_laid(&wanted);
+    printf("\n--wrap wait:\n");
+    wanted.settings.wrap = BISQUEMOP_WRAP_WAIT;
+    by_wait = show_laid(&wanted);
+    return by_drop > by_wait ? by_drop : by_wait;
+}
+
+/* --wrap both is an option of this subcommand alone. Another --wrap behind it takes it back. */
+static int takes_both(struct words *words, int *both)
+{
+    if (!is_option(words, "--wrap")) {
+        return 0;
+    }
+    *both = strcmp(option_value(words), "both") == 0;
+    return *both;
+}
+
+static int run(struct words *words)
+{
+    struct wanted wanted = nothing_wanted();
+    const char *path = NULL;
+    int both = 0, status;
+    for (enum word word = next_word(words); word != WORD_END; word = next_word(words)) {
+        if (word == WORD_OPERAND) {
+            path = only_operand(words, path);
+        } else if (!takes_both(words, &both) && !takes_setting(words, &wanted)) {
+            unknown_option(words);
+        }
+    }
+    settle(words, &wanted);
+    must_read_text(words, path, wanted.chomp, &text);
+    if (both) {
+        return show_both(wanted);
+    }
+    status = show_laid(&wanted);
+    say_wait(wanted);
+    return status;
+}
+
+const struct subcommand show_command = {"show", "draw a text in a frame, and mark what is lost", help, 1, run};
