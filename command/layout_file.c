@@ -203,17 +203,20 @@ static int run(struct words *words)
 {
     enum word word = next_word(words);
     wanted = nothing_wanted();
-    if (word == WORD_OPERAND && strcmp(words->word, "write") == 0) {
-        return write_layout(words);
-    }
-    if (word == WORD_OPERAND && strcmp(words->word, "read") == 0) {
-        return read_layout(words);
-    }
-    if (word == WORD_OPERAND && strcmp(words->word, "dump") == 0) {
-        return dump_layout(words);
-    }
     if (word == WORD_END) {
         misused(words, "say what: write, read or dump");
+    }
+    if (word == WORD_OPTION) {
+        unknown_option(words);
+    }
+    if (strcmp(words->word, "write") == 0) {
+        return write_layout(words);
+    }
+    if (strcmp(words->word, "read") == 0) {
+        return read_layout(words);
+    }
+    if (strcmp(words->word, "dump") == 0) {
+        return dump_layout(words);
     }
     misused(words, "%s is none of write, read and dump", words->word);
 }
