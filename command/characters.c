@@ -33,7 +33,8 @@ static int is_among(uint32_t scalar, const struct range *ranges, size_t count)
 }
 #define IS_AMONG(scalar, ranges) is_among(scalar, ranges, sizeof(ranges) / sizeof(ranges)[0])
 
-/* What a terminal acts upon, or does not show: controls, the order of writing, joiners, marks of the byte order, tags. */
+/* What a terminal acts upon, or does not show: controls, the order of writing, joiners, marks of the byte order, tags.
+ */
 static const struct range acted_upon[] = {
     {0x00, 0x1F},     {0x7F, 0x9F},     {0x061C, 0x061C}, {0x180E, 0x180E}, {0x200B, 0x200F},
     {0x2028, 0x202E}, {0x2060, 0x206F}, {0xFEFF, 0xFEFF}, {0xFFF9, 0xFFFB}, {0xE0000, 0xE0FFF},

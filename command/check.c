@@ -11,15 +11,19 @@
 static const char help[] =
     "usage: bisquemop check [--widths N,N..] [--json] [OPTION].. FOLDER..\n"
     "\n"
-    "Lays every file in the folders, and in those below them, by each width, and prints a line for each file and width\n"
-    "by which a character is not on the screen, and for each file that is refused. Hidden files are left out; a file can\n"
-    "be given in place of a folder. The last line says how many files there are, how many lose characters and how many\n"
-    "are refused. Lines are counted from 1. On a terminal it is shown how far it is.\n"
+    "Lays every file in the folders, and in those below them, by each width, and\n"
+    "prints a line for each file and width by which a character is not on the\n"
+    "screen, and for each file that is refused. Hidden files are left out; a file\n"
+    "can be given in place of a folder. The last line says how many files there are,\n"
+    "how many lose characters and how many are refused. Lines are counted from 1. On\n"
+    "a terminal it is shown how far it is.\n"
     "\n"
-    "  --widths N,N..   the widths of the box in pixels; --columns takes a list of counts of characters so\n"
+    "  --widths N,N..   the widths of the box in pixels; --columns takes a list of\n"
+    "                   counts of characters so\n"
     "  --json           print a document in JSON instead\n"
     "\n"
-    "Exit status: 0 nothing is lost or refused; 1 something is; 2 the words are wrong.\n";
+    "Exit status: 0 nothing is lost or refused; 1 something is; 2 the words are\n"
+    "wrong.\n";
 
 enum { WIDTHS_MAX = 64 };
 

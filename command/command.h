@@ -6,9 +6,9 @@
 
 /* The exit statuses of every subcommand. */
 enum {
-    ALL_SHOWS = 0,  /* done, and nothing is lost */
-    SOME_LOST = 1,  /* a character is not on the screen, or there is no such width */
-    NOT_DONE = 2    /* the words are wrong, or something was refused */
+    ALL_SHOWS = 0, /* done, and nothing is lost */
+    SOME_LOST = 1, /* a character is not on the screen, or there is no such width */
+    NOT_DONE = 2   /* the words are wrong, or something was refused */
 };
 
 struct subcommand {

@@ -9,14 +9,16 @@
 static const char help[] =
     "usage: bisquemop fit --lines N [OPTION].. FILE\n"
     "\n"
-    "Proposes a width for the text of FILE, or of standard input for -: the smallest by which it has at most N lines and\n"
-    "no character is dropped. Prints 'width W', in pixels, and 'columns C', the smallest such width that is so many\n"
-    "whole characters; or 'none' for either. A wider box may have more lines, so not every wider one is good too.\n"
-    "--width and --columns are not for this subcommand.\n"
+    "Proposes a width for the text of FILE, or of standard input for -: the smallest\n"
+    "by which it has at most N lines and no character is dropped. Prints 'width W',\n"
+    "in pixels, and 'columns C', the smallest such width that is so many whole\n"
+    "characters; or 'none' for either. A wider box may have more lines, so not every\n"
+    "wider one is good too. --width and --columns are not for this subcommand.\n"
     "\n"
     "  --lines N        how many lines there may be: 1 to 65536\n"
     "\n"
-    "Exit status: 0 there is such a width; 1 there is none; 2 refused, or the words are wrong.\n";
+    "Exit status: 0 there is such a width; 1 there is none; 2 refused, or the words\n"
+    "are wrong.\n";
 
 static struct text text;
 

@@ -33,7 +33,8 @@ void lay_lines(struct laid *laid, const struct text *text, const struct wanted *
     laid->text = text;
     laid->wanted = wanted;
     laid->event_count = 0;
-    refused = bisquemop_settings_layout(&wanted->settings, text->bytes, text->len, laid->table, table_len, &laid->lines);
+    refused =
+        bisquemop_settings_layout(&wanted->settings, text->bytes, text->len, laid->table, table_len, &laid->lines);
     must(refused, laid->lines);
     find_ys(laid);
 }

@@ -15,15 +15,17 @@ static const char help[] =
     "       bisquemop file read IN\n"
     "       bisquemop file dump IN\n"
     "\n"
-    "A layout file has the settings, the length and the lines of a laid text, as docs/LAYOUT-FILE.md has it byte by\n"
-    "byte. 'write' lays the text of FILE and writes its layout file to OUT, 'read' checks a layout file and says what is\n"
-    "in it, and 'dump' prints every number in it by name; lines are counted from 0 there. A name - is standard input,\n"
-    "and as OUT standard output.\n"
+    "A layout file has the settings, the length and the lines of a laid text, as\n"
+    "docs/LAYOUT-FILE.md has it byte by byte. 'write' lays the text of FILE and\n"
+    "writes its layout file to OUT, 'read' checks a layout file and says what is in\n"
+    "it, and 'dump' prints every number in it by name; lines are counted from 0\n"
+    "there. A name - is standard input, and as OUT standard output.\n"
     "\n"
     "  -o OUT           where the layout file goes\n"
     "\n"
-    "Exit status: 0 done; 1 written, but a character is not on the screen; 2 refused, or the words are wrong. Of a bad\n"
-    "layout file it is said what is wrong, and where.\n"
+    "Exit status: 0 done; 1 written, but a character is not on the screen; 2\n"
+    "refused, or the words are wrong. Of a bad layout file it is said what is wrong,\n"
+    "and where.\n"
     "\n"
     "The options are those of 'write'.\n";
 
@@ -94,9 +96,8 @@ static int write_layout(struct words *words)
     settle(words, &wanted);
     must_read_text(words, path, wanted.chomp, &text);
     lay_lines(&laid, &text, &wanted);
-    refused = bisquemop_settings_write_file(&wanted.settings, laid.table,
-                                            BISQUEMOP_LINE_NUMBERS * BISQUEMOP_LINES_MAX, laid.lines, bytes,
-                                            sizeof bytes, &len);
+    refused = bisquemop_settings_write_file(&wanted.settings, laid.table, BISQUEMOP_LINE_NUMBERS * BISQUEMOP_LINES_MAX,
+                                            laid.lines, bytes, sizeof bytes, &len);
     must(refused, len);
     write_bytes(to);
     return say_written(to);
@@ -152,8 +153,8 @@ static void must_take_apart(struct words *words)
 
 static void print_settings(const struct bisquemop_settings *s)
 {
-    printf("glyph %" PRIu32 "\nwidth %" PRIu32 "\ntab %" PRIu32 "\nspacing %" PRIu32 "\nparagraph %" PRIu32 "\n", s->glyph,
-           s->width, s->tab, s->spacing, s->paragraph);
+    printf("glyph %" PRIu32 "\nwidth %" PRIu32 "\ntab %" PRIu32 "\nspacing %" PRIu32 "\nparagraph %" PRIu32 "\n",
+           s->glyph, s->width, s->tab, s->spacing, s->paragraph);
     printf("base %" PRIu32 "\nheight %" PRIu32 "\ntop %" PRId32 "\n", s->base, s->height, s->top);
     printf("align %s\nvertical %s\nleading %s\ntrailing %s\nwrap %s\n", alignment_names[s->alignment],
            vertical_names[s->vertical], switch_names[s->leading], switch_names[s->trailing], wrap_names[s->wrap]);
@@ -163,7 +164,8 @@ static int read_layout(struct words *words)
 {
     must_take_apart(words);
     print_settings(&wanted.settings);
-    printf("text %" PRIu64 " bytes\nlines %" PRIu64 "\ndropped %" PRIu64 "\n", text.len, laid.lines, all_dropped(&laid));
+    printf("text %" PRIu64 " bytes\nlines %" PRIu64 "\ndropped %" PRIu64 "\n", text.len, laid.lines,
+           all_dropped(&laid));
     return ALL_SHOWS;
 }
 
@@ -171,8 +173,8 @@ static int read_layout(struct words *words)
 
 static void print_line(uint64_t line)
 {
-    static const char *const names[BISQUEMOP_LINE_NUMBERS] = {"start", "rest end", "rest count", "end",   "left",      "space",
-                                                              "extra", "width",    "dropped",    "reach", "characters"};
+    static const char *const names[BISQUEMOP_LINE_NUMBERS] = {
+        "start", "rest end", "rest count", "end", "left", "space", "extra", "width", "dropped", "reach", "characters"};
     static const char *const ends[] = {"new line", "carriage return", "end of text", "line break"};
     printf("line %" PRIu64, line);
     for (enum bisquemop_line_column column = 0; column < BISQUEMOP_LINE_NUMBERS; column++) {

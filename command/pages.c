@@ -11,14 +11,16 @@
 static const char help[] =
     "usage: bisquemop pages --lines N [--numbers] [OPTION].. FILE\n"
     "\n"
-    "Draws the text of FILE, or of standard input for -, page by page: N lines on each, between rules, as show draws\n"
-    "them.\n"
+    "Draws the text of FILE, or of standard input for -, page by page: N lines on\n"
+    "each, between rules, as show draws them.\n"
     "\n"
     "  --lines N        how many lines a page has: 1 to 65536\n"
-    "  --numbers        print the numbers of each page in its place: its first line, counted from 0, and the\n"
-    "                   offsets in bytes where it starts and ends\n"
+    "  --numbers        print the numbers of each page in its place: its first line,\n"
+    "                   counted from 0, and the offsets in bytes where it starts and\n"
+    "                   ends\n"
     "\n"
-    "Exit status: 0 all is on the screen; 1 a character is not; 2 refused, or the words are wrong.\n";
+    "Exit status: 0 all is on the screen; 1 a character is not; 2 refused, or the\n"
+    "words are wrong.\n";
 
 static struct text text;
 static struct laid laid;

@@ -11,8 +11,19 @@
 const char *refusal_name(uint32_t number)
 {
     static const char *const names[] = {
-        "ok",       "setting out of range", "unknown alignment", "text too long", "not UTF-8", "bad line",       "bad edit",
-        "no line",  "too small",            "bad field",         "bad index",     "old entry", "retired setting",
+        "ok",
+        "setting out of range",
+        "unknown alignment",
+        "text too long",
+        "not UTF-8",
+        "bad line",
+        "bad edit",
+        "no line",
+        "too small",
+        "bad field",
+        "bad index",
+        "old entry",
+        "retired setting",
     };
     return number < sizeof names / sizeof names[0] ? names[number] : "unknown";
 }

@@ -11,11 +11,13 @@
 static const char help[] =
     "usage: bisquemop show [OPTION].. FILE\n"
     "\n"
-    "Draws the text of FILE, or of standard input for -, in a frame as wide as the box: a row for each line, a cell for\n"
-    "each character. Beside a line stands what it drops, red on a terminal and else in brackets. Lines joined by a\n"
-    "carriage return stand below one another. --wrap both shows the text by both rules.\n"
+    "Draws the text of FILE, or of standard input for -, in a frame as wide as the\n"
+    "box: a row for each line, a cell for each character. Beside a line stands what\n"
+    "it drops, red on a terminal and else in brackets. Lines joined by a carriage\n"
+    "return stand below one another. --wrap both shows the text by both rules.\n"
     "\n"
-    "Exit status: 0 all is on the screen; 1 a character is not; 2 refused, or the words are wrong.\n";
+    "Exit status: 0 all is on the screen; 1 a character is not; 2 refused, or the\n"
+    "words are wrong.\n";
 
 static struct text text;
 static struct laid laid;

@@ -40,7 +40,8 @@ void show_progress(uint64_t files_done, uint64_t files, uint64_t lose)
 {
     int64_t now = milliseconds();
     if (isatty(STDERR_FILENO) && (last_shown == 0 || now - last_shown >= 100)) {
-        fprintf(stderr, "\r\033[K%" PRIu64 " of %" PRIu64 " files, %" PRIu64 " lose characters", files_done, files, lose);
+        fprintf(stderr, "\r\033[K%" PRIu64 " of %" PRIu64 " files, %" PRIu64 " lose characters", files_done, files,
+                lose);
         last_shown = now;
         is_shown = 1;
     }

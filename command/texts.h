@@ -15,7 +15,7 @@ struct trouble {
 struct text {
     const char *path;
     uint8_t bytes[BISQUEMOP_TEXT_MAX + 1]; /* with a line feed that is no part of it */
-    uint64_t len; /* of the file; more than the bytes that are kept if it is too long */
+    uint64_t len;                          /* of the file; more than the bytes that are kept if it is too long */
 };
 
 /* Reads all of a file, or of standard input for -, and keeps as many bytes as there is room for. *len is how many there

@@ -151,10 +151,6 @@ same() { # WHAT EXPECTED GOT
     if [ "$3" = "$2" ]; then pass; else fail "$(printf '%s: expected\n%s\ngot\n%s' "$1" "$2" "$3")"; fi
 }
 
-# A block of a page, counted from 1, and whether it is the one expected, and there.
-block() { awk -v which="$1" '/^```/ { inside = !inside; blocks += inside; next } inside && blocks == which' "$2"; } # BLOCK PAGE
-shows() { [ -n "$1" ] && [ "$1" = "$2" ]; } # BLOCK EXPECTED
-
 # The last line of a script that tests, and its exit status.
 finish() {
     printf '%s passed, %s failed\n' "$passed" "$failed"
