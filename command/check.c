@@ -118,8 +118,8 @@ static int loses(struct job *job)
     int some = 0;
     for (size_t k = 0; k < job->width_count; k++) {
         job->wanted.settings.width = job->widths[k];
-        lay_lines(&laid, &text, &job->wanted);
-        if (all_dropped(&laid) > 0 || all_outside(&laid) > 0) {
+        lay(&laid, &text, &job->wanted);
+        if (!all_shows(&laid)) {
             find_lost(&laid);
             some = 1;
         }

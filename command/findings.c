@@ -34,20 +34,30 @@ static void say_lines(const struct laid *laid)
     }
 }
 
+/* A part of the line, if there are any, behind a semicolon if it is not the first. Answers what comes before the next. */
+static const char *say_count(const char *before, uint64_t count, const char *one, const char *more)
+{
+    if (count == 0) {
+        return before;
+    }
+    printf("%s%" PRIu64 " %s", before, count, count == 1 ? one : more);
+    return "; ";
+}
+
 static void say_lost(const struct laid *laid)
 {
-    uint64_t dropped = all_dropped(laid), outside = all_outside(laid);
+    uint64_t dropped = all_dropped(laid);
+    const char *before = "";
     print_path(stdout, laid->text->path);
     printf(": width %" PRIu32 ": ", laid->wanted->settings.width);
     if (dropped > 0) {
         print_count_of_characters(stdout, dropped);
         printf(" not on the screen");
         say_lines(laid);
+        before = "; ";
     }
-    if (outside > 0) {
-        printf("%s%" PRIu64 " %s outside of the box", dropped > 0 ? "; " : "", outside,
-               outside == 1 ? "line is" : "lines are");
-    }
+    before = say_count(before, all_outside(laid), "line is outside of the box", "lines are outside of the box");
+    say_count(before, all_jutting(laid), "word juts out of the box", "words jut out of the box");
     printf("\n");
 }
 
@@ -81,7 +91,7 @@ static void print_lost(const struct laid *laid)
     begin_object(laid->text);
     printf(", \"width\": %" PRIu32 ", \"dropped\": %" PRIu64, laid->wanted->settings.width, all_dropped(laid));
     print_lines(laid);
-    printf(", \"lines_outside\": %" PRIu64 "}", all_outside(laid));
+    printf(", \"lines_outside\": %" PRIu64 ", \"words_jutting\": %" PRIu64 "}", all_outside(laid), all_jutting(laid));
 }
 
 /* Why in words, and the numbers that go with it. */

@@ -91,3 +91,25 @@ uint64_t all_outside(const struct laid *laid)
     }
     return count;
 }
+
+int juts_out(const struct laid *laid, uint64_t event)
+{
+    uint32_t end = of_event(laid, event, BISQUEMOP_EVENT_X) + of_event(laid, event, BISQUEMOP_EVENT_WIDTH);
+    return of_event(laid, event, BISQUEMOP_EVENT_KIND) == BISQUEMOP_DRAWN_PRINTED &&
+           of_event(laid, event, BISQUEMOP_EVENT_START) < of_event(laid, event, BISQUEMOP_EVENT_END) &&
+           end > laid->wanted->settings.width;
+}
+
+uint64_t all_jutting(const struct laid *laid)
+{
+    uint64_t count = 0;
+    for (uint64_t event = 0; event < laid->event_count; event++) {
+        count += (uint64_t)juts_out(laid, event);
+    }
+    return count;
+}
+
+int all_shows(const struct laid *laid)
+{
+    return all_dropped(laid) == 0 && all_outside(laid) == 0 && all_jutting(laid) == 0;
+}

@@ -41,4 +41,12 @@ uint64_t all_dropped(const struct laid *laid);
 int is_outside(const struct laid *laid, uint64_t line);
 uint64_t all_outside(const struct laid *laid);
 
+/* Whether an event prints characters that end past the box's right side, as the rules have it in justified lines with
+   characters that glue; and how many such events there are. */
+int juts_out(const struct laid *laid, uint64_t event);
+uint64_t all_jutting(const struct laid *laid);
+
+/* Whether nothing of the text is lost. */
+int all_shows(const struct laid *laid);
+
 #endif

@@ -69,7 +69,7 @@ static int say_dropped(FILE *out)
         print_count_of_characters(out, dropped);
         fprintf(out, " not on the screen\n");
     }
-    return dropped > 0 ? SOME_LOST : ALL_SHOWS;
+    return all_shows(&laid) ? ALL_SHOWS : SOME_LOST;
 }
 
 static void take_option(struct words *words, struct wanted *wanted, uint32_t *lines, int *numbers)

@@ -10,9 +10,10 @@
 #include "characters.h"
 #include "terminal.h"
 
-/* A row while it is drawn: how many cells the frame has, and how many are drawn. */
+/* A row while it is drawn: how many cells the frame has, how many are drawn, and whether something juts out. */
 struct row {
     uint64_t cells, drawn;
+    int juts;
 };
 
 static uint64_t cells_of(const struct laid *laid)
@@ -84,7 +85,7 @@ static void say_dropped(const struct laid *laid, uint64_t line)
 static void say_beside(const struct laid *laid, uint64_t line, const struct row *row)
 {
     say_dropped(laid, line);
-    if (row->drawn > row->cells) {
+    if (row->juts) {
         printf("  juts out of the box");
     }
     if (is_outside(laid, line)) {
@@ -104,6 +105,7 @@ static void draw_event(const struct laid *laid, uint64_t event, struct row *row)
                           text + of_event(laid, event, BISQUEMOP_EVENT_END)};
     if (of_event(laid, event, BISQUEMOP_EVENT_KIND) == BISQUEMOP_DRAWN_PRINTED && run.at < run.end) {
         draw_run(row, of_event(laid, event, BISQUEMOP_EVENT_X) / laid->wanted->settings.glyph, run);
+        row->juts = row->juts || juts_out(laid, event);
     }
 }
 
@@ -120,7 +122,7 @@ static uint64_t first_event(const struct laid *laid, uint64_t line, uint64_t eve
 /* Draws a line whose first event is `event`, and answers the next line's first. */
 static uint64_t draw_line(const struct laid *laid, uint64_t line, uint64_t event)
 {
-    struct row row = {cells_of(laid), 0};
+    struct row row = {cells_of(laid), 0, 0};
     uint64_t end = first_event(laid, line + 1, event);
     putchar('|');
     for (; event < end; event++) {

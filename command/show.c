@@ -22,35 +22,37 @@ static const char help[] =
 static struct text text;
 static struct laid laid;
 
-static void say_lost(uint64_t dropped, uint64_t outside)
+/* A part of the last line, if there are any. */
+static void say_count(uint64_t count, const char *one, const char *more)
 {
+    if (count > 0) {
+        printf("; %" PRIu64 " %s", count, count == 1 ? one : more);
+    }
+}
+
+static void say_lost(void)
+{
+    uint64_t dropped = all_dropped(&laid);
     if (dropped > 0) {
         printf("; ");
         print_count_of_characters(stdout, dropped);
         printf(" not on the screen");
     }
-    if (outside > 0) {
-        printf("; %" PRIu64 " %s outside of the box", outside, outside == 1 ? "line is" : "lines are");
-    }
-    if (dropped == 0 && outside == 0) {
-        printf("; all is on the screen");
-    }
-    printf("\n");
+    say_count(all_outside(&laid), "line is outside of the box", "lines are outside of the box");
+    say_count(all_jutting(&laid), "word juts out of the box", "words jut out of the box");
+    printf("%s\n", all_shows(&laid) ? "; all is on the screen" : "");
 }
 
 /* Draws it all, and answers the exit status. */
 static int show_laid(const struct wanted *wanted)
 {
-    uint64_t dropped, outside;
     lay(&laid, &text, wanted);
     draw_side(&laid);
     draw_lines(&laid, 0, laid.lines);
     draw_side(&laid);
-    dropped = all_dropped(&laid);
-    outside = all_outside(&laid);
     printf("%" PRIu64 " %s", laid.lines, laid.lines == 1 ? "line" : "lines");
-    say_lost(dropped, outside);
-    return dropped > 0 || outside > 0 ? SOME_LOST : ALL_SHOWS;
+    say_lost();
+    return all_shows(&laid) ? ALL_SHOWS : SOME_LOST;
 }
 
 /* Where words are lost that would wait, that is said. */
