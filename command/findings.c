@@ -34,7 +34,7 @@ static void say_lines(const struct laid *laid)
     }
 }
 
-/* A part of the line, if there are any, behind a semicolon if it is not the first. Answers what comes before the next. */
+/* A part of the line, if there are any, behind what is to stand before it. Answers what stands before the next part. */
 static const char *say_count(const char *before, uint64_t count, const char *one, const char *more)
 {
     if (count == 0) {
