@@ -2,18 +2,19 @@
 PREFIX = /usr/local
 DESTDIR =
 VERSION = $(shell cat VERSION)
-here := $(patsubst armv7%,armv7,$(shell uname -m))-linux
-TARGET = $(here)
-CFLAGS = -O2
+TARGET = $(patsubst armv7%,armv7,$(shell uname -m))-linux
 
 archive = target/$(TARGET)/libbisquemop.a
-# The command is built where it can be run.
-command = $(if $(filter $(here),$(TARGET)),target/$(TARGET)/bisquemop)
 module = target/module/bisquemop.ll
 compiling = scripts/build-target scripts/targets.sh
 sources = crates.txt $(shell find crates -name '*.rt' -o -name '*.antt')
 installed = lib/libbisquemop.a lib/pkgconfig/bisquemop.pc include/bisquemop.h bin/bisquemop share/man/man1/bisquemop.1
 to = $(DESTDIR)$(PREFIX)
+
+# The command is built where it can be run.
+CFLAGS = -O2
+here := $(patsubst armv7%,armv7,$(shell uname -m))-linux
+command = $(if $(filter $(here),$(TARGET)),target/$(TARGET)/bisquemop)
 
 .PHONY: all library install uninstall test help full-path known-target parted
 
