@@ -56,8 +56,8 @@ impl Rectangle {
 pub struct Done<'t> {
     /// The text from the first line on that is below the box. It can flow into another box.
     pub residual: &'t str,
-    /// How many characters of the lines before it were dropped: 0 if all of these were drawn, which the crate does not
-    /// tell.
+    /// How many characters of the lines before it belong to words that had no room, and that no line draws. The crate does
+    /// not tell.
     pub dropped: u64,
 }
 
