@@ -95,7 +95,7 @@ impl<'a> Layout<'a> {
 
     /// The lines' numbers.
     pub fn table(&self) -> &[u32] {
-        self.table.get(..self.lines.saturating_mul(LINE_NUMBERS)).unwrap_or(self.table)
+        self.table.get(..self.lines.saturating_mul(LINE_NUMBERS)).unwrap_or(&[])
     }
 
     /// Its lines.

@@ -1,9 +1,9 @@
 //! A line of a table, and the lines of a table one after the other.
 
 use crate::room::{offset, LINE_NUMBERS};
+use crate::rows::{first_row, last_row, skip_rows};
 use core::iter::FusedIterator;
 use core::ops::Range;
-use core::slice::ChunksExact;
 
 /// How a line ends.
 #[derive(Clone, Copy, Debug, PartialEq, Eq, Hash)]
@@ -122,16 +122,16 @@ impl Line {
 /// An iterator over the lines of a table.
 #[derive(Clone, Debug)]
 pub struct Lines<'a> {
-    rows: ChunksExact<'a, u32>,
+    rows: &'a [u32],
     /// Where the last of those that are left ends.
     end: u32,
 }
 
 impl<'a> Lines<'a> {
     /// Of a table that has been checked, its lines and no other numbers.
-    pub(crate) fn of(table: &'a [u32]) -> Lines<'a> {
-        let rows = table.chunks_exact(LINE_NUMBERS);
-        let reach = rows.clone().next_back().and_then(|row| row.get(9)).copied().unwrap_or(0);
+    pub(crate) fn of(rows: &'a [u32]) -> Lines<'a> {
+        // the last line's reach is the text's length plus 1
+        let reach = rows.iter().nth_back(1).copied().unwrap_or(0);
         Lines { rows, end: reach.saturating_sub(1) }
     }
 }
@@ -140,26 +140,24 @@ impl Iterator for Lines<'_> {
     type Item = Line;
 
     fn next(&mut self) -> Option<Line> {
-        let row = self.rows.next()?;
-        let next = self.rows.clone().next().and_then(|row| row.first()).copied().unwrap_or(self.end);
-        Line::of(row, next)
+        let row = first_row(&mut self.rows, LINE_NUMBERS)?;
+        Line::of(row, self.rows.first().copied().unwrap_or(self.end))
     }
 
     fn size_hint(&self) -> (usize, Option<usize>) {
-        self.rows.size_hint()
+        let left = self.rows.len() / LINE_NUMBERS;
+        (left, Some(left))
     }
 
     fn nth(&mut self, n: usize) -> Option<Line> {
-        if n > 0 {
-            self.rows.nth(n.saturating_sub(1))?;
-        }
+        skip_rows(&mut self.rows, n, LINE_NUMBERS);
         self.next()
     }
 }
 
 impl DoubleEndedIterator for Lines<'_> {
     fn next_back(&mut self) -> Option<Line> {
-        let line = Line::of(self.rows.next_back()?, self.end)?;
+        let line = Line::of(last_row(&mut self.rows, LINE_NUMBERS)?, self.end)?;
         self.end = line.start;
         Some(line)
     }

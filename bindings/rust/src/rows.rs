@@ -3,7 +3,6 @@
 use core::fmt;
 use core::iter::FusedIterator;
 use core::marker::PhantomData;
-use core::slice::ChunksExact;
 
 /// What a row of numbers stands for.
 pub trait Row: Sized {
@@ -14,23 +13,42 @@ pub trait Row: Sized {
     fn from_row(row: &[u32]) -> Option<Self>;
 }
 
+/// Takes the first row of so many numbers from a slice.
+pub(crate) fn first_row<'a>(rows: &mut &'a [u32], numbers: usize) -> Option<&'a [u32]> {
+    let row = rows.get(..numbers)?;
+    *rows = rows.get(numbers..)?;
+    Some(row)
+}
+
+/// Takes the last one.
+pub(crate) fn last_row<'a>(rows: &mut &'a [u32], numbers: usize) -> Option<&'a [u32]> {
+    let before = rows.len().checked_sub(numbers)?;
+    let row = rows.get(before..)?;
+    *rows = rows.get(..before)?;
+    Some(row)
+}
+
+/// Leaves out so many rows at the front.
+pub(crate) fn skip_rows(rows: &mut &[u32], count: usize, numbers: usize) {
+    *rows = rows.get(count.saturating_mul(numbers)..).unwrap_or(&[]);
+}
+
 /// An iterator over the rows that a call has written, each as what it stands for.
 pub struct Rows<'a, T> {
-    rows: ChunksExact<'a, u32>,
+    rows: &'a [u32],
     kind: PhantomData<T>,
 }
 
 impl<'a, T: Row> Rows<'a, T> {
     /// The first rows of a slice.
     pub(crate) fn first(numbers: &'a [u32], count: usize) -> Self {
-        let written = numbers.get(..count.saturating_mul(T::NUMBERS)).unwrap_or(numbers);
-        Rows { rows: written.chunks_exact(T::NUMBERS.max(1)), kind: PhantomData }
+        Rows { rows: numbers.get(..count.saturating_mul(T::NUMBERS)).unwrap_or(&[]), kind: PhantomData }
     }
 }
 
 impl<T> Clone for Rows<'_, T> {
     fn clone(&self) -> Self {
-        Rows { rows: self.rows.clone(), kind: PhantomData }
+        Rows { rows: self.rows, kind: PhantomData }
     }
 }
 
@@ -44,21 +62,23 @@ impl<T: Row> Iterator for Rows<'_, T> {
     type Item = T;
 
     fn next(&mut self) -> Option<T> {
-        T::from_row(self.rows.next()?)
+        T::from_row(first_row(&mut self.rows, T::NUMBERS)?)
     }
 
     fn size_hint(&self) -> (usize, Option<usize>) {
-        self.rows.size_hint()
+        let left = self.rows.len().checked_div(T::NUMBERS).unwrap_or(0);
+        (left, Some(left))
     }
 
     fn nth(&mut self, n: usize) -> Option<T> {
-        T::from_row(self.rows.nth(n)?)
+        skip_rows(&mut self.rows, n, T::NUMBERS);
+        self.next()
     }
 }
 
 impl<T: Row> DoubleEndedIterator for Rows<'_, T> {
     fn next_back(&mut self) -> Option<T> {
-        T::from_row(self.rows.next_back()?)
+        T::from_row(last_row(&mut self.rows, T::NUMBERS)?)
     }
 }
 
