@@ -2,37 +2,9 @@
 //!
 //! Offsets are bytes into the text, counts are characters, and widths and places are pixels.
 
-/// The thirteen settings, in the scope's order and the wrap setting last.
-#[derive(Clone, Copy, Debug, PartialEq, Eq)]
-pub struct Settings {
-    /// The width of every character.
-    pub glyph: u32,
-    /// The width of the box.
-    pub width: u32,
-    /// The width of tabs.
-    pub tab: u32,
-    /// Line spacing.
-    pub spacing: u32,
-    /// Paragraph spacing.
-    pub paragraph: u32,
-    /// The height of a single line.
-    pub base: u32,
-    /// The height of the box.
-    pub height: u32,
-    /// Where the box begins.
-    pub top: i32,
-    /// 0 left, 1 centre, 2 right, 3 justified.
-    pub alignment: u32,
-    /// 0 top, 1 middle, 2 bottom.
-    pub vertical: u32,
-    /// Leading spaces: 0 off, 1 on.
-    pub leading: u32,
-    /// Trailing spaces, which are retired: 0 alone is good.
-    pub trailing: u32,
-    /// A word of which no character fits: 0 it is dropped, 1 it waits for the next line if the cursor has left its starting place.
-    /// The crate has 0 alone.
-    pub wrap: u32,
-}
+/// The thirteen settings as numbers, and what a line is laid from, as the library's package for Rust has them; and how many numbers
+/// a line has in a table, and a page in a list. The crate has the wrap setting 0 alone.
+pub use bisquemop::{Numbers as Settings, Stand, LINE_NUMBERS, PAGE_NUMBERS};
 
 /// The kinds of token.
 pub const NEW_LINE: u32 = 0;
@@ -79,20 +51,6 @@ pub struct Extent {
     /// The characters before the line's start.
     pub chars: u32,
 }
-
-/// What a line is laid from: its start, and the rest that it starts with; 0 and 0 where there is none.
-#[derive(Clone, Copy, Debug, Default, PartialEq, Eq)]
-pub struct Stand {
-    pub start: u32,
-    pub rest_end: u32,
-    pub rest_count: u32,
-}
-
-/// How many numbers a line has in a table.
-pub const LINE_NUMBERS: usize = 11;
-
-/// How many numbers a page has in a list.
-pub const PAGE_NUMBERS: usize = 3;
 
 /// The kinds of event.
 pub const SPACE: u32 = 0;

@@ -1,7 +1,7 @@
 //! What is counted for speed: one piece of work, done so many times. A counter outside of the program counts its instructions, once for n
 //! times and once for 2n, and the difference is n times the work.
 
-use crate::bisquemop::{self, Edit};
+use bisquemop::{sys, Edit};
 use embedded_text_wrapping::plugin::probe as wrapping;
 use shape::{Settings, Stand, LINE_NUMBERS};
 use std::hint::black_box;
@@ -78,13 +78,13 @@ impl Room {
 
 fn layout(settings: &Settings, texts: &[String], room: &mut Room) {
     for text in texts {
-        black_box(bisquemop::layout(settings, text.as_bytes(), &mut room.table)).expect("a good text");
+        black_box(sys::layout(settings, text.as_bytes(), &mut room.table)).expect("a good text");
     }
 }
 
 fn events(settings: &Settings, texts: &[String], room: &mut Room) {
     for text in texts {
-        black_box(bisquemop::layout_events(settings, text.as_bytes(), &mut room.table, &mut room.events)).expect("a good text");
+        black_box(sys::layout_events(settings, text.as_bytes(), &mut room.table, &mut room.events)).expect("a good text");
     }
 }
 
@@ -103,16 +103,18 @@ fn typed(settings: &Settings, text: &str, place: &str, times: u32, room: &mut Ro
     };
     let at = (0..=at).rev().find(|&at| text.is_char_boundary(at)).expect("the front is a boundary");
     let longer = format!("{}x{}", &text[..at], &text[at..]);
-    let mut lines = bisquemop::layout(settings, text.as_bytes(), &mut room.table).expect("a good text");
+    let mut lines = sys::layout(settings, text.as_bytes(), &mut room.table).expect("a good text");
     let mut laid = 0;
     let at = at as u32;
     for _ in 0..times {
-        for (whole, edit) in [(longer.as_str(), Edit { a: at, b: at, inserted: 1 }), (text, Edit { a: at, b: at + 1, inserted: 0 })] {
-            let first = bisquemop::first_affected(&room.table, lines, edit).expect("a good edit") as usize;
+        for (whole, edit) in
+            [(longer.as_str(), Edit { a: at, b: at, inserted: 1 }), (text, Edit { a: at, b: at + 1, inserted: 0 })]
+        {
+            let first = sys::first_affected(&room.table, lines, edit).expect("a good edit") as usize;
             let part = &whole.as_bytes()[room.table[LINE_NUMBERS * first] as usize..];
-            let again = bisquemop::lay_again(settings, part, &mut room.table, lines, edit).expect("a good edit");
-            lines = again.lines;
-            laid += again.laid;
+            let (now, again) = sys::lay_again(settings, part, &mut room.table, lines, edit).expect("a good edit");
+            lines = now;
+            laid += again;
         }
     }
     laid
@@ -132,7 +134,7 @@ fn one_line(settings: &Settings, text: &str, place: &str, alone: bool, lines: u6
     let (lent, from) = if alone { (part, 0) } else { (text.as_bytes(), entry[0]) };
     let stand = Stand { start: from, ..Stand::default() };
     for _ in 0..times {
-        black_box(bisquemop::one_line(settings, lent, stand, &mut room.events)).expect("a good start");
+        black_box(sys::one_line(settings, lent, stand, &mut room.events)).expect("a good start");
     }
     lent.len() as u64
 }
@@ -143,17 +145,15 @@ pub fn run(work: &str, name: &str, bytes: usize, glyphs: u32, alignment: u32, ti
     let settings = settings_for(name, glyphs, alignment);
     let mut room = Room::new();
     let size: usize = texts.iter().map(String::len).sum();
-    let lines: u64 = texts
-        .iter()
-        .map(|text| bisquemop::layout(&settings, text.as_bytes(), &mut room.table).expect("a good text"))
-        .sum();
+    let lines: u64 =
+        texts.iter().map(|text| sys::layout(&settings, text.as_bytes(), &mut room.table).expect("a good text")).sum();
     let mut laid = 0;
     match work {
         "layout" => (0..times).for_each(|_| layout(&settings, &texts, &mut room)),
         "events" => (0..times).for_each(|_| events(&settings, &texts, &mut room)),
         "crate" => (0..times).for_each(|_| by_crate(&settings, &texts)),
         "affected" => (0..times).for_each(|_| {
-            black_box(bisquemop::first_affected(&room.table, lines, Edit { a: 0, b: 0, inserted: 1 })).expect("a good edit");
+            black_box(sys::first_affected(&room.table, lines, Edit { a: 0, b: 0, inserted: 1 })).expect("a good edit");
         }),
         "front" | "middle" | "end" => laid = typed(&settings, &texts[0], work, times, &mut room),
         _ => {

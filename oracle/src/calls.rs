@@ -1,9 +1,9 @@
 //! Each call of the library by itself, where it is linked: what it answers when done, and every refusal that it has, after which
 //! all that was lent holds what it held.
 
-use crate::bisquemop::{self, Edit, Refusal};
 use crate::examples::Claims;
 use crate::EXAMPLE;
+use bisquemop::{sys, Edit, Place, Refusal, Which};
 use shape::{Settings, Stand, LINE_NUMBERS};
 
 const UNTOUCHED: u32 = 7;
@@ -39,7 +39,7 @@ fn refused() -> Vec<(Settings, Vec<u8>, Refusal)> {
 /// The table of a text that surely has room.
 fn table_of(settings: &Settings, text: &str) -> (Vec<u32>, u64) {
     let mut table = vec![UNTOUCHED; LINE_NUMBERS * (text.len() + 1)];
-    let lines = bisquemop::layout(settings, text.as_bytes(), &mut table).expect("a good text and good settings");
+    let lines = sys::layout(settings, text.as_bytes(), &mut table).expect("a good text and good settings");
     (table, lines)
 }
 
@@ -57,36 +57,35 @@ pub fn run(claims: &mut Claims, _specs: &str) {
 }
 
 fn checks(claims: &mut Claims) {
-    claims.equal("check_settings of good ones", bisquemop::check_settings(&EXAMPLE), Ok(()));
-    claims.equal("check_text of a good one", bisquemop::check_text("é漢😀".as_bytes()), Ok(()));
-    claims.equal("check_text of none", bisquemop::check_text(b""), Ok(()));
+    claims.equal("check_settings of good ones", sys::check_settings(&EXAMPLE), Ok(()));
+    claims.equal("check_text of a good one", sys::check_text("é漢😀".as_bytes()), Ok(()));
+    claims.equal("check_text of none", sys::check_text(b""), Ok(()));
     for (settings, text, refusal) in refused() {
         if matches!(refusal, Refusal::SettingOutOfRange | Refusal::UnknownAlignment(_)) {
-            claims.equal("check_settings", bisquemop::check_settings(&settings), Err(refusal));
+            claims.equal("check_settings", sys::check_settings(&settings), Err(refusal));
         } else {
-            claims.equal("check_text", bisquemop::check_text(&text), Err(refusal));
-            claims.equal("tokens", lent(400, |tokens| bisquemop::tokens(&text, tokens)), (Err(refusal), true));
+            claims.equal("check_text", sys::check_text(&text), Err(refusal));
+            claims.equal("tokens", lent(400, |tokens| sys::tokens(&text, tokens)), (Err(refusal), true));
         }
     }
-    claims.equal("tokens", lent(12, |tokens| bisquemop::tokens(b"ab cde", tokens)), (Ok(3), false));
-    let small = lent(11, |tokens| bisquemop::tokens(b"ab cde", tokens));
+    claims.equal("tokens", lent(12, |tokens| sys::tokens(b"ab cde", tokens)), (Ok(3), false));
+    let small = lent(11, |tokens| sys::tokens(b"ab cde", tokens));
     claims.equal("tokens in too small a buffer", small, (Err(Refusal::TooSmall(3)), true));
 }
 
 fn layouts(claims: &mut Claims) {
     for (settings, text, refusal) in refused() {
-        let found = lent(400, |table| bisquemop::layout(&settings, &text, table));
+        let found = lent(400, |table| sys::layout(&settings, &text, table));
         claims.equal("layout", found, (Err(refusal), true));
-        let found = lent(400, |table| lent(400, |events| bisquemop::layout_events(&settings, &text, table, events)));
+        let found = lent(400, |table| lent(400, |events| sys::layout_events(&settings, &text, table, events)));
         claims.equal("layout_events", found, ((Err(refusal), true), true));
     }
     // Two lines and three events: 22 numbers and 18.
     let text = b"ab cde";
-    claims.equal("layout", lent(22, |table| bisquemop::layout(&EXAMPLE, text, table)), (Ok(2), false));
-    let small = lent(21, |table| bisquemop::layout(&EXAMPLE, text, table));
+    claims.equal("layout", lent(22, |table| sys::layout(&EXAMPLE, text, table)), (Ok(2), false));
+    let small = lent(21, |table| sys::layout(&EXAMPLE, text, table));
     claims.equal("layout in too small a table", small, (Err(Refusal::TooSmall(2)), true));
-    let with_events =
-        |lines, drawn| lent(lines, |table| lent(drawn, |events| bisquemop::layout_events(&EXAMPLE, text, table, events)));
+    let with_events = |lines, drawn| lent(lines, |table| lent(drawn, |events| sys::layout_events(&EXAMPLE, text, table, events)));
     claims.equal("layout_events", with_events(22, 18), ((Ok((2, 3)), false), false));
     claims.equal("layout_events in too small a table", with_events(21, 0), ((Err(Refusal::TooSmall(2)), true), true));
     claims.equal("layout_events in too small a buffer", with_events(22, 17), ((Err(Refusal::TooSmall(3)), true), true));
@@ -95,9 +94,9 @@ fn layouts(claims: &mut Claims) {
 /// The two lines of the scope's example one by one, and every refusal of a start and a rest.
 fn lines(claims: &mut Claims) {
     let from = |start, rest_end, rest_count| Stand { start, rest_end, rest_count };
-    let laid = |text: &[u8], from| lent(LINE_NUMBERS, |entry| bisquemop::one_line(&EXAMPLE, text, from, entry));
+    let laid = |text: &[u8], from| lent(LINE_NUMBERS, |entry| sys::one_line(&EXAMPLE, text, from, entry));
     let text = b"ab cde";
-    claims.equal("open", bisquemop::open(&EXAMPLE, text), Ok(0));
+    claims.equal("open", sys::open(&EXAMPLE, text), Ok(0));
     claims.equal("one_line, the first", laid(text, from(0, 0, 0)), (Ok(from(3, 0, 0)), false));
     claims.equal("one_line, the last", laid(text, from(3, 0, 0)), (Ok(from(6, 0, 0)), false));
     claims.equal("one_line at the text's end", laid(text, from(6, 0, 0)), (Ok(from(6, 0, 0)), false));
@@ -105,9 +104,9 @@ fn lines(claims: &mut Claims) {
     claims.equal("one_line after a rest", laid(b"abc   d", from(4, 6, 2)), (Ok(from(7, 0, 0)), false));
 
     for (settings, text, refusal) in refused() {
-        claims.equal("open", bisquemop::open(&settings, &text), Err(refusal));
+        claims.equal("open", sys::open(&settings, &text), Err(refusal));
         for stand in [from(0, 0, 0), from(9, 1, 1)] {
-            let found = lent(LINE_NUMBERS, |entry| bisquemop::one_line(&settings, &text, stand, entry));
+            let found = lent(LINE_NUMBERS, |entry| sys::one_line(&settings, &text, stand, entry));
             claims.equal("one_line", found, (Err(refusal), true));
         }
     }
@@ -129,12 +128,12 @@ fn lines(claims: &mut Claims) {
     ];
     for stand in bad {
         claims.equal("one_line from a bad stand", laid(text, stand), (Err(Refusal::BadLine(0)), true));
-        let no_room = bisquemop::one_line(&EXAMPLE, text, stand, &mut []);
+        let no_room = sys::one_line(&EXAMPLE, text, stand, &mut []);
         claims.equal("one_line from a bad stand, with no room", no_room, Err(Refusal::BadLine(0)));
     }
     for good in [from(0, 0, 0), from(1, 3, 1), from(1, 6, 2), from(3, 6, 0), from(6, 0, 0)] {
         claims.equal("one_line from a good stand", laid(text, good).0.is_ok(), true);
-        let small = lent(LINE_NUMBERS - 1, |entry| bisquemop::one_line(&EXAMPLE, text, good, entry));
+        let small = lent(LINE_NUMBERS - 1, |entry| sys::one_line(&EXAMPLE, text, good, entry));
         claims.equal("one_line in too small an entry", small, (Err(Refusal::TooSmall(1)), true));
     }
 }
@@ -142,7 +141,7 @@ fn lines(claims: &mut Claims) {
 fn tables(claims: &mut Claims) {
     let (table, lines) = table_of(&EXAMPLE, "aa\nbb\ncc");
     let edit = |a, b, inserted| Edit { a, b, inserted };
-    let affected = |lines, edit| bisquemop::first_affected(&table, lines, edit);
+    let affected = |lines, edit| sys::first_affected(&table, lines, edit);
     claims.equal("first_affected, the scope's example", affected(lines, edit(3, 3, 1)), Ok(1));
     claims.equal("first_affected of no line", affected(0, edit(3, 3, 1)), Err(Refusal::BadLine(0)));
     claims.equal("first_affected of a part of the lines", affected(2, edit(3, 3, 1)), Err(Refusal::BadLine(1)));
@@ -151,27 +150,27 @@ fn tables(claims: &mut Claims) {
     for (line, chars) in [(0, 1), (1, 0), (2, 3), (2, 2), (1, 4), (2, u32::MAX)] {
         let mut bad = table.clone();
         bad[LINE_NUMBERS * line + CHARS] = chars;
-        let found = bisquemop::first_affected(&bad, lines, edit(3, 3, 1));
+        let found = sys::first_affected(&bad, lines, edit(3, 3, 1));
         claims.equal("first_affected of bad counts of characters", found, Err(Refusal::BadLine(line as u64)));
-        claims.equal("height of bad counts of characters", bisquemop::height(&EXAMPLE, &bad, lines), {
+        claims.equal("height of bad counts of characters", sys::height(&EXAMPLE, &bad, lines), {
             Err(Refusal::BadLine(line as u64))
         });
     }
     let long = affected(lines, edit(3, 3, 65_535));
     claims.equal("first_affected of a long edit", long, Err(Refusal::TextTooLong(65_543)));
     let (one, count) = table_of(&EXAMPLE, "ab cde");
-    claims.equal("first_affected, the scope's last example", bisquemop::first_affected(&one, count, edit(5, 6, 0)), Ok(0));
+    claims.equal("first_affected, the scope's last example", sys::first_affected(&one, count, edit(5, 6, 0)), Ok(0));
 
-    claims.equal("height", bisquemop::height(&EXAMPLE, &table, lines), Ok(8 + 2 * (10 + 3)));
-    claims.equal("height of no line", bisquemop::height(&EXAMPLE, &table, 0), Err(Refusal::BadLine(0)));
+    claims.equal("height", sys::height(&EXAMPLE, &table, lines), Ok(8 + 2 * (10 + 3)));
+    claims.equal("height of no line", sys::height(&EXAMPLE, &table, 0), Err(Refusal::BadLine(0)));
     let bad = Settings { base: 0, ..EXAMPLE };
-    claims.equal("height at a bad setting", bisquemop::height(&bad, &table, lines), Err(Refusal::SettingOutOfRange));
+    claims.equal("height at a bad setting", sys::height(&bad, &table, lines), Err(Refusal::SettingOutOfRange));
     let bad = Settings { trailing: 1, alignment: 9, ..EXAMPLE };
-    claims.equal("height at a retired setting", bisquemop::height(&bad, &table, 0), Err(Refusal::SettingOutOfRange));
+    claims.equal("height at a retired setting", sys::height(&bad, &table, 0), Err(Refusal::SettingOutOfRange));
     let bad = Settings { wrap: 2, vertical: 3, ..EXAMPLE };
-    claims.equal("height at an unknown wrap", bisquemop::height(&bad, &table, 0), Err(Refusal::SettingOutOfRange));
+    claims.equal("height at an unknown wrap", sys::height(&bad, &table, 0), Err(Refusal::SettingOutOfRange));
     let bad = Settings { vertical: 3, ..EXAMPLE };
-    claims.equal("height at an unknown alignment", bisquemop::height(&bad, &table, 0), Err(Refusal::UnknownAlignment(3)));
+    claims.equal("height at an unknown alignment", sys::height(&bad, &table, 0), Err(Refusal::UnknownAlignment(3)));
 }
 
 /// The scope's example of laying again, and the refusals of it.
@@ -179,14 +178,14 @@ fn again(claims: &mut Claims) {
     let (table, lines) = table_of(&EXAMPLE, "aa\nbb\ncc");
     let edit = Edit { a: 3, b: 3, inserted: 1 };
     let mut laid = table.clone();
-    let answer = bisquemop::lay_again(&EXAMPLE, b"xbb\ncc", &mut laid, lines, edit);
-    claims.equal("lay_again, the scope's example", answer, Ok(bisquemop::Again { lines: 3, laid: 1 }));
+    let answer = sys::lay_again(&EXAMPLE, b"xbb\ncc", &mut laid, lines, edit);
+    claims.equal("lay_again, the scope's example", answer, Ok((3, 1)));
     let starts: Vec<u32> = laid.chunks_exact(LINE_NUMBERS).take(3).map(|line| line[0]).collect();
     claims.equal("lay_again, the scope's example: starts", starts, vec![0, 3, 7]);
 
     let mut refuse = |words, settings: &Settings, part: &[u8], room: usize, lines, edit, refusal| {
         let mut lent = table[..LINE_NUMBERS * room].to_vec();
-        let answer = bisquemop::lay_again(settings, part, &mut lent, lines, edit);
+        let answer = sys::lay_again(settings, part, &mut lent, lines, edit);
         claims.equal(words, (answer, lent == table[..LINE_NUMBERS * room]), (Err(refusal), true));
     };
     let bad = Settings { tab: 4097, ..EXAMPLE };
@@ -208,30 +207,30 @@ fn again(claims: &mut Claims) {
 
 fn places(claims: &mut Claims) {
     let (table, lines) = table_of(&EXAMPLE, "aa\nbb\ncc");
-    let place = |line| bisquemop::line_y(&EXAMPLE, &table, lines, line);
-    let at = |y, shows| Ok(Some(bisquemop::Place { y, shows }));
+    let place = |line| sys::line_y(&EXAMPLE, &table, lines, line);
+    let at = |y, shows| Ok(Some(Place { y, shows }));
     claims.equal("line_y of the first line", place(0), at(-5, true));
     claims.equal("line_y of the second line", place(1), at(8, true));
     claims.equal("line_y of the third line", place(2), at(21, true));
     claims.equal("line_y of no line", place(3), Ok(None));
     let low = Settings { height: 33, ..EXAMPLE };
-    claims.equal("line_y of a line that is cut off", bisquemop::line_y(&low, &table, lines, 2), {
-        Ok(Some(bisquemop::Place { y: 21, shows: false }))
+    claims.equal("line_y of a line that is cut off", sys::line_y(&low, &table, lines, 2), {
+        Ok(Some(Place { y: 21, shows: false }))
     });
-    claims.equal("line_y in no table", bisquemop::line_y(&EXAMPLE, &[], 0, 0), Err(Refusal::BadLine(0)));
+    claims.equal("line_y in no table", sys::line_y(&EXAMPLE, &[], 0, 0), Err(Refusal::BadLine(0)));
     let bad = Settings { base: 0, ..EXAMPLE };
-    claims.equal("line_y at a bad setting", bisquemop::line_y(&bad, &table, lines, 0), Err(Refusal::SettingOutOfRange));
+    claims.equal("line_y at a bad setting", sys::line_y(&bad, &table, lines, 0), Err(Refusal::SettingOutOfRange));
     let bad = Settings { trailing: 1, alignment: 4, ..EXAMPLE };
-    claims.equal("line_y at a retired setting", bisquemop::line_y(&bad, &table, lines, 0), Err(Refusal::SettingOutOfRange));
+    claims.equal("line_y at a retired setting", sys::line_y(&bad, &table, lines, 0), Err(Refusal::SettingOutOfRange));
     let bad = Settings { wrap: 2, vertical: 3, ..EXAMPLE };
-    claims.equal("line_y at an unknown wrap", bisquemop::line_y(&bad, &table, lines, 0), Err(Refusal::SettingOutOfRange));
+    claims.equal("line_y at an unknown wrap", sys::line_y(&bad, &table, lines, 0), Err(Refusal::SettingOutOfRange));
 }
 
 fn indexes(claims: &mut Claims) {
     let (table, lines) = table_of(&EXAMPLE, "aa\nbb\rcc");
     let made = |settings: &Settings, lines, room| {
         let mut ys = vec![7; room];
-        let answer = bisquemop::index(settings, &table, lines, &mut ys);
+        let answer = sys::index(settings, &table, lines, &mut ys);
         (answer, ys)
     };
     claims.equal("index", made(&EXAMPLE, lines, 4), (Ok(3), vec![-5, 8, 8, 7]));
@@ -241,13 +240,13 @@ fn indexes(claims: &mut Claims) {
     claims.equal("index at an unknown alignment", made(&bad, lines, 3), (Err(Refusal::UnknownAlignment(3)), vec![7, 7, 7]));
     let again = |vertical, first| {
         let mut ys = vec![7; 3];
-        let answer = bisquemop::index_again(&Settings { vertical, ..EXAMPLE }, &table, lines, first, &mut ys);
+        let answer = sys::index_again(&Settings { vertical, ..EXAMPLE }, &table, lines, first, &mut ys);
         (answer, ys)
     };
     claims.equal("index_again at the top", again(0, 1), (Ok(3), vec![7, 8, 8]));
     claims.equal("index_again past the last line", again(0, 3), (Ok(3), vec![7, 7, 7]));
     claims.equal("index_again at the bottom", again(2, 1), (Ok(3), vec![14, 27, 27]));
-    let found = |ys: &[i32], y| bisquemop::find_line(&table, lines, ys, y);
+    let found = |ys: &[i32], y| sys::find_line(&table, lines, ys, y);
     claims.equal("find_line above all", found(&[-5, 8, 8], -6), Ok(None));
     claims.equal("find_line", found(&[-5, 8, 8], 7), Ok(Some(0)));
     claims.equal("find_line of two that share a y", found(&[-5, 8, 8], 8), Ok(Some(2)));
@@ -256,22 +255,21 @@ fn indexes(claims: &mut Claims) {
 }
 
 fn choices(claims: &mut Claims) {
-    let chosen = |long: &str, short: &str, h| bisquemop::choose(&EXAMPLE, long.as_bytes(), short.as_bytes(), h);
-    let of = |short, bytes, left_out| Ok(bisquemop::Chosen { short, bytes, left_out });
-    claims.equal("choose at exactly its lines", chosen("ab cde", "x", 2), of(false, 6, 0));
-    claims.equal("choose in a line too few", chosen("ab cde", "x", 1), of(true, 1, 0));
-    claims.equal("choose a part", chosen("ab cde", "é bcdé", 1), of(true, 3, 4));
+    let chosen = |long: &str, short: &str, h| sys::choose(&EXAMPLE, long.as_bytes(), short.as_bytes(), h);
+    claims.equal("choose at exactly its lines", chosen("ab cde", "x", 2), Ok((Which::Long, 6, 0)));
+    claims.equal("choose in a line too few", chosen("ab cde", "x", 1), Ok((Which::Short, 1, 0)));
+    claims.equal("choose a part", chosen("ab cde", "é bcdé", 1), Ok((Which::Short, 3, 4)));
     claims.equal("choose in no line", chosen("", "", 0), Err(Refusal::SettingOutOfRange));
     for (settings, text, refusal) in refused() {
-        claims.equal("choose of a long text", bisquemop::choose(&settings, &text, b"", 9), Err(refusal));
-        claims.equal("choose of a short text", bisquemop::choose(&settings, b"", &text, 9), Err(refusal));
+        claims.equal("choose of a long text", sys::choose(&settings, &text, b"", 9), Err(refusal));
+        claims.equal("choose of a short text", sys::choose(&settings, b"", &text, 9), Err(refusal));
     }
 }
 
 fn lists(claims: &mut Claims) {
     let listed = |h, room| {
         let (mut table, mut pages) = (vec![UNTOUCHED; 3 * LINE_NUMBERS], vec![7; room]);
-        let answer = bisquemop::pages(&EXAMPLE, b"aa\nbb\ncc", h, &mut table, &mut pages);
+        let answer = sys::pages(&EXAMPLE, b"aa\nbb\ncc", h, &mut table, &mut pages);
         (answer, pages)
     };
     claims.equal("pages", listed(2, 7), (Ok((3, 2)), vec![0, 0, 6, 2, 6, 8, 7]));
@@ -280,7 +278,7 @@ fn lists(claims: &mut Claims) {
     let (table, lines) = table_of(&EXAMPLE, "aa\nbb\ncc");
     let again = |lines, h, first, room| {
         let mut pages = vec![7; room];
-        (bisquemop::pages_again(&table, lines, h, first, &mut pages), pages)
+        (sys::pages_again(&table, lines, h, first, &mut pages), pages)
     };
     claims.equal("pages_again", again(lines, 2, 2, 6), (Ok(2), vec![7, 7, 7, 2, 6, 8]));
     claims.equal("pages_again past the last line", again(lines, 2, 3, 6), (Ok(2), vec![7; 6]));
@@ -290,8 +288,8 @@ fn lists(claims: &mut Claims) {
 }
 
 fn columns(claims: &mut Claims) {
-    let fit = |width, text: &str, h| bisquemop::columns_fit(&Settings { width, ..EXAMPLE }, text.as_bytes(), h);
-    let plan = |text: &str, h| bisquemop::columns_plan(&EXAMPLE, text.as_bytes(), h);
+    let fit = |width, text: &str, h| sys::columns_fit(&Settings { width, ..EXAMPLE }, text.as_bytes(), h);
+    let plan = |text: &str, h| sys::columns_plan(&EXAMPLE, text.as_bytes(), h);
     claims.equal("columns_fit", fit(18, "ab cde", 2), Ok(true));
     claims.equal("columns_fit in a line too few", fit(18, "ab cde", 1), Ok(false));
     claims.equal("columns_fit with a word dropped", fit(30, "     ab", 2), Ok(false));
@@ -301,7 +299,7 @@ fn columns(claims: &mut Claims) {
     claims.equal("columns_plan where there is none", plan("a\nb", 1), Ok(None));
     claims.equal("columns_plan in no line", plan("a", 0), Err(Refusal::SettingOutOfRange));
     for (settings, text, refusal) in refused() {
-        claims.equal("columns_fit", bisquemop::columns_fit(&settings, &text, 9), Err(refusal));
-        claims.equal("columns_plan", bisquemop::columns_plan(&settings, &text, 9), Err(refusal));
+        claims.equal("columns_fit", sys::columns_fit(&settings, &text, 9), Err(refusal));
+        claims.equal("columns_plan", sys::columns_plan(&settings, &text, 9), Err(refusal));
     }
 }

@@ -3,7 +3,8 @@
 
 use crate::runs::Progress;
 use crate::tally::Tally;
-use crate::{bisquemop, model, random, show};
+use crate::{model, random, show};
+use bisquemop::sys;
 use shape::*;
 
 /// What was found over many texts.
@@ -31,8 +32,8 @@ impl Sheet {
         self.rules.lines.len() <= h as usize && self.rules.extents.iter().all(|extent| extent.dropped == 0)
     }
 
-    fn smallest_width(&mut self, settings: &Settings, h: u32) -> Option<u64> {
-        (0..=4096).find(|&width| self.fits(&Settings { width, ..*settings }, h)).map(u64::from)
+    fn smallest_width(&mut self, settings: &Settings, h: u32) -> Option<u32> {
+        (0..=4096).find(|&width| self.fits(&Settings { width, ..*settings }, h))
     }
 }
 
@@ -41,14 +42,14 @@ const SELDOM: u64 = 8;
 
 fn hold(settings: &Settings, sheet: &mut Sheet, h: u32, found: &mut Found) -> Result<(), String> {
     let expected = sheet.fits(settings, h);
-    let answer = bisquemop::columns_fit(settings, sheet.text.as_bytes(), h);
+    let answer = sys::columns_fit(settings, sheet.text.as_bytes(), h);
     if answer != Ok(expected) {
         return Err(format!("whether it fits {h} lines is {answer:?}, and not {expected}"));
     }
     found.fits += u64::from(expected);
     if found.texts % SELDOM == 0 {
         let width = sheet.smallest_width(settings, h);
-        let answer = bisquemop::columns_plan(settings, sheet.text.as_bytes(), h);
+        let answer = sys::columns_plan(settings, sheet.text.as_bytes(), h);
         if answer != Ok(width) {
             return Err(format!("the width for {h} lines is {answer:?}, and not {width:?}"));
         }

@@ -1,9 +1,9 @@
 //! Edits by chance, where the library is linked: laying again is held to the layout of the new text, entry by entry.
 
-use crate::bisquemop::{self, Again, Edit, Refusal};
 use crate::runs::Progress;
 use crate::tally::Tally;
 use crate::{model, random, show};
+use bisquemop::{sys, Edit, Refusal};
 use shape::*;
 
 /// A line of a table.
@@ -32,7 +32,7 @@ fn numbers(text: &str) -> usize {
 impl Page {
     fn lay(settings: Settings, text: String) -> Self {
         let mut table = vec![UNTOUCHED; numbers(&text)];
-        let lines = bisquemop::layout(&settings, text.as_bytes(), &mut table).expect("a good text, good settings and room");
+        let lines = sys::layout(&settings, text.as_bytes(), &mut table).expect("a good text, good settings and room");
         Page { settings, text, table, lines }
     }
 
@@ -45,7 +45,7 @@ impl Page {
     fn index(&self, vertical: u32) -> Vec<i32> {
         let mut ys = vec![0; self.lines as usize];
         let settings = Settings { vertical, ..self.settings };
-        bisquemop::index(&settings, &self.table, self.lines, &mut ys).expect("a good table and room");
+        sys::index(&settings, &self.table, self.lines, &mut ys).expect("a good table and room");
         ys
     }
 }
@@ -134,7 +134,7 @@ fn hold_index(page: &Page, fresh: &Page, first: u64, vertical: u32, mut ys: Vec<
         let last = first as usize - 1;
         (ys[last], expected[last]) = (i32::MIN, i32::MIN);
     }
-    let answer = bisquemop::index_again(&settings, &page.table, fresh.lines, first, &mut ys);
+    let answer = sys::index_again(&settings, &page.table, fresh.lines, first, &mut ys);
     if answer != Ok(fresh.lines) || ys != expected {
         return Err(format!("at vertical alignment {vertical} the index is {answer:?} {ys:?}, and not {expected:?}"));
     }
@@ -155,7 +155,7 @@ fn hold_pages(page: &Page, fresh: &Page, old: &[Entry], first: usize, h: u32) ->
     if first >= h as usize {
         (pages[0], expected[0]) = (UNTOUCHED, UNTOUCHED);
     }
-    let answer = bisquemop::pages_again(&page.table, fresh.lines, h, first as u64, &mut pages);
+    let answer = sys::pages_again(&page.table, fresh.lines, h, first as u64, &mut pages);
     if answer != Ok(count as u64) || pages != expected {
         return Err(format!("by {h} lines the pages are {answer:?} {pages:?}, and not {expected:?}"));
     }
@@ -171,7 +171,7 @@ fn hold(page: &mut Page, change: Change, found: &mut Found) -> Result<(), String
     let expected = fresh.entries();
 
     let first = old.iter().position(|entry| entry[REACH] > edit.a).expect("the last reach is past every edit");
-    let affected = bisquemop::first_affected(&page.table, lines, edit);
+    let affected = sys::first_affected(&page.table, lines, edit);
     if affected != Ok(first as u64) {
         return Err(format!("the first affected line is {affected:?}, and not {first}"));
     }
@@ -181,13 +181,13 @@ fn hold(page: &mut Page, change: Change, found: &mut Found) -> Result<(), String
     // A refusal writes nothing: a part of a wrong length, and a table without room for the last line.
     let before = page.table.clone();
     let short = if part.is_empty() { b"a" } else { &part[1..] };
-    let answer = bisquemop::lay_again(&page.settings, short, &mut page.table, lines, edit);
+    let answer = sys::lay_again(&page.settings, short, &mut page.table, lines, edit);
     if answer != Err(refused(short, first as u64, &old[first])) || page.table != before {
         return Err(format!("a part of a wrong length is answered {answer:?}"));
     }
     if expected.len() > old.len() {
         let room = LINE_NUMBERS * (expected.len() - 1);
-        let answer = bisquemop::lay_again(&page.settings, part, &mut page.table[..room], lines, edit);
+        let answer = sys::lay_again(&page.settings, part, &mut page.table[..room], lines, edit);
         if answer != Err(Refusal::TooSmall(expected.len() as u64)) || page.table != before {
             return Err(format!("too small a table is answered {answer:?}"));
         }
@@ -195,8 +195,8 @@ fn hold(page: &mut Page, change: Change, found: &mut Found) -> Result<(), String
     }
 
     let laid = laid_until(&old, &expected, first, edit);
-    let answer = bisquemop::lay_again(&page.settings, part, &mut page.table, lines, edit);
-    if answer != Ok(Again { lines: fresh.lines, laid }) {
+    let answer = sys::lay_again(&page.settings, part, &mut page.table, lines, edit);
+    if answer != Ok((fresh.lines, laid)) {
         return Err(format!("laying again answers {answer:?}, and not {} lines, {laid} laid", fresh.lines));
     }
     let count = LINE_NUMBERS * expected.len();

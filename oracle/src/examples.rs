@@ -154,9 +154,7 @@ fn settings_of(value: &antt::Value) -> Settings {
         ("box", &[width]) => Settings { width, ..EXAMPLE },
         ("justifiedBox", &[width]) => Settings { width, alignment: 3, leading: 0, ..EXAMPLE },
         ("waitingBox", &[width]) => Settings { width, wrap: 1, ..EXAMPLE },
-        ("laidOut", &[glyph, width, alignment, leading, wrap]) => {
-            Settings { glyph, width, alignment, leading, wrap, ..EXAMPLE }
-        }
+        ("laidOut", &[glyph, width, alignment, leading, wrap]) => Settings { glyph, width, alignment, leading, wrap, ..EXAMPLE },
         (other, _) => panic!("settings {other} are not known"),
     }
 }

@@ -1,8 +1,8 @@
 //! Layout files by chance, whole and damaged, where the library is linked: what it writes and reads is held to a second writer and a
 //! second reader, which go by docs/LAYOUT-FILE.md.
 
-use crate::bisquemop::{self, Refusal};
 use crate::random;
+use bisquemop::{sys, Refusal};
 use shape::*;
 
 /// How many numbers a line has, and how many settings there are.
@@ -43,7 +43,19 @@ fn of_numbers(tag: u8, numbers: &[u32]) -> Vec<u8> {
 fn numbers_of(s: &Settings) -> Vec<u32> {
     let top = s.top as u32;
     vec![
-        s.glyph, s.width, s.tab, s.spacing, s.paragraph, s.base, s.height, top, s.alignment, s.vertical, s.leading, s.trailing, s.wrap,
+        s.glyph,
+        s.width,
+        s.tab,
+        s.spacing,
+        s.paragraph,
+        s.base,
+        s.height,
+        top,
+        s.alignment,
+        s.vertical,
+        s.leading,
+        s.trailing,
+        s.wrap,
     ]
 }
 
@@ -173,7 +185,7 @@ fn holds(buffer: &[u32], front: &[u32]) -> bool {
 fn hold_reader(file: &[u8], settings_room: usize, lines_room: usize) -> Result<(), String> {
     let (mut settings, mut table) = (vec![UNTOUCHED; settings_room], vec![UNTOUCHED; LINE * lines_room + 3]);
     let (wanted, handed) = read(file, settings_room, lines_room);
-    let got = bisquemop::read_file(file, &mut settings, &mut table);
+    let got = sys::read_file(file, &mut settings, &mut table);
     let numbers = wanted.as_ref().map(|layout| (layout.lines.len() as u64, u64::from(layout.bytes))).map_err(|&r| r);
     let rows = wanted.map(|layout| layout.lines.concat()).unwrap_or_default();
     if got != numbers {
@@ -208,11 +220,11 @@ fn one(chance: &mut random::Chance, found: &mut [u64; 2]) -> Result<(), String> 
     settings.trailing = 0;
     random::text_upto(chance, 24, &mut text);
     let mut table = vec![UNTOUCHED; LINE * (text.len() + 1)];
-    let lines = bisquemop::layout(&settings, text.as_bytes(), &mut table).expect("a good text, good settings and room");
+    let lines = sys::layout(&settings, text.as_bytes(), &mut table).expect("a good text, good settings and room");
     let rows: Vec<&[u32]> = table.chunks_exact(LINE).take(lines as usize).collect();
     let mut file = write(&numbers_of(&settings), text.len() as u32, &rows);
     let mut bytes = vec![0xA5; file.len() + chance.below(3) as usize];
-    let written = bisquemop::write_file(&settings, &table, lines, &mut bytes);
+    let written = sys::write_file(&settings, &table, lines, &mut bytes);
     if written != Ok(file.len() as u64) || !bytes.starts_with(&file) || bytes[file.len()..].iter().any(|&b| b != 0xA5) {
         return Err(format!("the library wrote another file: {written:?}"));
     }
@@ -239,6 +251,9 @@ pub fn run(count: u64, seed: u64) -> bool {
             return false;
         }
     }
-    println!("layout files: {count} written and read by the library and by a second writer and reader, the same: {} good, {} refused", found[0], found[1]);
+    println!(
+        "layout files: {count} written and read by the library and by a second writer and reader, the same: {} good, {} refused",
+        found[0], found[1]
+    );
     true
 }

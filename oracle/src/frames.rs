@@ -1,10 +1,10 @@
 //! Lines laid one by one, where the library is linked: to the text's end they are those of the whole layout, and from any start and
 //! rest, which no layout need have, they are the rules'.
 
-use crate::bisquemop::{self, Refusal};
 use crate::runs::Progress;
 use crate::tally::Tally;
 use crate::{model, random, show};
+use bisquemop::{sys, Refusal};
 use shape::*;
 
 type Entry = [u32; LINE_NUMBERS];
@@ -27,14 +27,14 @@ struct Found {
 /// Holds all lines of a text, laid one by one, to the whole: after k calls the first k entries are there. Says what is wrong, if
 /// anything is.
 fn hold_lines(settings: &Settings, text: &str, whole: &[Entry], found: &mut Found) -> Result<(), String> {
-    let opened = bisquemop::open(settings, text.as_bytes());
+    let opened = sys::open(settings, text.as_bytes());
     if opened != Ok(0) {
         return Err(format!("the opening answers {opened:?}"));
     }
     let mut stand = Stand::default();
     for (k, expected) in whole.iter().enumerate() {
         let mut entry = [UNTOUCHED; LINE_NUMBERS];
-        let answer = bisquemop::one_line(settings, text.as_bytes(), stand, &mut entry);
+        let answer = sys::one_line(settings, text.as_bytes(), stand, &mut entry);
         let next = match whole.get(k + 1) {
             Some(line) => Stand { start: line[0], rest_end: line[1], rest_count: line[2] },
             None => Stand { start: text.len() as u32, ..Stand::default() },
@@ -89,7 +89,7 @@ fn stand(chance: &mut random::Chance, text: &str) -> Stand {
 /// Holds the line from one start and rest to the rules: what is laid, or that it is refused and nothing written.
 fn hold_start(settings: &Settings, text: &str, from: Stand, whole: &[Entry], found: &mut Found) -> Result<(), String> {
     let mut entry = [UNTOUCHED; LINE_NUMBERS + 2];
-    let answer = bisquemop::one_line(settings, text.as_bytes(), from, &mut entry);
+    let answer = sys::one_line(settings, text.as_bytes(), from, &mut entry);
     if !is_good(text, from) {
         found.refused += 1;
         let refused = answer == Err(Refusal::BadLine(0)) && entry == [UNTOUCHED; LINE_NUMBERS + 2];

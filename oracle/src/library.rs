@@ -1,9 +1,9 @@
 //! The library, where it is linked (`--cfg library`): its answers in the shapes of the other sides, and held to them.
 
-use crate::bisquemop::{self, Refusal};
 use crate::compare::{difference, Sides};
 use crate::tally::Tally;
 use crate::{model, show};
+use bisquemop::{sys, Refusal};
 use shape::*;
 
 /// What a buffer holds before a call, so that what a call leaves alone can be seen.
@@ -37,7 +37,7 @@ fn rows(buffer: &[u32], rows: u64, numbers: usize) -> std::slice::ChunksExact<'_
 
 impl Library {
     pub fn tokens(&mut self, text: &str, found: &mut Vec<Token>) -> Result<(), Refusal> {
-        let count = bisquemop::tokens(text.as_bytes(), fresh(&mut self.table, 4 * text.len()))?;
+        let count = sys::tokens(text.as_bytes(), fresh(&mut self.table, 4 * text.len()))?;
         found.clear();
         found.extend(rows(&self.table, count, 4).map(|n| Token { kind: n[0], start: n[1], end: n[2], count: n[3] }));
         Ok(())
@@ -49,7 +49,7 @@ impl Library {
         // A line takes a byte, but the last; and a text has no more events than bytes.
         let table = fresh(&mut self.table, LINE_NUMBERS * (text.len() + 1));
         let events = fresh(&mut self.events, 6 * text.len());
-        let (lines, event_count) = bisquemop::layout_events(settings, text.as_bytes(), table, events)?;
+        let (lines, event_count) = sys::layout_events(settings, text.as_bytes(), table, events)?;
         self.lines = lines;
         for n in rows(&self.table, lines, LINE_NUMBERS) {
             laid.lines.push(Line {
@@ -72,19 +72,19 @@ impl Library {
 
     /// Whether the call without events writes the table of the last layout.
     pub fn lays_the_same(&mut self, settings: &Settings, text: &str) -> bool {
-        let answer = bisquemop::layout(settings, text.as_bytes(), fresh(&mut self.again, LINE_NUMBERS * (text.len() + 1)));
+        let answer = sys::layout(settings, text.as_bytes(), fresh(&mut self.again, LINE_NUMBERS * (text.len() + 1)));
         answer == Ok(self.lines) && self.again == self.table
     }
 
     /// The height of the last layout.
     pub fn height(&self, settings: &Settings) -> Result<u64, Refusal> {
-        bisquemop::height(settings, &self.table, self.lines)
+        sys::height(settings, &self.table, self.lines)
     }
 
     /// Each line's y in the last layout, and whether it shows.
     pub fn places(&self, settings: &Settings) -> Result<Vec<(i32, bool)>, Refusal> {
         let mut places = Vec::new();
-        while let Some(place) = bisquemop::line_y(settings, &self.table, self.lines, places.len() as u64)? {
+        while let Some(place) = sys::line_y(settings, &self.table, self.lines, places.len() as u64)? {
             places.push((place.y, place.shows));
         }
         Ok(places)
@@ -93,13 +93,13 @@ impl Library {
     /// The index of the last layout.
     pub fn index(&self, settings: &Settings) -> Result<Vec<i32>, Refusal> {
         let mut ys = vec![0; self.lines as usize];
-        bisquemop::index(settings, &self.table, self.lines, &mut ys)?;
+        sys::index(settings, &self.table, self.lines, &mut ys)?;
         Ok(ys)
     }
 
     /// The line of the last layout under a y.
     pub fn line_under(&self, ys: &[i32], y: i32) -> Result<Option<u64>, Refusal> {
-        bisquemop::find_line(&self.table, self.lines, ys, y)
+        sys::find_line(&self.table, self.lines, ys, y)
     }
 }
 

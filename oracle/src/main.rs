@@ -6,8 +6,6 @@ mod antt;
 #[cfg(library)]
 mod bench;
 #[cfg(library)]
-mod bisquemop;
-#[cfg(library)]
 mod calls;
 #[cfg(library)]
 mod columns;

@@ -1,9 +1,9 @@
 //! Pages, and the choice between a long text and a short one, where the library is linked: both are those that the rules' lines give.
 
-use crate::bisquemop::{self, Chosen, Refusal};
 use crate::runs::Progress;
 use crate::tally::Tally;
 use crate::{model, random, show};
+use bisquemop::{sys, Refusal, Which};
 use shape::*;
 
 /// What a buffer holds before a call.
@@ -58,18 +58,18 @@ fn hold_pages(settings: &Settings, page: &Page, h: u32, first: u64, found: &mut 
     let (count, expected) = (list.len() as u64, list.concat());
     let (mut table, mut pages) = (vec![UNTOUCHED; lines.len()], vec![UNTOUCHED; expected.len()]);
     let room = pages.len() - 1;
-    let answer = bisquemop::pages(settings, page.text.as_bytes(), h, &mut table, &mut pages[..room]);
+    let answer = sys::pages(settings, page.text.as_bytes(), h, &mut table, &mut pages[..room]);
     if answer != Err(Refusal::TooSmall(count)) || table.iter().chain(&pages).any(|&number| number != UNTOUCHED) {
         return Err(format!("by {h} lines and in too little room the answer is {answer:?}, {pages:?}"));
     }
-    let answer = bisquemop::pages(settings, page.text.as_bytes(), h, &mut table, &mut pages);
+    let answer = sys::pages(settings, page.text.as_bytes(), h, &mut table, &mut pages);
     if answer != Ok((page.rules.lines.len() as u64, count)) || table != lines || pages != expected {
         return Err(format!("by {h} lines the pages are {answer:?} {pages:?}, and not {expected:?}"));
     }
     let line_count = page.rules.lines.len() as u64;
     let kept = if first < line_count { first / u64::from(h) } else { count } as usize;
     pages.fill(UNTOUCHED);
-    let answer = bisquemop::pages_again(&table, line_count, h, first, &mut pages);
+    let answer = sys::pages_again(&table, line_count, h, first, &mut pages);
     let (before, written) = pages.split_at(PAGE_NUMBERS * kept);
     if answer != Ok(count) || before.iter().any(|&number| number != UNTOUCHED) || written != &expected[before.len()..] {
         return Err(format!("by {h} lines and from line {first} on the pages are {answer:?} {pages:?}, and not {expected:?}"));
@@ -84,12 +84,11 @@ fn hold_choice(settings: &Settings, long: &Page, short: &Page, h: u32, found: &m
     let fits = long.rules.lines.len() <= h as usize;
     let part = model::taken(&short.starts(), &short.text, h);
     let expected = if fits {
-        Chosen { short: false, bytes: long.text.len() as u64, left_out: 0 }
+        (Which::Long, long.text.len() as u64, 0)
     } else {
-        let left_out = short.text[part.len()..].chars().count() as u64;
-        Chosen { short: true, bytes: part.len() as u64, left_out }
+        (Which::Short, part.len() as u64, short.text[part.len()..].chars().count() as u64)
     };
-    let answer = bisquemop::choose(settings, long.text.as_bytes(), short.text.as_bytes(), h);
+    let answer = sys::choose(settings, long.text.as_bytes(), short.text.as_bytes(), h);
     if answer != Ok(expected) {
         return Err(format!(
             "for {h} lines, or else of {}, the choice is {answer:?}, and not {expected:?}",
