@@ -62,6 +62,9 @@ pub struct Sides {
     pub measure: Vec<Event>,
     crate_tokens: Vec<Token>,
     pub model_tokens: Vec<Token>,
+    /// What the crate's whole text box drew last, and the height that it took the text for.
+    pub drawn: Vec<Drawn>,
+    pub drawn_height: u32,
     #[cfg(library)]
     pub library: library::Library,
 }
@@ -162,6 +165,8 @@ impl Sides {
         }
         if deep {
             self.whole(settings, text, tally);
+            #[cfg(library)]
+            self.text_box(settings, text, tally);
         }
     }
 

@@ -31,6 +31,8 @@ mod record;
 mod runs;
 mod show;
 mod tally;
+#[cfg(library)]
+mod text_boxes;
 mod waits;
 mod whole;
 

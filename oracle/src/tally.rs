@@ -60,6 +60,8 @@ pub struct Tally {
     pub library_crate: u64,
     /// Layouts of the library whose height and y were held to the rules.
     pub library_places: u64,
+    /// Text boxes in the names of embedded-text that were held to the crate's.
+    pub text_boxes: u64,
     /// Layouts that were lent to the crate without the guard, to see that it stops where it is said to.
     pub unguarded: u64,
     /// By alignment and end type, lines; by kind of event, events. All in the domain.
@@ -121,6 +123,7 @@ impl Tally {
                 self.library_crate
             );
             println!("  with height and y          {}", self.library_places);
+            println!("the package's text boxes     {} held to the crate's", self.text_boxes);
         } else {
             println!("the library is not linked: the crate was held to the rules alone");
         }

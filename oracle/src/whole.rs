@@ -10,7 +10,8 @@ use embedded_text_checked::plugin::probe as checked;
 impl Sides {
     /// The crate's whole text box must draw what the line by line run gave, and its height is held to rule 11.
     pub fn whole(&mut self, settings: &Settings, text: &str, tally: &mut Tally) {
-        let (drawn, height) = checked::draw(settings, text);
+        (self.drawn, self.drawn_height) = checked::draw(settings, text);
+        let (drawn, height) = (&self.drawn, self.drawn_height);
         tally.drawn += 1;
         let ys = model::places(settings, height, &self.krate.lines);
         let mut expected = Vec::new();

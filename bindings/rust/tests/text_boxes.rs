@@ -92,3 +92,9 @@ fn a_height_is_told_and_bad_boxes_are_refused() {
     let small = TextBox::new("a b", bounds(6, 50), FONT).draw(&mut screen, &mut table, &mut []);
     assert!(matches!(small, Err(Refusal::TooSmall(_))));
 }
+
+#[test]
+fn a_box_that_is_too_low_leaves_all() {
+    let (runs, done) = drawn(&TextBox::new("a\nb", bounds(18, 9), FONT));
+    assert_eq!((runs.len(), done.residual), (0, "a\nb"));
+}
