@@ -254,50 +254,68 @@ fn indexes(claims: &mut Claims) {
     claims.equal("find_line in an index that falls", found(&[-5, 8, 7], 8), Err(Refusal::BadIndex(2)));
 }
 
+/// A long text or a short one.
 fn choices(claims: &mut Claims) {
     let chosen = |long: &str, short: &str, h| sys::choose(&EXAMPLE, long.as_bytes(), short.as_bytes(), h);
     claims.equal("choose at exactly its lines", chosen("ab cde", "x", 2), Ok((Which::Long, 6, 0)));
-    claims.equal("choose in a line too few", chosen("ab cde", "x", 1), Ok((Which::Short, 1, 0)));
+    claims.equal("choose in a line too few", chosen("ab cde", "ab cd", 1), Ok((Which::Short, 5, 0)));
     claims.equal("choose a part", chosen("ab cde", "é bcdé", 1), Ok((Which::Short, 3, 4)));
-    claims.equal("choose in no line", chosen("", "", 0), Err(Refusal::SettingOutOfRange));
+    let bad = Settings { alignment: 4, ..EXAMPLE };
+    claims.equal("choose in no line", sys::choose(&bad, b"\xff", b"", 0), Err(Refusal::SettingOutOfRange));
     for (settings, text, refusal) in refused() {
         claims.equal("choose of a long text", sys::choose(&settings, &text, b"", 9), Err(refusal));
         claims.equal("choose of a short text", sys::choose(&settings, b"", &text, 9), Err(refusal));
     }
 }
 
+/// Pages of a text, listed and listed again.
 fn lists(claims: &mut Claims) {
-    let listed = |h, room| {
-        let (mut table, mut pages) = (vec![UNTOUCHED; 3 * LINE_NUMBERS], vec![7; room]);
-        let answer = sys::pages(&EXAMPLE, b"aa\nbb\ncc", h, &mut table, &mut pages);
+    // Three lines, two pages: 33 numbers and 6.
+    let listed = |settings: &Settings, text: &[u8], h, table, room| {
+        let mut pages = vec![UNTOUCHED; room];
+        let answer = lent(table, |table| sys::pages(settings, text, h, table, &mut pages));
         (answer, pages)
     };
-    claims.equal("pages", listed(2, 7), (Ok((3, 2)), vec![0, 0, 6, 2, 6, 8, 7]));
-    claims.equal("pages in too little room", listed(2, 5), (Err(Refusal::TooSmall(2)), vec![7; 5]));
-    claims.equal("pages of no line", listed(0, 6), (Err(Refusal::SettingOutOfRange), vec![7; 6]));
+    let text = b"aa\nbb\ncc";
+    claims.equal("pages", listed(&EXAMPLE, text, 2, 33, 7), ((Ok((3, 2)), false), vec![0, 0, 6, 2, 6, 8, UNTOUCHED]));
+    let refused_with = |refusal, room| ((Err(refusal), true), vec![UNTOUCHED; room]);
+    claims.equal("pages in too small a table", listed(&EXAMPLE, text, 2, 32, 5), refused_with(Refusal::TooSmall(3), 5));
+    claims.equal("pages in too small a list", listed(&EXAMPLE, text, 2, 33, 5), refused_with(Refusal::TooSmall(2), 5));
+    let bad = Settings { alignment: 4, ..EXAMPLE };
+    claims.equal("pages of no line", listed(&bad, b"\xff", 0, 33, 6), refused_with(Refusal::SettingOutOfRange, 6));
+    for (settings, text, refusal) in refused() {
+        claims.equal("pages", listed(&settings, &text, 2, 400, 99), refused_with(refusal, 99));
+    }
+
     let (table, lines) = table_of(&EXAMPLE, "aa\nbb\ncc");
     let again = |lines, h, first, room| {
-        let mut pages = vec![7; room];
+        let mut pages = vec![UNTOUCHED; room];
         (sys::pages_again(&table, lines, h, first, &mut pages), pages)
     };
-    claims.equal("pages_again", again(lines, 2, 2, 6), (Ok(2), vec![7, 7, 7, 2, 6, 8]));
-    claims.equal("pages_again past the last line", again(lines, 2, 3, 6), (Ok(2), vec![7; 6]));
-    claims.equal("pages_again in too little room", again(lines, 1, 0, 8), (Err(Refusal::TooSmall(3)), vec![7; 8]));
-    claims.equal("pages_again of no table", again(0, 1, 0, 9), (Err(Refusal::BadLine(0)), vec![7; 9]));
-    claims.equal("pages_again of no line", again(0, 0, 0, 9), (Err(Refusal::SettingOutOfRange), vec![7; 9]));
+    claims.equal("pages_again from the first line on", again(lines, 2, 0, 7), (Ok(2), vec![0, 0, 6, 2, 6, 8, UNTOUCHED]));
+    claims.equal("pages_again", again(lines, 2, 2, 6), (Ok(2), vec![UNTOUCHED, UNTOUCHED, UNTOUCHED, 2, 6, 8]));
+    claims.equal("pages_again past the last line", again(lines, 2, 3, 6), (Ok(2), vec![UNTOUCHED; 6]));
+    claims.equal("pages_again in too small a list", again(lines, 1, 0, 8), (Err(Refusal::TooSmall(3)), vec![UNTOUCHED; 8]));
+    claims.equal("pages_again of no table", again(0, 1, 0, 9), (Err(Refusal::BadLine(0)), vec![UNTOUCHED; 9]));
+    claims.equal("pages_again of a bad table", again(2, 2, 0, 1), (Err(Refusal::BadLine(1)), vec![UNTOUCHED; 1]));
+    claims.equal("pages_again of no line", again(0, 0, 0, 9), (Err(Refusal::SettingOutOfRange), vec![UNTOUCHED; 9]));
 }
 
+/// A width that is checked, and one that is proposed.
 fn columns(claims: &mut Claims) {
     let fit = |width, text: &str, h| sys::columns_fit(&Settings { width, ..EXAMPLE }, text.as_bytes(), h);
     let plan = |text: &str, h| sys::columns_plan(&EXAMPLE, text.as_bytes(), h);
     claims.equal("columns_fit", fit(18, "ab cde", 2), Ok(true));
     claims.equal("columns_fit in a line too few", fit(18, "ab cde", 1), Ok(false));
     claims.equal("columns_fit with a word dropped", fit(30, "     ab", 2), Ok(false));
-    claims.equal("columns_fit in no line", fit(30, "", 0), Err(Refusal::SettingOutOfRange));
+    claims.equal("columns_fit narrower than a glyph", fit(5, "a", 9), Ok(false));
     claims.equal("columns_plan", plan("ab cde", 2), Ok(Some(18)));
+    claims.equal("columns_plan for one line", plan("ab cde", 1), Ok(Some(36)));
     claims.equal("columns_plan of nothing", plan("", 1), Ok(Some(0)));
     claims.equal("columns_plan where there is none", plan("a\nb", 1), Ok(None));
-    claims.equal("columns_plan in no line", plan("a", 0), Err(Refusal::SettingOutOfRange));
+    let bad = Settings { alignment: 4, ..EXAMPLE };
+    claims.equal("columns_fit in no line", sys::columns_fit(&bad, b"\xff", 0), Err(Refusal::SettingOutOfRange));
+    claims.equal("columns_plan in no line", sys::columns_plan(&bad, b"\xff", 0), Err(Refusal::SettingOutOfRange));
     for (settings, text, refusal) in refused() {
         claims.equal("columns_fit", sys::columns_fit(&settings, &text, 9), Err(refusal));
         claims.equal("columns_plan", sys::columns_plan(&settings, &text, 9), Err(refusal));
