@@ -5,18 +5,15 @@ use clues::feeds::find_feed;
 use clues::stream::Ended;
 use clues::stream::add_clue;
 use clues::stream::count_ended;
+use console::front::to_front;
 use meaning::refusals::Checked;
 use meaning::refusals::Refusal;
 use meaning::settings::Settings;
-ghost use Prim.Native.Nat.{_+_, _-_, _≤_, _<_};
-ghost use mathlib.Core.Path.{_≡_};
-ghost use lib.ListN.{length, drop, take};
-ghost use lib.Seq.{paste};
+ghost use Prim.Native.Nat.{_≤_, _<_};
+ghost use lib.ListN.{length};
 ghost use Rattle.meaning.specs.Checks.{textLimit};
 ghost use Rattle.meaning.specs.Month.{mostClues};
-ghost use Rattle.clues.specs.Sums.{sumsOf};
-ghost use Rattle.clues.specs.Gathering.{withClue};
-ghost use Rattle.clues.specs.Counting.{Counts, Passed};
+ghost use Rattle.clues.specs.Counting.{Counts};
 ghost use Rattle.month.specs.Blocks.{Kept, Stepped, LongAdded, LongEnded, LastCounted};
 ghost use Rattle.month.specs.Going.{WentFrom, WentOn};
 
@@ -25,22 +22,6 @@ pub struct Step {
     pub clues: u64,
     pub held: usize,
     pub long: bool,
-}
-
-// Moves the bytes from `at` up to `end` to the front, and answers how many they are.
-fn to_front(buffer: &mut [u8], at: usize, end: usize) -> usize
-    requires { ⌜ at ≤ end ⌝ }
-    requires { ⌜ end ≤ length (now buffer) ⌝ }
-    ensures { λ r. ⌜ r ≡ end - at ⌝ }
-    ensures { λ r. ⌜ now (buffer .exit) ≡ paste (now (buffer .entry)) 0 (drop at (now (buffer .entry))) (end - at) ⌝ }
-{
-    let n = end - at;
-    let mut i: usize = 0;
-    while i < n {
-        buffer[i] = buffer[at + i];
-        i += 1;
-    }
-    n
 }
 
 // What is left of a block is held, or is too long where it is all of the buffer.

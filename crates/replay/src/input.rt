@@ -1,9 +1,9 @@
 // Standard input, line by line, through one buffer.
+use console::front::to_front;
 use libc::STDIN_FILENO;
-ghost use Prim.Native.Nat.{_-_, _≤_, _<_};
+ghost use Prim.Native.Nat.{_≤_, _<_};
 ghost use mathlib.Core.Path.{_≡_};
 ghost use lib.ListN.{length, take, drop};
-ghost use lib.Seq.{paste};
 ghost use Rattle.replay.specs.Lines.{lineEnd, Came, Within};
 
 // What was read and not yet taken: the buffer's bytes from `at` up to `end`.
@@ -47,22 +47,6 @@ fn find(s: &[u8], from: usize, end: usize) -> usize
         i += 1;
     }
     i
-}
-
-// Moves the bytes from `at` up to `end` to the front, and answers how many they are.
-fn to_front(buffer: &mut [u8], at: usize, end: usize) -> usize
-    requires { ⌜ at ≤ end ⌝ }
-    requires { ⌜ end ≤ length (now buffer) ⌝ }
-    ensures { λ r. ⌜ r ≡ end - at ⌝ }
-    ensures { λ r. ⌜ now (buffer .exit) ≡ paste (now (buffer .entry)) 0 (drop at (now (buffer .entry))) (end - at) ⌝ }
-{
-    let n = end - at;
-    let mut i: usize = 0;
-    while i < n {
-        buffer[i] = buffer[at + i];
-        i += 1;
-    }
-    n
 }
 
 // Reads once, into the buffer from a place on, and answers how many bytes came.

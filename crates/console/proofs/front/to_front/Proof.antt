@@ -1,4 +1,4 @@
--- `replay::input::to_front` meets its contract. The invariant: so many bytes are moved.
+-- `console::front::to_front` meets its contract. The invariant: so many bytes are moved.
 -- Assumes nothing.
 use Prim.Native.Nat.{ℕ, _-_, _≤_}
 use mathlib.Core.Path.{_≡_, refl, subst}
@@ -6,9 +6,9 @@ use native.Mathlib.Omega.{arith}
 use lib.ListN.{length, drop, length-set}
 use lib.Seq.{paste}
 use borrow.Author.Needs.{needs}
-use Rattle.replay.proofs.LineLaws.{moved-next}
-use Rattle.replay.proofs.input.to_front.Statement.{statement}
-use Rattle.replay.proofs.input.to_front.Tie as tie
+use Rattle.console.specs.Fronts.{moved-next}
+use Rattle.console.proofs.front.to_front.Statement.{statement}
+use Rattle.console.proofs.front.to_front.Tie as tie
 
 abbrev Inv-loop : tie.InvT-loop
 Inv-loop buffer₀ at end n i₀ buffer i = (buffer ≡ paste buffer₀ 0 (drop at buffer₀) i) × (length buffer ≡ length buffer₀) × (i ≤ n)
