@@ -1,15 +1,15 @@
--- Bytes that begin a character of a word, whatever follows: a text has as many such characters at least. Told by the first byte alone,
--- so those are left out whose sequence may be white space, U+00AD or U+200B (rule 2, Table 3-6).
+-- Bytes that begin a character of a word, whatever follows: a text's bytes, told so, fill lines no further than its characters do. Told by
+-- the first byte alone, so those are left out whose sequence may be white space, U+00AD or U+200B (rule 2, Table 3-6).
 -- Assumes nothing.
 use Prim.Native.Nat.{ℕ, _+_, _/_, _%_, _≤_, _<_}
-use mathlib.Core.Path.{_≡_, refl, sym, subst}
+use mathlib.Core.Path.{_≡_, refl, sym, ap, subst, _∙_}
 use mathlib.Core.Bool.{Bool, true, false, _&&_, false≢true}
 use mathlib.Core.List.{List, [], _∷_}
 use native.Mathlib.Nat.{mod-lt}
 use native.Mathlib.Omega.{arith}
 use borrow.Author.Tests.{lt-ltb, le-ltb, ne-eqb, ltb-true, ltb-false, leb-true}
 use lib.Dec.{ltb, leb}
-use Rattle.basis.specs.Choice.{pick, pick-cases, by-test}
+use Rattle.basis.specs.Choice.{pick, pick-cases, pick-same, by-test}
 use Rattle.basis.specs.Order.{by-lt}
 use Rattle.basis.specs.Tables.{agree-below}
 use Rattle.unicode.specs.Encoding.{trail, encode, encodeAll}
@@ -20,7 +20,8 @@ use Rattle.meaning.specs.Characters.{glue, classOf, inWord}
 use Rattle.meaning.specs.Checks.{checkUtf8}
 use Rattle.meaning.specs.declared.refusals.Checked.the-variants.{Good}
 use Rattle.laws.specs.PartChars.{encoded}
-use Rattle.columns.specs.Letters.{howMany, letters, many-append}
+use Rattle.columns.specs.Filling.{breaks, other-than, others-break, emptyLine, fillWord, fillBlank, fillBy, fillAll, fill-append, Under, under-self, under-then, under-word, step-under}
+use Rattle.columns.specs.declared.filling.Fill.{Fill}
 
 -- U+0021 to U+007F, the sequences of U+00C0 to U+0FFF, and those from U+4000 on.
 unfoldable pub leads : ℕ → Bool
@@ -40,10 +41,19 @@ high-letter c high not-it white =
       white,
     )
 
--- Below U+0080 the byte is the character.
+-- Below U+0080 the byte is the character, and is of a word if it begins one.
 low-letter : (c : ℕ) → c < 0x80 → leads c ≡ leads c && inWord c
 unfolding leads inWord classOf pick isWhite member whiteSpaces glue
 low-letter = agree-below leads (λ c. leads c && inWord c) 0x80 tt
+
+no-leads : (c : ℕ) → c < 0x80 → inWord c ≡ false → leads c ≡ false
+no-leads c h e =
+    by-test (leads c)
+    (λ d.
+    let same = low-letter c h in
+    let found = rw (d, e) at same in
+    absurd (false≢true (sym found)))
+    (λ d. d)
 
 -- The bytes after the first begin none.
 trail-leads : (x : ℕ) → leads (trail x) ≡ false
@@ -63,62 +73,115 @@ leads-says b high =
     pick-cases P (ltb b 0xE1) (λ r e. (omega (arith, ltb-false b 0xC3 q), λ x. absurd (omega (arith, ltb-true b 0xE1 r))))
     (λ r e. (omega (arith, leb-true 0xE4 b e), λ _. leb-true 0xE4 b e))
 
--- A sequence counts once at most, by its first byte.
-abbrev Once : (lead : ℕ) → (rest : List ℕ) → (c : ℕ) → Type 0
-Once b rest c = howMany leads (b ∷ rest) ≤ letters (c ∷ [])
+-- ---- what it fills
 
-once : (b : ℕ) (rest : List ℕ) (c : ℕ) → howMany leads rest ≡ 0 → (leads b ≡ true → inWord c ≡ true) → Once b rest c
-unfolding howMany pick
-once b rest c none f = by-test (leads b) (λ e. rw (e, f e, none) (omega arith)) (λ e. rw (e, none) (omega arith))
+module _ (g t w : ℕ) where
+  -- Any other does nothing unless it is of a word.
+  others-fill : (f : ℕ → Bool) (x : Fill) (c : ℕ) → (breaks c ≡ false) → (c ≡ 0x0020 → ⊥) → (c ≡ 0x0009 → ⊥)
+      → fillBy f g t w x c ≡ pick (f c) (fillWord g w x) x
+  unfolding fillBy fillBlank pick
+  others-fill f x c b d e = rw (b, ne-eqb c 0x0020 d, ne-eqb c 0x0009 e) (ap (λ (z : Fill). pick (f c) (fillWord g w x) z) (pick-same (x .begun) x))
 
-no-more : howMany leads [] ≡ 0
-unfolding howMany
-no-more = refl
+  high-fill : (f : ℕ → Bool) (x : Fill) (c : ℕ) → 0x80 ≤ c → fillBy f g t w x c ≡ pick (f c) (fillWord g w x) x
+  unfolding breaks pick
+  high-fill f x c h =
+      others-fill f x c (rw (ne-eqb c 0x000A (λ e. omega arith), ne-eqb c 0x000D (λ e. omega arith)) refl) (λ e. omega arith) (λ e. omega arith)
 
-trail-more : (x : ℕ) (rest : List ℕ) → howMany leads rest ≡ 0 → howMany leads (trail x ∷ rest) ≡ 0
-unfolding howMany pick
-trail-more x rest e = rw (trail-leads x) e
+  -- Where a test tells of fewer characters, lines are filled no further.
+  fewer-fill : (a b : Bool) (x : Fill) → (a ≡ true → b ≡ true) → Under w (pick a (fillWord g w x) x) (pick b (fillWord g w x) x)
+  unfolding pick
+  fewer-fill true b x f = subst (λ (z : Bool). Under w (fillWord g w x) (pick z (fillWord g w x) x)) (sym (f refl)) (under-self w _)
+  fewer-fill false true x f = under-word w g x
+  fewer-fill false false x f = under-self w x
 
-one-byte : (c : ℕ) → c < 0x80 → Once c [] c
-one-byte c h = once c [] c no-more (λ e. let same = low-letter c h in let found = rw e at same in sym found)
+  -- Two tests that tell the same of a character.
+  same-fill : (c : ℕ) → leads c ≡ inWord c → (x : Fill) → fillBy leads g t w x c ≡ fillBy inWord g t w x c
+  unfolding fillBy
+  same-fill c e x =
+      ap (λ (b : Bool). pick b (fillWord g w x) (pick (breaks c) (emptyLine (x .lines + 1)) (pick (x .begun) (fillBlank g t w x c) x))) e
 
-two-bytes : (c : ℕ) → c < 0x800 → Once (0xC0 + c / 64) (trail c ∷ []) c
-two-bytes c below =
-    once (0xC0 + c / 64) _ c (trail-more c [] no-more)
-    (λ e.
-    let f = leads-says (0xC0 + c / 64) (omega arith) e in
-    high-letter c (omega (arith, f .0)) (λ is. omega arith) (between-spaces c (omega (arith, f .0)) (omega arith)))
+  -- What a sequence fills, and its character.
+  abbrev Once : (bytes : List ℕ) → (c : ℕ) → Type 0
+  Once bs c = (x : Fill) → Under w (fillAll leads g t w x bs) (fillBy inWord g t w x c)
 
-three-bytes : (c : ℕ) → 0x800 ≤ c → c < 0x10000 → Once (0xE0 + c / 4096) (trail (c / 64) ∷ trail c ∷ []) c
-three-bytes c from below =
-    once (0xE0 + c / 4096) _ c (trail-more (c / 64) _ (trail-more c [] no-more))
-    (λ e.
-    let f = leads-says (0xE0 + c / 4096) (omega arith) e in
-    by-lt c 0x1000 (λ low. high-letter c (omega arith) (λ is. omega arith) (between-spaces c (omega arith) (omega arith)))
-    (λ high.
-    let far : 0xE4 ≤ 0xE0 + c / 4096 = f .1 (omega arith) in
-    high-letter c (omega arith) (λ is. omega arith) (above-all c (omega arith))))
+  -- Below U+0080: as the byte, or no further.
+  one-byte : (c : ℕ) → c < 0x80 → Once (c ∷ []) c
+  unfolding fillAll fillBy inWord classOf isWhite member whiteSpaces glue pick
+  one-byte c h x =
+      by-test (inWord c)
+      (λ e.
+      let free = others-break inWord refl refl c e in
+      let space = other-than inWord c 0x0020 e refl in
+      let tab = other-than inWord c 0x0009 e refl in
+      subst (λ (z : Fill). Under w z (fillBy inWord g t w x c)) (sym (others-fill leads x c free space tab))
+      (subst (Under w (pick (leads c) (fillWord g w x) x)) (sym (others-fill inWord x c free space tab)) (fewer-fill (leads c) (inWord c) x (λ _. e))))
+      (λ e. subst (Under w (fillBy leads g t w x c)) (same-fill c (no-leads c h e ∙ sym e) x) (under-self w _))
 
-four-bytes : (c : ℕ) → 0x10000 ≤ c → Once (0xF0 + c / 262144) (trail (c / 4096) ∷ trail (c / 64) ∷ trail c ∷ []) c
-four-bytes c from =
-    once (0xF0 + c / 262144) _ c (trail-more (c / 4096) _ (trail-more (c / 64) _ (trail-more c [] no-more)))
-    (λ _. high-letter c (omega arith) (λ is. omega arith) (above-all c (omega arith)))
+  -- The bytes after the first fill nothing.
+  trail-fill : (y : ℕ) (x : Fill) → fillBy leads g t w x (trail y) ≡ x
+  unfolding pick
+  trail-fill y x = high-fill leads x (trail y) (omega arith) ∙ rw (trail-leads y) refl
 
-char-leads : (c : ℕ) → howMany leads (encode c) ≤ letters (c ∷ [])
-unfolding encode
-char-leads c =
-    let P : List ℕ → Type 0 = λ bs. howMany leads bs ≤ letters (c ∷ []) in
-    pick-cases P (ltb c 0x80) (λ e. one-byte c (ltb-true c 0x80 e)) λ _.
-    pick-cases P (ltb c 0x800) (λ e. two-bytes c (ltb-true c 0x800 e)) λ d.
-    pick-cases P (ltb c 0x10000) (λ e. three-bytes c (ltb-false c 0x800 d) (ltb-true c 0x10000 e)) (λ e. four-bytes c (ltb-false c 0x10000 e))
+  abbrev Still : List ℕ → Type 0
+  Still bs = (x : Fill) → fillAll leads g t w x bs ≡ x
 
--- ---- a text
+  no-more : Still []
+  unfolding fillAll
+  no-more x = refl
 
-encoded-leads : (cs : List ℕ) → howMany leads (encodeAll cs) ≤ letters cs
-unfolding encodeAll
-encoded-leads [] = rw no-more (omega arith)
-encoded-leads (c ∷ cs) =
-    omega (arith, many-append leads (encode c) (encodeAll cs), char-leads c, encoded-leads cs, many-append inWord (c ∷ []) cs)
+  trail-more : (y : ℕ) (rest : List ℕ) → Still rest → Still (trail y ∷ rest)
+  unfolding fillAll
+  trail-more y rest still x = ap (λ (z : Fill). fillAll leads g t w z rest) (trail-fill y x) ∙ still x
 
-pub leads-few : (t : List ℕ) → checkUtf8 t ≡ Good → howMany leads t ≤ letters (decodeAll t)
-leads-few t good = subst (λ (bs : List ℕ). howMany leads bs ≤ letters (decodeAll t)) (encoded t good) (encoded-leads (decodeAll t))
+  -- A sequence fills by its first byte.
+  once : (b : ℕ) (rest : List ℕ) (c : ℕ) → 0x80 ≤ b → 0x80 ≤ c → Still rest → (leads b ≡ true → inWord c ≡ true) → Once (b ∷ rest) c
+  unfolding fillAll
+  once b rest c high far still f x =
+      subst (λ (z : Fill). Under w z (fillBy inWord g t w x c)) (sym (still (fillBy leads g t w x b) ∙ high-fill leads x b high))
+      (subst (Under w (pick (leads b) (fillWord g w x) x)) (sym (high-fill inWord x c far)) (fewer-fill (leads b) (inWord c) x f))
+
+  two-bytes : (c : ℕ) → 0x80 ≤ c → c < 0x800 → Once ((0xC0 + c / 64) ∷ trail c ∷ []) c
+  two-bytes c from below =
+      once (0xC0 + c / 64) _ c (omega arith) from (trail-more c [] no-more)
+      (λ e.
+      let f = leads-says (0xC0 + c / 64) (omega arith) e in
+      high-letter c (omega (arith, f .0)) (λ is. omega arith) (between-spaces c (omega (arith, f .0)) (omega arith)))
+
+  three-bytes : (c : ℕ) → 0x800 ≤ c → c < 0x10000 → Once ((0xE0 + c / 4096) ∷ trail (c / 64) ∷ trail c ∷ []) c
+  three-bytes c from below =
+      once (0xE0 + c / 4096) _ c (omega arith) (omega arith) (trail-more (c / 64) _ (trail-more c [] no-more))
+      (λ e.
+      let f = leads-says (0xE0 + c / 4096) (omega arith) e in
+      by-lt c 0x1000 (λ low. high-letter c (omega arith) (λ is. omega arith) (between-spaces c (omega arith) (omega arith)))
+      (λ high.
+      let far : 0xE4 ≤ 0xE0 + c / 4096 = f .1 (omega arith) in
+      high-letter c (omega arith) (λ is. omega arith) (above-all c (omega arith))))
+
+  four-bytes : (c : ℕ) → 0x10000 ≤ c → Once ((0xF0 + c / 262144) ∷ trail (c / 4096) ∷ trail (c / 64) ∷ trail c ∷ []) c
+  four-bytes c from =
+      once (0xF0 + c / 262144) _ c (omega arith) (omega arith) (trail-more (c / 4096) _ (trail-more (c / 64) _ (trail-more c [] no-more)))
+      (λ _. high-letter c (omega arith) (λ is. omega arith) (above-all c (omega arith)))
+
+  char-fill : (c : ℕ) → Once (encode c) c
+  unfolding encode
+  char-fill c =
+      let P : List ℕ → Type 0 = λ bs. Once bs c in
+      pick-cases P (ltb c 0x80) (λ e. one-byte c (ltb-true c 0x80 e)) λ a.
+      pick-cases P (ltb c 0x800) (λ e. two-bytes c (ltb-false c 0x80 a) (ltb-true c 0x800 e)) λ d.
+      pick-cases P (ltb c 0x10000) (λ e. three-bytes c (ltb-false c 0x800 d) (ltb-true c 0x10000 e)) (λ e. four-bytes c (ltb-false c 0x10000 e))
+
+  -- ---- a text
+
+  module _ (some : 1 ≤ g) where
+    encoded-fill : (cs : List ℕ) (x y : Fill) → Under w x y → Under w (fillAll leads g t w x (encodeAll cs)) (fillAll inWord g t w y cs)
+    unfolding encodeAll fillAll
+    encoded-fill [] x y u = u
+    encoded-fill (c ∷ cs) x y u =
+        subst (λ (z : Fill). Under w z (fillAll inWord g t w (fillBy inWord g t w y c) cs)) (sym (fill-append leads g t w x (encode c) (encodeAll cs)))
+        (encoded-fill cs _ _ (under-then w _ _ _ (char-fill c x) (step-under g t some w w (omega arith) inWord c x y u)))
+
+    pub leads-fill : (bytes : List ℕ) → checkUtf8 bytes ≡ Good
+        → fillAll leads g t w (emptyLine 0) bytes .lines ≤ fillAll inWord g t w (emptyLine 0) (decodeAll bytes) .lines
+    leads-fill bytes good =
+        subst (λ (bs : List ℕ). fillAll leads g t w (emptyLine 0) bs .lines ≤ fillAll inWord g t w (emptyLine 0) (decodeAll bytes) .lines) (encoded bytes good)
+        (encoded-fill (decodeAll bytes) (emptyLine 0) (emptyLine 0) (under-self w (emptyLine 0)) .lines)

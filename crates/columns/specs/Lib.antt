@@ -4,10 +4,11 @@ pub mod OtherWidths
 pub mod Tabs
 pub mod Skipping
 pub mod WidthTurns
-pub mod Letters
-pub mod WordRoom
-pub mod LettersFit
+pub mod Filling
+pub mod TokenFilling
+pub mod StepFilling
+pub mod PassFilling
+pub mod LinesFilled
 pub mod LeadBytes
-pub mod HardBreaks
-pub mod BreakBytes
+pub mod FillTurns
 pub mod FirstWidth

@@ -19,7 +19,7 @@ ghost use Rattle.meaning.specs.Columns.{narrowest};
 ghost use Rattle.meaning.specs.ColumnCalls.{planningAnswer};
 ghost use Rattle.rows.specs.RowsFrom.{TextReady};
 
-// The smallest width of all. Those are passed over that have no room for its words, or lay the text as one does in which it did not fit.
+// The smallest width of all. Those are passed over in which it fills too many lines, or that lay it as one does in which it did not fit.
 fn narrowest_width(s: Settings, text: &[u8], h: u32) -> Planned
     requires { ⌜ TextReady s (now text) × (1 ≤ h) × (checkUtf8 (now text) ≡ Good) ⌝ }
     ensures { λ r. ⌜ r ≡ narrowest s h (decodeAll (now (text .entry))) ⌝ }

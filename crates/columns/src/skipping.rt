@@ -39,7 +39,7 @@ fn by_glyphs(s: Settings, text: &[u8]) -> bool
 }
 
 // So many glyphs side by side.
-pub fn glyphs_wide(s: Settings, n: usize) -> u32
+fn glyphs_wide(s: Settings, n: usize) -> u32
     requires { ⌜ (s .glyph .0 ≤ 64) × (n ≤ textLimit) ⌝ }
     ensures { λ r. ⌜ r ≡ n * s .glyph .0 ⌝ }
 {

@@ -1,105 +1,46 @@
-// The width that a search begins with: in a narrower one the words of a text have no room. Where LF and CR make too many lines it is past
-// all widths (rule 8, rule 10).
+// The width that a search begins with: in each narrower box the text fills too many lines (rule 8, rule 10).
+use crate::filling::lines_filled;
 use crate::skipping::Skips;
-use crate::skipping::glyphs_wide;
 use crate::width::WIDEST_BOX;
 use meaning::settings::Settings;
 ghost use Prim.Native.Nat.{_≤_};
 ghost use mathlib.Core.Path.{_≡_};
+ghost use Rattle.unicode.specs.Decoding.{decodeAll};
+ghost use Rattle.meaning.specs.Checks.{checkUtf8};
+ghost use Rattle.meaning.specs.declared.refusals.Checked.the-variants.{Good};
 ghost use Rattle.rows.specs.RowsFrom.{TextReady};
-ghost use Rattle.columns.specs.Letters.{howMany};
-ghost use Rattle.columns.specs.LeadBytes.{leads};
-ghost use Rattle.columns.specs.HardBreaks.{breaks};
 ghost use Rattle.columns.specs.Skipping.{SmallSkips};
-ghost use Rattle.columns.specs.FirstWidth.{roomWidth, wordsWide, firstWidth};
+ghost use Rattle.columns.specs.FirstWidth.{NoneBelow, Begins};
 
-// A byte that begins a character of a word, whatever follows it.
-fn begins_word(b: u8) -> bool
-    ensures { λ r. ⌜ r ≡ leads b ⌝ }
+// The first width in which it fills fewer than h lines, by halving; past all widths if there is none.
+fn room_width(s: Settings, text: &[u8], h: u32) -> u32
+    requires { ⌜ TextReady s (now text) × (checkUtf8 (now text) ≡ Good) ⌝ }
+    ensures { λ r. ⌜ (r ≤ 4097) × NoneBelow s h (decodeAll (now (text .entry))) r ⌝ }
 {
-    if b < 0x21 {
-        return false;
-    }
-    if b < 0x80 {
-        return true;
-    }
-    if b < 0xC3 {
-        return false;
-    }
-    if b < 0xE1 {
-        return true;
-    }
-    0xE4 <= b
-}
-
-// So many are among these.
-fn word_bytes(text: &[u8]) -> usize
-    ensures { λ r. ⌜ r ≡ howMany leads (now (text .entry)) ⌝ }
-{
-    let mut n: usize = 0;
-    let mut i: usize = 0;
-    while i < text.len() {
-        if begins_word(text[i]) {
-            n += 1;
-            i += 1;
+    let lines = h as usize;
+    let mut low: u32 = 0;
+    let mut high = WIDEST_BOX + 1;
+    while low < high {
+        let middle = (low + high) / 2;
+        let filled = lines_filled(s.glyph.0, s.tab.0, middle, text);
+        if lines <= filled {
+            low = middle + 1;
         } else {
-            i += 1;
+            high = middle;
         }
     }
-    n
+    low
 }
 
-// LF or CR.
-fn breaks_line(b: u8) -> bool
-    ensures { λ r. ⌜ r ≡ breaks b ⌝ }
+// Whole steps of that, or past all widths.
+pub fn first_width(s: Settings, text: &[u8], h: u32, skips: Skips) -> u32
+    requires { ⌜ TextReady s (now text) × (checkUtf8 (now text) ≡ Good) × SmallSkips skips ⌝ }
+    ensures { λ r. ⌜ Begins s h (decodeAll (now (text .entry))) skips r ⌝ }
 {
-    if b == 10 {
-        return true;
-    }
-    b == 13
-}
-
-// So many of these are among the bytes.
-fn break_bytes(text: &[u8]) -> usize
-    ensures { λ r. ⌜ r ≡ howMany breaks (now (text .entry)) ⌝ }
-{
-    let mut n: usize = 0;
-    let mut i: usize = 0;
-    while i < text.len() {
-        if breaks_line(text[i]) {
-            n += 1;
-            i += 1;
-        } else {
-            i += 1;
-        }
-    }
-    n
-}
-
-// Each of h lines takes its part of the words at least: whole steps of that, or past all widths.
-fn room_width(s: Settings, text: &[u8], h: u32, skips: Skips) -> u32
-    requires { ⌜ TextReady s (now text) × (1 ≤ h) × SmallSkips skips ⌝ }
-    ensures { λ r. ⌜ r ≡ roomWidth skips (wordsWide s (now (text .entry))) h ⌝ }
-{
-    let many = word_bytes(text);
-    let wide = glyphs_wide(s, many);
-    let least = wide / h;
+    let least = room_width(s, text, h);
     if WIDEST_BOX < least {
-        return WIDEST_BOX + 1;
+        return least;
     }
     let step = skips.step;
     least / step * step
-}
-
-// A text has a line more than it has LF and CR.
-pub fn first_width(s: Settings, text: &[u8], h: u32, skips: Skips) -> u32
-    requires { ⌜ TextReady s (now text) × (1 ≤ h) × SmallSkips skips ⌝ }
-    ensures { λ r. ⌜ r ≡ firstWidth skips (howMany breaks (now (text .entry))) (wordsWide s (now (text .entry))) h ⌝ }
-{
-    let ends = break_bytes(text);
-    let lines = h as usize;
-    if lines <= ends {
-        return WIDEST_BOX + 1;
-    }
-    room_width(s, text, h, skips)
 }

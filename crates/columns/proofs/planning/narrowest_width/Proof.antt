@@ -10,8 +10,7 @@ use Rattle.meaning.specs.Columns.{fitsWhole, withWidth}
 use Rattle.meaning.specs.declared.settings.Settings.{Settings}
 use Rattle.columns.specs.OtherWidths.{ready-with}
 use Rattle.columns.specs.Skipping.{SkipsFairly, skips-fairly, next-wider}
-use Rattle.columns.specs.WidthTurns.{Sought, sought-none, sought-here, sought-next}
-use Rattle.columns.specs.FirstWidth.{sought-first}
+use Rattle.columns.specs.WidthTurns.{Sought, sought-from, sought-none, sought-here, sought-next}
 use Rattle.columns.proofs.planning.narrowest_width.Statement.{statement}
 use Rattle.columns.proofs.planning.narrowest_width.Tie as tie
 
@@ -34,15 +33,16 @@ fairly c =
     subst (SkipsFairly (a .s) (decodeAll (a .text .now))) (sym (c .skips-of .ensures)) (skips-fairly (a .s) (a .text .now) (start .pre .0))
 
 first-width-requires : tie.Need-first-width-requires Inv-loop μ-loop
-first-width-requires c κs = let start = c .before .before in (start .pre .0, start .pre .1, fairly c .small)
+first-width-requires c κs = let start = c .before .before in (start .pre .0, start .pre .2, fairly c .small)
 
 loop-holds : tie.Need-loop-holds Inv-loop μ-loop
 loop-holds c =
     let k = c .before in
     let start = k .before .before in
     let a = start .args in
-    subst (Sought (a .s) (a .h) (decodeAll (a .text .now)) (k .skips-of .result)) (sym (c .first-width .ensures))
-    (sought-first (a .s) (a .text .now) (start .pre .2) (a .h) (start .pre .1) (k .skips-of .result) (fairly k))
+    let first = c .first-width .ensures in
+    sought-from (a .s) (a .h) (decodeAll (a .text .now)) (k .skips-of .result) (fairly k) (c .first-width .result) (omega (arith, first .low))
+    (first .whole) (first .none)
 
 with-width-requires : tie.Need-with-width-requires Inv-loop μ-loop
 with-width-requires c κs = search needs

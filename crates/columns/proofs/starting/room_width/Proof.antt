@@ -1,55 +1,77 @@
--- `columns::starting::room_width` meets its contract.
+-- `columns::starting::room_width` meets its contract. The invariant: no width below `low` does.
 -- Assumes nothing.
-use Prim.Native.Nat.{ℕ, _*_, _/_}
-use mathlib.Core.Path.{_≡_, sym, ap, _∙_}
-use native.Mathlib.Nat.{div-mul-le-self}
+use Prim.Native.Nat.{_-_, _≤_}
 use native.Mathlib.Omega.{arith}
 use borrow.Author.Needs.{needs}
-use Rattle.columns.specs.Letters.{many-few}
-use Rattle.columns.specs.LeadBytes.{leads}
-use Rattle.columns.specs.FirstWidth.{wordsWide, room-past, room-whole}
+use Rattle.unicode.specs.Decoding.{decodeAll}
+use Rattle.columns.specs.FirstWidth.{NoneBelow, filled-below}
 use Rattle.columns.proofs.starting.room_width.Statement.{statement}
 use Rattle.columns.proofs.starting.room_width.Tie as tie
 
-word-bytes-requires : tie.Need-word-bytes-requires
-word-bytes-requires c κs = search needs
+abbrev Inv-loop : tie.InvT-loop
+Inv-loop s text h lines low₀ high₀ low high = (low ≤ high) × (high ≤ 4097) × NoneBelow s h (decodeAll text) low
 
-glyphs-wide-requires : tie.Need-glyphs-wide-requires
-glyphs-wide-requires c κs =
-    let start = c .before .before in
-    let t = start .args .text .now in
-    (start .pre .0 .settings .1, omega (arith, c .word-bytes .ensures, many-few leads t, start .pre .0 .short))
+abbrev μ-loop : tie.MeasureT-loop
+μ-loop s text h lines low₀ high₀ low high = high - low
 
--- The glyphs of the words.
-wide-is : (c : tie.After-glyphs-wide) →
-    let a = c .before .before .before .args in
-    c .glyphs-wide .result ≡ wordsWide (a .s) (a .text .now)
-wide-is c = c .glyphs-wide .ensures ∙ ap (λ (n : ℕ). n * c .before .before .before .args .s .glyph .0) (c .before .word-bytes .ensures)
+add-high : tie.Need-add-high Inv-loop μ-loop
+add-high c = search needs
 
-div-least : tie.Need-div-least
-div-least c = c .before .before .before .pre .1
+loop-holds : tie.Need-loop-holds Inv-loop μ-loop
+loop-holds c = (omega arith, omega arith, λ v less. absurd (omega arith))
 
-add-result : tie.Need-add-result
-add-result c = search needs
+add-middle : tie.Need-add-middle Inv-loop μ-loop
+add-middle c = record { fits = omega (arith, c .loop-test .taken, c .before .loop .inv .1) }
 
-returns : tie.Need-returns
-returns c =
-    let a = c .before .before .before .before .args in
-    rw (sym (wide-is (c .before))) (room-past (a .skips) (c .before .glyphs-wide .result) (a .h) (c .if1 .taken))
+lines-filled-requires : tie.Need-lines-filled-requires Inv-loop μ-loop
+lines-filled-requires c κs =
+    let l = c .before in
+    let p = l .before .before .pre .0 in
+    (p .settings .1, p .settings .3, omega (arith, c .loop-test .taken, l .loop .inv .1), p .short)
 
-div-result : tie.Need-div-result
-div-result c = c .before .before .before .before .pre .2 .0
+add-low : tie.Need-add-low Inv-loop μ-loop
+add-low c = let t = c .before .before in record { fits = omega (arith, t .loop-test .taken, t .before .loop .inv .1) }
 
-mul-result : tie.Need-mul-result
-mul-result c =
-    let a = c .before .before .before .before .args in
-    let least = c .before .glyphs-wide .result / a .h in
-    record { fits = omega (arith, div-mul-le-self least (a .skips .step), c .if1 .left) }
+loop-less : tie.Need-loop-less Inv-loop μ-loop
+loop-less c = omega (arith, c .before .before .loop-test .taken)
 
-returns-2 : tie.Need-returns-2
-returns-2 c =
-    let a = c .before .before .before .before .args in
-    rw (sym (wide-is (c .before))) (room-whole (a .skips) (c .before .glyphs-wide .result) (a .h) (omega (arith, c .if1 .left)))
+loop-again : tie.Need-loop-again Inv-loop μ-loop
+loop-again c =
+    let f = c .before in
+    let t = f .before in
+    let l = t .before in
+    let start = l .before .before in
+    let a = start .args in (
+      omega (arith, t .loop-test .taken),
+      l .loop .inv .1,
+      filled-below (a .s) (a .text .now) (a .h) _ (start .pre .0 .settings .0) (start .pre .1) (omega (arith, c .if1 .taken, f .lines-filled .ensures)),
+    )
+
+loop-less-2 : tie.Need-loop-less-2 Inv-loop μ-loop
+loop-less-2 c = omega (arith, c .before .before .loop-test .taken)
+
+loop-again-2 : tie.Need-loop-again-2 Inv-loop μ-loop
+loop-again-2 c =
+    let t = c .before .before in
+    let l = t .before in
+    (omega (arith, t .loop-test .taken), omega (arith, t .loop-test .taken, l .loop .inv .1), l .loop .inv .2)
+
+returns : tie.Need-returns Inv-loop μ-loop
+returns c = let i = c .before .loop .inv in (omega (arith, i .0, i .1), i .2)
 
 pub room-width-spec : {M : Type 1} → statement M
-room-width-spec = tie.close (tie.spec word-bytes-requires glyphs-wide-requires div-least add-result returns div-result mul-result returns-2)
+room-width-spec =
+    tie.close
+    (tie.spec
+    Inv-loop
+    μ-loop
+    add-high
+    loop-holds
+    add-middle
+    lines-filled-requires
+    add-low
+    loop-less
+    loop-again
+    loop-less-2
+    loop-again-2
+    returns)

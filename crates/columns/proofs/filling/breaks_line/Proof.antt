@@ -1,10 +1,10 @@
--- `columns::starting::breaks_line` meets its contract.
+-- `columns::filling::breaks_line` meets its contract.
 -- Assumes nothing.
 use Rattle.basis.specs.Choice.{pick}
 use Rattle.basis.specs.Order.{tests}
-use Rattle.columns.specs.HardBreaks.{breaks}
-use Rattle.columns.proofs.starting.breaks_line.Statement.{statement}
-use Rattle.columns.proofs.starting.breaks_line.Tie as tie
+use Rattle.columns.specs.Filling.{breaks}
+use Rattle.columns.proofs.filling.breaks_line.Statement.{statement}
+use Rattle.columns.proofs.filling.breaks_line.Tie as tie
 
 returns : tie.Need-returns
 unfolding breaks pick

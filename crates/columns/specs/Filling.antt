@@ -1,0 +1,196 @@
+-- Lines filled with a text, character by character or byte by byte, as if words could be cut anywhere. What is further on stays further on,
+-- and a wider box is filled no sooner (rule 4, rule 8).
+-- Assumes nothing.
+use Prim.Native.Nat.{ℕ, _+_, _*_, _/_, _≤_, _<_, min}
+use mathlib.Core.Path.{_≡_, refl, sym, subst, _∙_}
+use mathlib.Core.Bool.{Bool, true, false, false≢true}
+use mathlib.Core.List.{List, [], _∷_, _++_}
+use native.Mathlib.Nat.{div-mul-le-self, le-div-iff-mul-le, mul-le-mul-right}
+use native.Mathlib.Omega.{arith}
+use borrow.Author.Tests.{le-leb, lt-leb, eq-eqb, ne-eqb, eqb-false}
+use lib.Dec.{leb, eqb}
+use Rattle.basis.specs.Choice.{pick, pick-cases, by-test}
+use Rattle.basis.specs.Order.{by-le, by-lt, by-eq}
+use Rattle.moves.specs.FineLaws.{next-stop}
+use Rattle.columns.specs.declared.filling.Fill.{Fill}
+
+-- ---- what a character does, told by a test of those that words are made of
+
+-- What passes a test is another than what does not.
+pub other-than : (f : ℕ → Bool) (c d : ℕ) → f c ≡ true → f d ≡ false → c ≡ d → ⊥
+other-than f c d h e is = false≢true (sym e ∙ subst (λ (x : ℕ). f x ≡ true) is h)
+
+-- LF or CR: as a character, and as a byte.
+unfoldable pub breaks : ℕ → Bool
+breaks c = pick (eqb c 0x000A) true (eqb c 0x000D)
+
+-- A test that neither passes tells of none.
+pub others-break : (f : ℕ → Bool) → f 0x000A ≡ false → f 0x000D ≡ false → (c : ℕ) → f c ≡ true → breaks c ≡ false
+unfolding breaks pick
+others-break f a b c h = rw (ne-eqb c 0x000A (λ e. other-than f c 0x000A h a e), ne-eqb c 0x000D (λ e. other-than f c 0x000D h b e)) refl
+
+-- The first multiple of the tab width above a place, which stays where it is if that width is 0.
+unfoldable pub nextStop : (tab at : ℕ) → ℕ
+nextStop tab at = pick (eqb tab 0) at ((at / tab + 1) * tab)
+
+-- So many lines are full, and nothing is in the next one.
+abbrev pub emptyLine : ℕ → Fill
+emptyLine n = record { lines = n; at = 0; begun = false }
+
+-- A character of a word goes into the line if it fits, else into the next one.
+unfoldable pub fillWord : (glyph w : ℕ) → Fill → Fill
+fillWord g w x =
+    pick (leb (x .at + g) w) (record { lines = x .lines; at = x .at + g; begun = true })
+    (record { lines = x .lines + 1; at = min g w; begun = true })
+
+-- Further on, up to the edge.
+abbrev pub fillTo : (w : ℕ) → Fill → (to : ℕ) → Fill
+fillTo w x to = record { lines = x .lines; at = min to w; begun = x .begun }
+
+-- A space or a tab: to the edge where it does not fit. No line ends by it.
+unfoldable pub fillBlank : (glyph tab w : ℕ) → Fill → ℕ → Fill
+fillBlank g t w x c = pick (eqb c 0x0020) (fillTo w x (x .at + g)) (pick (eqb c 0x0009) (fillTo w x (nextStop t (x .at))) x)
+
+-- What stands before the first word of a line is not counted, since it may be skipped.
+unfoldable pub fillBy : (inWord : ℕ → Bool) → (glyph tab w : ℕ) → Fill → ℕ → Fill
+fillBy f g t w x c =
+    pick (f c) (fillWord g w x) (pick (breaks c) (emptyLine (x .lines + 1)) (pick (x .begun) (fillBlank g t w x c) x))
+
+unfoldable pub fillAll : (inWord : ℕ → Bool) → (glyph tab w : ℕ) → Fill → List ℕ → Fill
+fillAll f g t w x [] = x
+fillAll f g t w x (c ∷ cs) = fillAll f g t w (fillBy f g t w x c) cs
+
+pub fill-append : (f : ℕ → Bool) (g t w : ℕ) (x : Fill) (xs ys : List ℕ)
+    → fillAll f g t w x (xs ++ ys) ≡ fillAll f g t w (fillAll f g t w x xs) ys
+unfolding fillAll
+fill-append f g t w x [] ys = refl
+fill-append f g t w x (c ∷ xs) ys = fill-append f g t w (fillBy f g t w x c) xs ys
+
+-- ---- one is no further than another
+
+-- Fewer lines are full; or as many, and the line is filled no further, unless the other's is up to its edge w.
+pub record Under (w : ℕ) (x y : Fill) : Type 0 where
+  pub lines : x .lines ≤ y .lines
+  pub at : x .lines ≡ y .lines → y .at < w → x .at ≤ y .at
+  pub begun : x .lines ≡ y .lines → x .begun ≡ true → y .begun ≡ true
+
+module _ (w : ℕ) where
+  pub under-self : (x : Fill) → Under w x x
+  under-self x = record { lines = omega arith; at = λ _ _. omega arith; begun = λ _ e. e }
+
+  pub under-then : (x y z : Fill) → Under w x y → Under w y z → Under w x z
+  under-then x y z u v =
+      record {
+        lines = omega (arith, u .lines, v .lines);
+        at = λ e l.
+            let d : y .lines ≡ z .lines = omega (arith, u .lines, v .lines) in
+            let b = v .at d l in
+            omega (arith, b, u .at (e ∙ sym d) (omega (arith, b)));
+        begun = λ e b.
+            let d : y .lines ≡ z .lines = omega (arith, u .lines, v .lines) in
+            v .begun d (u .begun (e ∙ sym d) b);
+      }
+
+  -- Fewer lines are full.
+  pub under-fewer : (x y : Fill) → x .lines < y .lines → Under w x y
+  under-fewer x y l = record { lines = omega arith; at = λ e _. absurd (omega arith); begun = λ e _. absurd (omega arith) }
+
+  -- What the other fills more.
+  pub under-more : (x y : Fill) (to : ℕ) → y .at ≤ to → Under w x y → Under w x (fillTo w y to)
+  under-more x y to h u = record { lines = u .lines; at = λ e l. omega (arith, u .at e (omega arith)); begun = u .begun }
+
+  pub under-word : (g : ℕ) (x : Fill) → Under w x (fillWord g w x)
+  unfolding fillWord
+  under-word g x =
+      pick-cases (Under w x) (leb (x .at + g) w) (λ _. record { lines = omega arith; at = λ _ _. omega arith; begun = λ _ _. refl })
+      (λ _. under-fewer x _ (omega arith))
+
+-- ---- a character more
+
+-- A stop further on for a place further on.
+stop-more : (t a b : ℕ) → a ≤ b → nextStop t a ≤ nextStop t b
+unfolding nextStop pick
+stop-more t a b h =
+    by-eq t 0 (λ e. rw (eq-eqb t 0 e) h)
+    (λ d.
+    let up : a / t ≤ b / t = le-div-iff-mul-le {k = t} (omega arith) .1 (omega (arith, div-mul-le-self a t)) in
+    rw (ne-eqb t 0 d) (mul-le-mul-right t (omega (arith, up))))
+
+pub stop-on : (t a : ℕ) → a ≤ nextStop t a
+unfolding nextStop
+stop-on t a = pick-cases (λ n. a ≤ n) (eqb t 0) (λ _. omega arith) (λ e. next-stop a t (omega (arith, eqb-false t 0 e)) .0)
+
+-- Two choices by the same test.
+both-picked : (R : Fill → Fill → Type 0) (b : Bool) {x y x′ y′ : Fill} → R x x′ → R y y′ → R (pick b x y) (pick b x′ y′)
+unfolding pick
+both-picked R true p q = p
+both-picked R false p q = q
+
+module _ (g t : ℕ) (some : 1 ≤ g) (w v : ℕ) (wide : w ≤ v) where
+  -- The one that is no further breaks the line no sooner.
+  fewer-if : (x y : Fill) → Under w x y → y .at < w → y .at < x .at → x .lines < y .lines
+  fewer-if x y u low further = by-lt (x .lines) (y .lines) (λ l. l) (λ l. absurd (omega (arith, u .at (omega (arith, u .lines)) low)))
+
+  word-under : (x y : Fill) → Under w x y → Under w (fillWord g v x) (fillWord g w y)
+  unfolding fillWord pick
+  word-under x y u =
+      by-le (y .at + g) w
+      (λ b.
+      by-le (x .at + g) v
+      (λ a. rw (le-leb (y .at + g) w b, le-leb (x .at + g) v a)
+      (record { lines = u .lines; at = λ e l. omega (arith, u .at e (omega arith)); begun = λ _ _. refl }))
+      (λ a. let less = fewer-if x y u (omega arith) (omega arith) in
+      rw (le-leb (y .at + g) w b, lt-leb (x .at + g) v a)
+      (record { lines = omega (arith, less); at = λ e l. omega arith; begun = λ _ _. refl })))
+      (λ b.
+      by-le (x .at + g) v
+      (λ a. rw (lt-leb (y .at + g) w b, le-leb (x .at + g) v a) (under-fewer w _ _ (omega (arith, u .lines))))
+      (λ a. rw (lt-leb (y .at + g) w b, lt-leb (x .at + g) v a)
+      (record { lines = omega (arith, u .lines); at = λ e l. omega arith; begun = λ _ _. refl })))
+
+  to-under : (x y : Fill) (a b : ℕ) → y .at ≤ b → (x .at ≤ y .at → a ≤ b) → Under w x y → Under w (fillTo v x a) (fillTo w y b)
+  to-under x y a b h f u =
+      record { lines = u .lines; at = λ e l. omega (arith, f (u .at e (omega arith))); begun = u .begun }
+
+  blank-under : (c : ℕ) (x y : Fill) → Under w x y → Under w (fillBlank g t v x c) (fillBlank g t w y c)
+  unfolding fillBlank pick
+  blank-under c x y u =
+      by-test (eqb c 0x0020) (λ e. rw e (to-under x y (x .at + g) (y .at + g) (omega arith) (λ h. omega arith) u))
+      (λ e.
+      by-test (eqb c 0x0009)
+      (λ d. rw (e, d) (to-under x y (nextStop t (x .at)) (nextStop t (y .at)) (stop-on t (y .at)) (stop-more t (x .at) (y .at)) u))
+      (λ d. rw (e, d) u))
+
+  -- Only the other's line has a word.
+  other-blank : (c : ℕ) (x y : Fill) → Under w x y → Under w x (fillBlank g t w y c)
+  unfolding fillBlank
+  other-blank c x y u =
+      pick-cases (Under w x) (eqb c 0x0020) (λ _. under-more w x y (y .at + g) (omega arith) u) λ _.
+      pick-cases (Under w x) (eqb c 0x0009) (λ _. under-more w x y (nextStop t (y .at)) (stop-on t (y .at)) u) (λ _. u)
+
+  blank-fewer : (c : ℕ) (x y : Fill) → x .lines < y .lines → Under w (fillBlank g t v x c) y
+  unfolding fillBlank
+  blank-fewer c x y l =
+      let P : Fill → Type 0 = λ (z : Fill). Under w z y in
+      pick-cases P (eqb c 0x0020) (λ _. under-fewer w _ y l) λ _. pick-cases P (eqb c 0x0009) (λ _. under-fewer w _ y l) (λ _. under-fewer w _ y l)
+
+  begun-under : (c : ℕ) (x y : Fill) → Under w x y → Under w (pick (x .begun) (fillBlank g t v x c) x) (pick (y .begun) (fillBlank g t w y c) y)
+  begun-under c x y u =
+      let rest = pick (y .begun) (fillBlank g t w y c) y in
+      pick-cases (λ (z : Fill). Under w z rest) (x .begun)
+      (λ a.
+      pick-cases (Under w (fillBlank g t v x c)) (y .begun) (λ _. blank-under c x y u)
+      (λ b. blank-fewer c x y (by-lt (x .lines) (y .lines) (λ l. l) (λ l. absurd (false≢true (sym b ∙ u .begun (omega (arith, u .lines)) a))))))
+      (λ _. pick-cases (Under w x) (y .begun) (λ _. other-blank c x y u) (λ _. u))
+
+  pub step-under : (f : ℕ → Bool) (c : ℕ) (x y : Fill) → Under w x y → Under w (fillBy f g t v x c) (fillBy f g t w y c)
+  unfolding fillBy
+  step-under f c x y u =
+      both-picked (Under w) (f c) (word-under x y u)
+      (both-picked (Under w) (breaks c)
+      (record { lines = omega (arith, u .lines); at = λ _ _. omega arith; begun = λ _ e. absurd (false≢true e) }) (begun-under c x y u))
+
+  pub fill-under : (f : ℕ → Bool) (cs : List ℕ) (x y : Fill) → Under w x y → Under w (fillAll f g t v x cs) (fillAll f g t w y cs)
+  unfolding fillAll
+  fill-under f [] x y u = u
+  fill-under f (c ∷ cs) x y u = fill-under f cs (fillBy f g t v x c) (fillBy f g t w y c) (step-under f c x y u)
