@@ -20,7 +20,7 @@ returns c =
     c .fill-to .ensures ∙ on-space (a .glyph) (a .tab) (a .w) (a .f) (a .b) (i .if1 .taken)
 
 next-stop-requires : tie.Need-next-stop-requires
-next-stop-requires c κs = let p = c .before .before .pre in (p .1, omega (arith, p))
+next-stop-requires c κs = let p = c .before .before .pre in (omega (arith, p), omega (arith, p))
 
 fill-to-requires-2 : tie.Need-fill-to-requires-2
 fill-to-requires-2 c κs = search needs
