@@ -12,13 +12,13 @@ use lib.ListN.{length, getD, drop, drop-of-length-le}
 use lib.Seq.{drop-cons}
 use Rattle.basis.specs.Choice.{pick, pick-cases, pick-true, pick-false}
 use Rattle.meaning.specs.Checks.{textLimit}
-use Rattle.columns.specs.Filling.{breaks, nextStop, emptyLine, fillWord, fillTo, fillBlank, fillBy, fillAll}
+use Rattle.columns.specs.Filling.{breaks, nextStop, emptyLine, fillWord, fillTo, fillOther, fillBlank, fillBy, fillAll}
 use Rattle.columns.specs.LeadBytes.{leads}
 use Rattle.columns.specs.declared.filling.Fill.{Fill}
 
--- The line is filled up to the edge at most, and no more lines are full than bytes have been looked at.
+-- The line is filled up to the edge at most, what moves along is of it, and no more lines are full than bytes have been looked at.
 abbrev pub SmallFill : (w i : ℕ) → Fill → Type 0
-SmallFill w i x = (x .at ≤ w) × (x .lines ≤ i)
+SmallFill w i x = (x .at ≤ w) × (x .part ≤ x .at) × (x .lines ≤ i)
 
 -- In a box that the settings allow no sum wraps.
 abbrev pub FineFill : (glyph tab w : ℕ) → Fill → Type 0
@@ -29,19 +29,29 @@ abbrev pub linesFilled : (glyph tab w : ℕ) → (bytes : List ℕ) → ℕ
 linesFilled g t w bytes = fillAll leads g t w (emptyLine 0) bytes .lines
 
 module _ (g t w : ℕ) where
+  small-word : (i : ℕ) (x : Fill) → SmallFill w i x → SmallFill w (i + 1) (fillWord g w x)
+  unfolding fillWord
+  small-word i x h =
+      let grown : pick (x .moves) (x .part + g) 0 ≤ x .at + g =
+      pick-cases (λ n. n ≤ x .at + g) (x .moves) (λ _. omega (arith, h .1)) (λ _. omega arith) in
+      pick-cases (SmallFill w (i + 1)) (leb (x .at + g) w) (λ e. (leb-true (x .at + g) w e, grown, omega (arith, h .2)))
+      (λ _. (omega arith, omega arith, omega (arith, h .2)))
+
+  small-blank : (i c : ℕ) (x : Fill) → SmallFill w i x → SmallFill w (i + 1) (fillBlank g t w x c)
+  unfolding fillBlank
+  small-blank i c x h =
+      let P : Fill → Type 0 = SmallFill w (i + 1) in
+      let few : x .lines ≤ i + 1 = omega (arith, h .2) in
+      pick-cases P (eqb c 0x0020) (λ _. (omega arith, omega arith, few)) λ _.
+      pick-cases P (eqb c 0x0009) (λ _. (omega arith, omega arith, few)) (λ _. (h .0, omega arith, few))
+
   small-more : (i c : ℕ) (x : Fill) → SmallFill w i x → SmallFill w (i + 1) (fillBy leads g t w x c)
-  unfolding fillBy fillWord fillBlank
+  unfolding fillBy
   small-more i c x h =
       let P : Fill → Type 0 = SmallFill w (i + 1) in
-      let same : P x = (h .0, omega (arith, h .1)) in
-      pick-cases P (leads c)
-      (λ _. pick-cases P (leb (x .at + g) w) (λ e. (leb-true (x .at + g) w e, omega (arith, h .1))) (λ _. (omega arith, omega (arith, h .1)))) λ _.
-      pick-cases P (breaks c) (λ _. (omega arith, omega (arith, h .1))) λ _.
-      pick-cases P (x .begun)
-      (λ _.
-      pick-cases P (eqb c 0x0020) (λ _. (omega arith, omega (arith, h .1))) λ _.
-      pick-cases P (eqb c 0x0009) (λ _. (omega arith, omega (arith, h .1))) (λ _. same))
-      (λ _. same)
+      pick-cases P (leads c) (λ _. small-word i x h) λ _.
+      pick-cases P (breaks c) (λ _. (omega arith, omega arith, omega (arith, h .2))) λ _.
+      pick-cases P (x .begun) (λ _. small-blank i c x h) (λ _. (h .0, omega arith, omega (arith, h .2)))
 
   -- ---- the loop
 
@@ -52,7 +62,7 @@ module _ (g t w : ℕ) where
 
   module _ (bytes : List ℕ) where
     pub fill-start : FilledTo bytes 0 (emptyLine 0)
-    fill-start = record { same = refl; small = (omega arith, omega arith) }
+    fill-start = record { same = refl; small = (omega arith, omega arith, omega arith) }
 
     pub fill-more : (i : ℕ) (x y : Fill) → FilledTo bytes i x → i < length bytes → y ≡ fillBy leads g t w x (getD bytes i 0) → FilledTo bytes (i + 1) y
     unfolding fillAll
@@ -70,13 +80,25 @@ module _ (g t w : ℕ) where
   -- ---- what one byte does, by the tests of the code
 
   module _ (x : Fill) where
-    pub word-here : x .at + g ≤ w → record { lines = x .lines; at = x .at + g; begun = true } ≡ fillWord g w x
-    unfolding fillWord pick
-    word-here e = rw (le-leb (x .at + g) w e) refl
+    pub grown-true : x .moves ≡ true → x .part + g ≡ pick (x .moves) (x .part + g) 0
+    grown-true e = sym (pick-true (x .moves) _ _ e)
 
-    pub word-next : w < x .at + g → (n : ℕ) → n ≡ min g w → record { lines = x .lines + 1; at = n; begun = true } ≡ fillWord g w x
-    unfolding fillWord pick
-    word-next e n is = rw (lt-leb (x .at + g) w e, is) refl
+    pub grown-false : x .moves ≡ false → 0 ≡ pick (x .moves) (x .part + g) 0
+    grown-false e = sym (pick-false (x .moves) _ _ e)
+
+    pub word-here : x .at + g ≤ w → (n : ℕ) → n ≡ pick (x .moves) (x .part + g) 0
+        → record { lines = x .lines; at = x .at + g; begun = true; moves = x .moves; part = n } ≡ fillWord g w x
+    unfolding fillWord
+    word-here e n is =
+        ap (λ (m : ℕ). record { lines = x .lines; at = x .at + g; begun = true; moves = x .moves; part = m }) is
+        ∙ sym (pick-true (leb (x .at + g) w) _ _ (le-leb (x .at + g) w e))
+
+    pub word-next : w < x .at + g → (n : ℕ) → n ≡ min (x .part + g) w
+        → record { lines = x .lines + 1; at = n; begun = true; moves = false; part = 0 } ≡ fillWord g w x
+    unfolding fillWord
+    word-next e n is =
+        ap (λ (m : ℕ). record { lines = x .lines + 1; at = m; begun = true; moves = false; part = 0 }) is
+        ∙ sym (pick-false (leb (x .at + g) w) _ _ (lt-leb (x .at + g) w e))
 
     pub on-space : (c : ℕ) → c ≡ 0x0020 → fillTo w x (x .at + g) ≡ fillBlank g t w x c
     unfolding fillBlank pick
@@ -86,9 +108,9 @@ module _ (g t w : ℕ) where
     unfolding fillBlank pick
     on-tab c d e n is = rw (ne-eqb c 0x0020 d, eq-eqb c 0x0009 e, is) refl
 
-    pub on-other : (c : ℕ) → (c ≡ 0x0020 → ⊥) → (c ≡ 0x0009 → ⊥) → x ≡ fillBlank g t w x c
+    pub on-other : (c : ℕ) → (c ≡ 0x0020 → ⊥) → (c ≡ 0x0009 → ⊥) → (y : Fill) → y ≡ fillOther x → y ≡ fillBlank g t w x c
     unfolding fillBlank pick
-    on-other c d e = rw (ne-eqb c 0x0020 d, ne-eqb c 0x0009 e) refl
+    on-other c d e y is = is ∙ rw (ne-eqb c 0x0020 d, ne-eqb c 0x0009 e) refl
 
     module _ (c : ℕ) where
       pub by-word : leads c ≡ true → (y : Fill) → y ≡ fillWord g w x → y ≡ fillBy leads g t w x c
@@ -105,6 +127,6 @@ module _ (g t w : ℕ) where
           unfolding fillBy
           by-blank e y is = is ∙ sym (pick-false (leads c) _ _ none ∙ pick-false (breaks c) _ _ within ∙ pick-true (x .begun) _ _ e)
 
-          pub by-none : x .begun ≡ false → x ≡ fillBy leads g t w x c
+          pub by-none : x .begun ≡ false → (y : Fill) → y ≡ fillOther x → y ≡ fillBy leads g t w x c
           unfolding fillBy
-          by-none e = sym (pick-false (leads c) _ _ none ∙ pick-false (breaks c) _ _ within ∙ pick-false (x .begun) _ _ e)
+          by-none e y is = is ∙ sym (pick-false (leads c) _ _ none ∙ pick-false (breaks c) _ _ within ∙ pick-false (x .begun) _ _ e)

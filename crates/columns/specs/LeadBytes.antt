@@ -20,7 +20,7 @@ use Rattle.meaning.specs.Characters.{glue, classOf, inWord}
 use Rattle.meaning.specs.Checks.{checkUtf8}
 use Rattle.meaning.specs.declared.refusals.Checked.the-variants.{Good}
 use Rattle.laws.specs.PartChars.{encoded}
-use Rattle.columns.specs.Filling.{breaks, other-than, others-break, emptyLine, fillWord, fillBlank, fillBy, fillAll, fill-append, Under, under-self, under-then, under-word, step-under}
+use Rattle.columns.specs.Filling.{breaks, other-than, others-break, emptyLine, fillWord, fillOther, fillBlank, fillBy, fillAll, fill-append, Under, under-self, under-then, under-other, under-word, step-under}
 use Rattle.columns.specs.declared.filling.Fill.{Fill}
 
 -- U+0021 to U+007F, the sequences of U+00C0 to U+0FFF, and those from U+4000 on.
@@ -78,27 +78,27 @@ leads-says b high =
 module _ (g t w : ℕ) where
   -- Any other does nothing unless it is of a word.
   others-fill : (f : ℕ → Bool) (x : Fill) (c : ℕ) → (breaks c ≡ false) → (c ≡ 0x0020 → ⊥) → (c ≡ 0x0009 → ⊥)
-      → fillBy f g t w x c ≡ pick (f c) (fillWord g w x) x
+      → fillBy f g t w x c ≡ pick (f c) (fillWord g w x) (fillOther x)
   unfolding fillBy fillBlank pick
-  others-fill f x c b d e = rw (b, ne-eqb c 0x0020 d, ne-eqb c 0x0009 e) (ap (λ (z : Fill). pick (f c) (fillWord g w x) z) (pick-same (x .begun) x))
+  others-fill f x c b d e = rw (b, ne-eqb c 0x0020 d, ne-eqb c 0x0009 e) (ap (λ (z : Fill). pick (f c) (fillWord g w x) z) (pick-same (x .begun) (fillOther x)))
 
-  high-fill : (f : ℕ → Bool) (x : Fill) (c : ℕ) → 0x80 ≤ c → fillBy f g t w x c ≡ pick (f c) (fillWord g w x) x
+  high-fill : (f : ℕ → Bool) (x : Fill) (c : ℕ) → 0x80 ≤ c → fillBy f g t w x c ≡ pick (f c) (fillWord g w x) (fillOther x)
   unfolding breaks pick
   high-fill f x c h =
       others-fill f x c (rw (ne-eqb c 0x000A (λ e. omega arith), ne-eqb c 0x000D (λ e. omega arith)) refl) (λ e. omega arith) (λ e. omega arith)
 
   -- Where a test tells of fewer characters, lines are filled no further.
-  fewer-fill : (a b : Bool) (x : Fill) → (a ≡ true → b ≡ true) → Under w (pick a (fillWord g w x) x) (pick b (fillWord g w x) x)
+  fewer-fill : (a b : Bool) (x : Fill) → (a ≡ true → b ≡ true) → Under w (pick a (fillWord g w x) (fillOther x)) (pick b (fillWord g w x) (fillOther x))
   unfolding pick
-  fewer-fill true b x f = subst (λ (z : Bool). Under w (fillWord g w x) (pick z (fillWord g w x) x)) (sym (f refl)) (under-self w _)
+  fewer-fill true b x f = subst (λ (z : Bool). Under w (fillWord g w x) (pick z (fillWord g w x) (fillOther x))) (sym (f refl)) (under-self w _)
   fewer-fill false true x f = under-word w g x
-  fewer-fill false false x f = under-self w x
+  fewer-fill false false x f = under-self w _
 
   -- Two tests that tell the same of a character.
   same-fill : (c : ℕ) → leads c ≡ inWord c → (x : Fill) → fillBy leads g t w x c ≡ fillBy inWord g t w x c
   unfolding fillBy
   same-fill c e x =
-      ap (λ (b : Bool). pick b (fillWord g w x) (pick (breaks c) (emptyLine (x .lines + 1)) (pick (x .begun) (fillBlank g t w x c) x))) e
+      ap (λ (b : Bool). pick b (fillWord g w x) (pick (breaks c) (emptyLine (x .lines + 1)) (pick (x .begun) (fillBlank g t w x c) (fillOther x)))) e
 
   -- What a sequence fills, and its character.
   abbrev Once : (bytes : List ℕ) → (c : ℕ) → Type 0
@@ -114,31 +114,34 @@ module _ (g t w : ℕ) where
       let space = other-than inWord c 0x0020 e refl in
       let tab = other-than inWord c 0x0009 e refl in
       subst (λ (z : Fill). Under w z (fillBy inWord g t w x c)) (sym (others-fill leads x c free space tab))
-      (subst (Under w (pick (leads c) (fillWord g w x) x)) (sym (others-fill inWord x c free space tab)) (fewer-fill (leads c) (inWord c) x (λ _. e))))
+      (subst (Under w (pick (leads c) (fillWord g w x) (fillOther x))) (sym (others-fill inWord x c free space tab)) (fewer-fill (leads c) (inWord c) x (λ _. e))))
       (λ e. subst (Under w (fillBy leads g t w x c)) (same-fill c (no-leads c h e ∙ sym e) x) (under-self w _))
 
   -- The bytes after the first fill nothing.
-  trail-fill : (y : ℕ) (x : Fill) → fillBy leads g t w x (trail y) ≡ x
+  trail-fill : (y : ℕ) (x : Fill) → fillBy leads g t w x (trail y) ≡ fillOther x
   unfolding pick
   trail-fill y x = high-fill leads x (trail y) (omega arith) ∙ rw (trail-leads y) refl
 
   abbrev Still : List ℕ → Type 0
-  Still bs = (x : Fill) → fillAll leads g t w x bs ≡ x
+  Still bs = (x : Fill) → Under w (fillAll leads g t w x bs) x
 
   no-more : Still []
   unfolding fillAll
-  no-more x = refl
+  no-more x = under-self w x
 
   trail-more : (y : ℕ) (rest : List ℕ) → Still rest → Still (trail y ∷ rest)
   unfolding fillAll
-  trail-more y rest still x = ap (λ (z : Fill). fillAll leads g t w z rest) (trail-fill y x) ∙ still x
+  trail-more y rest still x =
+      subst (λ (z : Fill). Under w (fillAll leads g t w z rest) x) (sym (trail-fill y x))
+      (under-then w _ (fillOther x) x (still (fillOther x)) (under-other w x))
 
   -- A sequence fills by its first byte.
   once : (b : ℕ) (rest : List ℕ) (c : ℕ) → 0x80 ≤ b → 0x80 ≤ c → Still rest → (leads b ≡ true → inWord c ≡ true) → Once (b ∷ rest) c
   unfolding fillAll
   once b rest c high far still f x =
-      subst (λ (z : Fill). Under w z (fillBy inWord g t w x c)) (sym (still (fillBy leads g t w x b) ∙ high-fill leads x b high))
-      (subst (Under w (pick (leads b) (fillWord g w x) x)) (sym (high-fill inWord x c far)) (fewer-fill (leads b) (inWord c) x f))
+      under-then w _ (fillBy leads g t w x b) _ (still (fillBy leads g t w x b))
+      (subst (λ (z : Fill). Under w z (fillBy inWord g t w x c)) (sym (high-fill leads x b high))
+      (subst (Under w (pick (leads b) (fillWord g w x) (fillOther x))) (sym (high-fill inWord x c far)) (fewer-fill (leads b) (inWord c) x f)))
 
   two-bytes : (c : ℕ) → 0x80 ≤ c → c < 0x800 → Once ((0xC0 + c / 64) ∷ trail c ∷ []) c
   two-bytes c from below =

@@ -1,15 +1,15 @@
--- A layout that drops nothing has more lines than the text fills, if words could be cut anywhere: so a text fits no box in which it fills
--- too many (rule 8, rule 10).
+-- A layout that drops nothing has more lines than its text fills, in every alignment: so a text fits no box in which it fills too many
+-- (rule 8, rule 10).
 -- Assumes nothing.
 use Prim.Native.Nat.{ℕ, zero, suc, _+_, _-_, _≤_, _<_}
-use mathlib.Core.Path.{_≡_, refl, sym, ap, subst, _∙_}
+use mathlib.Core.Path.{_≡_, refl, sym, subst, _∙_}
 use mathlib.Core.Bool.{false, _||_, false≢true}
 use mathlib.Core.Logic.{inl, inr}
 use mathlib.Core.List.{List, [], _∷_, map}
 use native.Mathlib.Omega.{arith}
 use borrow.Author.Tests.{eqb-false}
 use lib.Dec.{eqb}
-use lib.ListN.{length, take, drop, length-map, take-append-drop}
+use lib.ListN.{length, take, drop, length-map}
 use Rattle.basis.specs.Choice.{pick, pick-cases, by-test, either-second}
 use Rattle.meaning.specs.Tokens.{Tok, newLine, carriageReturn, tab, softHyphen, space, word, counted, tokens}
 use Rattle.meaning.specs.Characters.{classOf, inWord, inRun}
@@ -31,7 +31,7 @@ use Rattle.laws.specs.InsideBox.{left-inside}
 use Rattle.laws.specs.RowInduction.{FitsIn, each-row}
 use Rattle.laws.specs.NothingDropped.{DropNothing}
 use Rattle.laws.specs.NarrowestWidth.{fits-says}
-use Rattle.columns.specs.Filling.{emptyLine, fill-append, Under, under-then, fill-under}
+use Rattle.columns.specs.Filling.{emptyLine, under-by, fill-under}
 use Rattle.columns.specs.StepFilling.{filledIn}
 use Rattle.columns.specs.PassFilling.{AllKnown, KnownFrom, known-from, pass-fills}
 use Rattle.columns.specs.declared.filling.Fill.{Fill}
@@ -50,7 +50,7 @@ longest-known (carriageReturn ∷ ts) h = (tt, longest-known ts (h .1))
 longest-known (tab ∷ ts) h = (tt, longest-known ts (h .1))
 longest-known (softHyphen ∷ ts) h = (tt, longest-known ts (h .1))
 longest-known (space cs n e ∷ ts) h = let k = space-known cs n e (spell ts) (h .0) in ((k .0, λ _. k .1), longest-known ts (h .1))
-longest-known (word cs e ∷ ts) h = (h .0 .all, longest-known ts (h .1))
+longest-known (word cs e ∷ ts) h = ((h .0 .all, h .0 .longest), longest-known ts (h .1))
 
 held-known : (n count : ℕ) (cs : List ℕ) → Pass inRun (take n cs) → KnownFrom false (heldTokens n count cs)
 unfolding heldTokens
@@ -81,17 +81,19 @@ module _ (s : Settings) (some : 1 ≤ s .glyph .0) where
   abbrev filled : Fill → List ℕ → Fill
   filled = filledIn s
 
-  -- What a line takes fills no more than it, and so on, as of a pass.
+  -- Of a line, as of a pass.
   pub record LineFilled (l : ℕ) (h : Held) (cs : List ℕ) : Type 0 where
-    pub room : layLine s h cs .dropped ≡ 0 → Under (s .width .0) (filled (emptyLine l) (take (layLine s h cs .chars) cs)) (emptyLine (l + 1))
+    pub room : layLine s h cs .dropped ≡ 0 → filled (emptyLine l) cs .lines ≤ filled (emptyLine (l + 1)) (drop (layLine s h cs .chars) cs) .lines
     pub held : Pass inRun (take (layLine s h cs .held .chars) (drop (layLine s h cs .chars) cs))
     pub end : layLine s h cs .ended ≡ EndOfText → filled (emptyLine l) cs .lines ≤ l
 
   -- A line starts at its left side or further on.
-  from-left : (l left : ℕ) (cs : List ℕ) → Under (s .width .0) (filled (emptyLine l) cs) (filled (record { lines = l; at = left; begun = false }) cs)
+  from-left : (l left : ℕ) (cs : List ℕ)
+      → filled (emptyLine l) cs .lines ≤ filled (record { lines = l; at = left; begun = false; moves = false; part = 0 }) cs .lines
   from-left l left cs =
-      fill-under (s .glyph .0) (s .tab .0) some (s .width .0) (s .width .0) (omega arith) inWord cs _ _
-      (record { lines = omega arith; at = λ _ _. omega arith; begun = λ _ e. e })
+      let there : Fill = record { lines = l; at = left; begun = false; moves = false; part = 0 } in
+      let u = under-by (s .width .0) (emptyLine l) there refl (omega arith) (λ _ _. omega arith) (λ _ e. e) (λ _ e. e) in
+      fill-under (s .glyph .0) (s .tab .0) some (s .width .0) (s .width .0) (omega arith) inWord cs (emptyLine l) there u .lines
 
   line-filled : (l : ℕ) (h : Held) (cs : List ℕ) → FitsIn cs h → Pass inRun (take (h .chars) cs) → LineFilled l h cs
   unfolding layLine lineOf startPlace placing
@@ -101,11 +103,11 @@ module _ (s : Settings) (some : 1 ≤ s .glyph .0) where
       let x = pass-fills s some l ts (startPlace s (p .left .0) (p .spaces)) 0 (line-tokens-sound h cs (f .0) (f .1)) (line-known h cs known)
       (record { width = refl; tab = refl; low = left-inside s _ _ _; wide = wide-spaces s _ _ _ }) in
       let all = line-tokens-cover h cs in
-      let chars = layLine s h cs .chars in
+      let further = from-left l (p .left .0) cs in
       record {
-        room = λ d. under-then (s .width .0) _ _ _ (from-left l (p .left .0) (take chars cs)) (rw all at (x .room d));
+        room = λ d. omega (arith, further, rw all at (x .room d));
         held = rw all at (x .held);
-        end = λ e. omega (arith, from-left l (p .left .0) cs .lines, rw all at (x .end e));
+        end = λ e. omega (arith, further, rw all at (x .end e));
       }
 
   -- ---- a text
@@ -125,14 +127,7 @@ module _ (s : Settings) (some : 1 ≤ s .glyph .0) where
   unfolding rowAt entryAt
   more-filled start before h cs f _ r rs after l known kept =
       let line = line-filled l h cs f known in
-      let n = layLine s h cs .chars in
-      let others = after (l + 1) (line .held) (kept .1) in
-      let whole : filled (emptyLine l) cs ≡ filled (filled (emptyLine l) (take n cs)) (drop n cs) =
-      ap (filled (emptyLine l)) (sym (take-append-drop n cs))
-      ∙ fill-append inWord (s .glyph .0) (s .tab .0) (s .width .0) (emptyLine l) (take n cs) (drop n cs) in
-      let rest =
-      fill-under (s .glyph .0) (s .tab .0) some (s .width .0) (s .width .0) (omega arith) inWord (drop n cs) _ _ (line .room (kept .0)) in
-      omega (arith, ap (λ (z : Fill). z .lines) whole, rest .lines, others)
+      omega (arith, line .room (kept .0), after (l + 1) (line .held) (kept .1))
 
   pub layout-filled : (cs : List ℕ) → DropNothing (layout s cs) → filled (emptyLine 0) cs .lines < length (layout s cs)
   unfolding layout rows

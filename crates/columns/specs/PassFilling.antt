@@ -1,14 +1,14 @@
 -- A pass takes no more of a text than fills its line, token by token, if it drops nothing (rule 8, rule 9).
 -- Assumes nothing.
 use Prim.Native.Nat.{ℕ, _+_, _≤_}
-use mathlib.Core.Path.{_≡_, refl, sym, ap, subst, _∙_}
+use mathlib.Core.Path.{_≡_, refl, ap, _∙_}
 use mathlib.Core.Bool.{Bool, true, not}
 use mathlib.Core.List.{List, [], _∷_, _++_}
 use native.Mathlib.Omega.{arith}
 use lib.ListN.{length, take, drop, length-drop}
-use lib.Seq.{take-append-le, take-append-add, drop-append-le, drop-append-add}
+use lib.Seq.{take-append-le, drop-append-le, drop-append-add}
 use Rattle.meaning.specs.Tokens.{Tok, newLine, carriageReturn, tab, softHyphen, space, word, charsOf, sizeOf, needOf}
-use Rattle.meaning.specs.Characters.{inWord, inRun}
+use Rattle.meaning.specs.Characters.{inRun}
 use Rattle.meaning.specs.LineIter.{Step, go, stop, step, Ran, passOn, process}
 use Rattle.meaning.specs.declared.settings.Settings.{Settings}
 use Rattle.meaning.specs.declared.cursor.Place.{Place}
@@ -17,9 +17,8 @@ use Rattle.laws.specs.Spell.{textOf, spell, Sound}
 use Rattle.laws.specs.Runs.{Pass}
 use Rattle.laws.specs.TokenLaws.{chars-text}
 use Rattle.laws.specs.Steps.{SoundStep, step-sound}
-use Rattle.columns.specs.Filling.{emptyLine, fillAll, fill-append, Under, under-then, under-fewer, fill-under}
+use Rattle.columns.specs.Filling.{emptyLine, fillAll}
 use Rattle.columns.specs.StepFilling.{InBox, standing, filledIn, Roomy, Known, step-room}
-use Rattle.columns.specs.declared.filling.Fill.{Fill}
 
 -- A part of what stands in front, behind its first characters.
 part-first : (k j : ℕ) (xs cs : List ℕ) → k + j ≤ length xs → take j (drop k (xs ++ cs)) ≡ take j (drop k xs)
@@ -29,12 +28,12 @@ part-first k j xs cs h =
 -- Of all these tokens it is known.
 abbrev pub AllKnown : List Tok → Type 0
 AllKnown [] = Unit {0}
-AllKnown (t ∷ ts) = Known true t × AllKnown ts
+AllKnown (t ∷ ts) = Known true (spell ts) t × AllKnown ts
 
 -- The first of them may be held.
 abbrev pub KnownFrom : (begun : Bool) → List Tok → Type 0
 KnownFrom b [] = Unit {0}
-KnownFrom b (t ∷ ts) = Known b t × AllKnown ts
+KnownFrom b (t ∷ ts) = Known b (spell ts) t × AllKnown ts
 
 pub known-from : (b : Bool) (ts : List Tok) → AllKnown ts → KnownFrom b ts
 known-from b [] h = tt
@@ -45,48 +44,34 @@ known-from b (softHyphen ∷ ts) h = (tt, h .1)
 known-from b (space cs n e ∷ ts) h = ((h .0 .0, λ _. h .0 .1 refl), h .1)
 known-from b (word cs e ∷ ts) h = h
 
--- What a pass over the text cs takes of it fills no more than its line, if nothing is dropped; what it holds is of a run; and if it ends
--- the text, all of it is in the line.
+-- The text cs from a pass's place on fills no more lines than what the pass leaves of it from the next line on, if nothing is dropped; what is
+-- held is of a run; and if the pass ends the text, it fills no line more.
 pub record Filled (s : Settings) (l : ℕ) (p : Place) (cs : List ℕ) (r : Ran) : Type 0 where
-  pub room : r .dropped ≡ 0 → Under (s .width .0) (filledIn s (standing l p) (take (r .chars) cs)) (emptyLine (l + 1))
+  pub room : r .dropped ≡ 0 → filledIn s (standing l p) cs .lines ≤ filledIn s (emptyLine (l + 1)) (drop (r .chars) cs) .lines
   pub held : Pass inRun (take (r .held .chars) (drop (r .chars) cs))
   pub end : r .ended ≡ EndOfText → filledIn s (standing l p) cs .lines ≤ l
 
 past-token : (t : Tok) (cs : List ℕ) (k : ℕ) → drop (charsOf t + k) (textOf t ++ cs) ≡ drop k cs
 past-token t cs k = rw (chars-text t) (drop-append-add (textOf t) cs k)
 
-upto-token : (t : Tok) (cs : List ℕ) (k : ℕ) → take (charsOf t + k) (textOf t ++ cs) ≡ textOf t ++ take k cs
-upto-token t cs k = rw (chars-text t) (take-append-add (textOf t) cs k)
-
 module _ (s : Settings) (some : 1 ≤ s .glyph .0) (l : ℕ) where
-  abbrev fillOn : Fill → List ℕ → Fill
-  fillOn = filledIn s
-
-  -- A token and what stands after it: no further than from where the step goes on.
-  on-under : (p q : Place) (xs cs : List ℕ) → Under (s .width .0) (fillOn (standing l p) xs) (standing l q)
-      → Under (s .width .0) (fillOn (standing l p) (xs ++ cs)) (fillOn (standing l q) cs)
-  on-under p q xs cs u =
-      subst (λ (z : Fill). Under (s .width .0) z (fillOn (standing l q) cs)) (sym (fill-append inWord (s .glyph .0) (s .tab .0) (s .width .0) (standing l p) xs cs))
-      (fill-under (s .glyph .0) (s .tab .0) some (s .width .0) (s .width .0) (omega arith) inWord cs _ _ u)
-
   filled-on : (p : Place) (here : ℕ) (t : Tok) (cs : List ℕ) (x : Step) (more : Place → Ran) → SoundStep (charsOf t) p x
-      → Roomy s l p (textOf t) x → ((q : Place) → InBox s q → Filled s l q cs (more q))
+      → Roomy s l p (textOf t) cs x → ((q : Place) → InBox s q → Filled s l q cs (more q))
       → Filled s l p (textOf t ++ cs) (passOn here (charsOf t) x more)
   filled-on p here t cs (go q ds r) more sound x f =
       let m = more q in
       let i = f q (x .0) in
+      let rest = past-token t cs (m .chars) in
       record {
-        room = λ d.
-            rw (upto-token t cs (m .chars))
-            (under-then (s .width .0) _ _ _ (on-under p q (textOf t) (take (m .chars) cs) (x .1)) (i .room d));
-        held = rw (past-token t cs (m .chars)) (i .held);
-        end = λ e. omega (arith, on-under p q (textOf t) cs (x .1) .lines, i .end e);
+        room = λ d. rw rest (omega (arith, x .1, i .room d));
+        held = rw rest (i .held);
+        end = λ e. omega (arith, x .1, i .end e);
       }
   filled-on p here t cs (stop e ds k h d r) more sound x f =
       let xs = textOf t in
       let inside : k + h .chars ≤ length xs = omega (arith, sound .within, chars-text t) in
       record {
-        room = λ z. rw (take-append-le k xs cs (omega arith)) (x .0 z);
+        room = λ z. rw (drop-append-le k xs cs (omega arith)) (x .0 z);
         held = rw (part-first k (h .chars) xs cs inside) (x .1);
         end = λ q. absurd (sound .inside q);
       }
@@ -95,8 +80,8 @@ module _ (s : Settings) (some : 1 ≤ s .glyph .0) (l : ℕ) where
   pub pass-fills : (ts : List Tok) (p : Place) (at : ℕ) → Sound ts → KnownFrom (not (p .empty)) ts → InBox s p
       → Filled s l p (spell ts) (process s p at ts)
   unfolding process spell fillAll
-  pass-fills [] p at sound known f = record { room = λ _. under-fewer (s .width .0) _ _ (omega arith); held = tt; end = λ _. omega arith }
+  pass-fills [] p at sound known f = record { room = λ _. omega arith; held = tt; end = λ _. omega arith }
   pass-fills (t ∷ ts) p at sound known f =
       filled-on p (at + needOf t) t (spell ts) (step s p at t ts) (λ q. process s q (at + sizeOf t) ts)
-      (step-sound s p at t ts (sound .0)) (step-room s l p at f t ts (known .0))
+      (step-sound s p at t ts (sound .0)) (step-room s some l p at f t ts (sound .0) (known .0))
       (λ q g. pass-fills ts q (at + sizeOf t) (sound .1) (known-from (not (q .empty)) ts (known .1)) g)

@@ -3,13 +3,13 @@
 -- Assumes nothing.
 use Prim.Native.Nat.{ℕ, zero, suc, _+_, _*_, _/_, _≤_, min}
 use mathlib.Core.Path.{_≡_, refl, sym, ap, subst, _∙_}
-use mathlib.Core.Bool.{Bool, true, false, _&&_, _||_, not}
-use mathlib.Core.List.{List, [], _∷_}
+use mathlib.Core.Bool.{Bool, true, false, _&&_, _||_, not, false≢true}
+use mathlib.Core.List.{List, [], _∷_, _++_, append-assoc}
 use native.Mathlib.Nat.{zero-mul, div-mul-le-self, mul-le-mul-left, mul-le-mul-right}
 use native.Mathlib.Omega.{arith}
 use borrow.Author.Tests.{leb-true, ne-eqb, eq-eqb}
 use lib.Dec.{eqb}
-use lib.ListN.{length, take, drop, length-take}
+use lib.ListN.{length, take, drop, length-take, take-append-drop}
 use Rattle.basis.specs.Choice.{pick, pick-cases, pick-false, by-test, and-true}
 use Rattle.basis.specs.Order.{by-eq}
 use Rattle.meaning.specs.Tokens.{Tok, newLine, carriageReturn, tab, softHyphen, space, word, counted}
@@ -23,11 +23,12 @@ use Rattle.meaning.specs.declared.cursor.Spaces.{Spaces}
 use Rattle.meaning.specs.declared.cursor.Place.{Place}
 use Rattle.meaning.specs.declared.cursor.NextWord.{NextWord}
 use Rattle.meaning.specs.declared.cursor.NextWord.the-variants.{Nothing, Width}
-use Rattle.laws.specs.Spell.{textOf}
-use Rattle.laws.specs.Runs.{Pass}
+use Rattle.laws.specs.Spell.{textOf, spell, SoundTok}
+use Rattle.laws.specs.Runs.{Pass, Stops}
+use Rattle.laws.specs.Steps.{too-wide, some-spaces}
 use Rattle.moves.specs.FineLaws.{next-stop}
-use Rattle.columns.specs.Filling.{nextStop, emptyLine, fillAll, Under, under-self, under-fewer}
-use Rattle.columns.specs.TokenFilling.{run-still, run-fills, word-fills, tab-fills, hyphen-fills, new-line-fills, return-fills}
+use Rattle.columns.specs.Filling.{nextStop, emptyLine, fillOther, fillBlank, fillBy, fillAll, fill-append, Under, under-self, under-fewer, under-by, fill-under}
+use Rattle.columns.specs.TokenFilling.{run-still, run-rested, run-fills, word-fills, tab-fills, hyphen-fills, new-line-fills, return-fills}
 use Rattle.columns.specs.declared.filling.Fill.{Fill}
 
 -- ---- parts of characters that pass a test
@@ -46,36 +47,38 @@ pub record InBox (s : Settings) (p : Place) : Type 0 where
   pub low : p .cursor .position .0 ≤ s .width .0
   pub wide : s .glyph .0 ≤ p .spaces .width .0
 
--- A pass at a place, so many lines being before its own.
+-- A pass at a place, so many lines being before its own, and the word before it being over.
 abbrev pub standing : (lines : ℕ) → Place → Fill
-standing l p = record { lines = l; at = p .cursor .position .0; begun = not (p .empty) }
+standing l p = record { lines = l; at = p .cursor .position .0; begun = not (p .empty); moves = not (p .empty); part = 0 }
 
 abbrev pub filledIn : Settings → Fill → List ℕ → Fill
 filledIn s x cs = fillAll inWord (s .glyph .0) (s .tab .0) (s .width .0) x cs
 
--- What a step takes of a token's characters cs fills lines no further than where the pass then stands; or the line ends, and what it took
--- fills no more than the line, if nothing is dropped. What is held is of a run.
-abbrev pub GoesOn : Settings → ℕ → Place → List ℕ → Place → Type 0
-GoesOn s l p cs q = InBox s q × Under (s .width .0) (filledIn s (standing l p) cs) (standing l q)
+-- A token's characters cs, and the rest of the text after them. From where a step goes on, the rest fills as many lines at least; so it does
+-- from the next line on, where the line ends, with what was not taken, if nothing is dropped. What is held is of a run.
+abbrev pub GoesOn : Settings → ℕ → Place → (cs rest : List ℕ) → Place → Type 0
+GoesOn s l p cs rest q = InBox s q × (filledIn s (standing l p) (cs ++ rest) .lines ≤ filledIn s (standing l q) rest .lines)
 
-abbrev pub EndsThere : Settings → ℕ → Place → List ℕ → (taken held dropped : ℕ) → Type 0
-EndsThere s l p cs k h d =
-    (d ≡ 0 → Under (s .width .0) (filledIn s (standing l p) (take k cs)) (emptyLine (l + 1))) × Pass inRun (take h (drop k cs))
+abbrev pub EndsThere : Settings → ℕ → Place → (cs rest : List ℕ) → (taken held dropped : ℕ) → Type 0
+EndsThere s l p cs rest k h d =
+    (d ≡ 0 → filledIn s (standing l p) (cs ++ rest) .lines ≤ filledIn s (emptyLine (l + 1)) (drop k cs ++ rest) .lines)
+    × Pass inRun (take h (drop k cs))
 
-abbrev pub Roomy : Settings → ℕ → Place → List ℕ → Step → Type 0
-Roomy s l p cs (go q ds r) = GoesOn s l p cs q
-Roomy s l p cs (stop e ds k h d r) = EndsThere s l p cs k (h .chars) d
+abbrev pub Roomy : Settings → ℕ → Place → (cs rest : List ℕ) → Step → Type 0
+Roomy s l p cs rest (go q ds r) = GoesOn s l p cs rest q
+Roomy s l p cs rest (stop e ds k h d r) = EndsThere s l p cs rest k (h .chars) d
 
--- What is known of a token where the line has a word or not: a run counts its spaces, but for one that is held before the line.
-abbrev pub Known : (begun : Bool) → Tok → Type 0
-Known b newLine = Unit {0}
-Known b carriageReturn = Unit {0}
-Known b tab = Unit {0}
-Known b softHyphen = Unit {0}
-Known b (space cs n e) = Pass inRun cs × (b ≡ true → counted cs ≤ n)
-Known b (word cs e) = Pass inWord cs
+-- What is known of a token and the text after it, where the line has a word or not: a run counts its spaces, but for one that is held before
+-- the line.
+abbrev pub Known : (begun : Bool) → (rest : List ℕ) → Tok → Type 0
+Known b rest newLine = Unit {0}
+Known b rest carriageReturn = Unit {0}
+Known b rest tab = Unit {0}
+Known b rest softHyphen = Unit {0}
+Known b rest (space cs n e) = Pass inRun cs × (b ≡ true → counted cs ≤ n)
+Known b rest (word cs e) = Pass inWord cs × Stops inWord rest
 
-module _ (s : Settings) (l : ℕ) (p : Place) (at : ℕ) (f : InBox s p) where
+module _ (s : Settings) (some : 1 ≤ s .glyph .0) (l : ℕ) (p : Place) (at : ℕ) (f : InBox s p) where
   abbrev g : ℕ
   g = s .glyph .0
 
@@ -96,10 +99,6 @@ module _ (s : Settings) (l : ℕ) (p : Place) (at : ℕ) (f : InBox s p) where
   unfolding fitsIn
   fits-by n e = leb-true n (roomOf (p .cursor)) e
 
-  -- As many lines are full as before: that is fewer than when the line has ended.
-  ends : (z : Fill) → z .lines ≡ l → Under w z (emptyLine (l + 1))
-  ends z e = under-fewer w z (emptyLine (l + 1)) (omega arith)
-
   -- Where the cursor goes on by what there is room for.
   box-on : (n : ℕ) (sp : Spaces) (b : Bool) → n ≤ roomOf (p .cursor) → sp .width .0 ≡ p .spaces .width .0
       → InBox s (record { cursor = advance (p .cursor) n; spaces = sp; empty = b })
@@ -111,9 +110,43 @@ module _ (s : Settings) (l : ℕ) (p : Place) (at : ℕ) (f : InBox s p) where
   unfolding skips
   skipped e = rw (and-true (p .empty) (not (leadingOn s)) e .0) refl
 
+  -- ---- the rest of the text
+
+  -- From no further it fills no more lines.
+  fills-no-more : (rest : List ℕ) (a b : Fill) → Under w a b → filledIn s a rest .lines ≤ filledIn s b rest .lines
+  fills-no-more rest a b u = fill-under g (s .tab .0) some w w (omega arith) inWord rest a b u .lines
+
+  apart : (xs rest : List ℕ) → filledIn s x (xs ++ rest) ≡ filledIn s (filledIn s x xs) rest
+  apart xs rest = fill-append inWord g (s .tab .0) w x xs rest
+
+  goes : (xs rest : List ℕ) (y : Fill) → Under w (filledIn s x xs) y → filledIn s x (xs ++ rest) .lines ≤ filledIn s y rest .lines
+  goes xs rest y u = omega (arith, ap (λ (z : Fill). z .lines) (apart xs rest), fills-no-more rest _ y u)
+
+  -- The line has ended behind k characters, and nothing of them moves along.
+  ends : (xs rest : List ℕ) (k : ℕ) → filledIn s x (take k xs) .part ≡ 0 → filledIn s x (take k xs) .lines ≡ l
+      → filledIn s x (xs ++ rest) .lines ≤ filledIn s (emptyLine (l + 1)) (drop k xs ++ rest) .lines
+  ends xs rest k none same =
+      let next = drop k xs ++ rest in
+      let whole : xs ++ rest ≡ take k xs ++ next =
+      ap (λ (ys : List ℕ). ys ++ rest) (sym (take-append-drop k xs)) ∙ append-assoc (take k xs) (drop k xs) rest in
+      let u = under-fewer w (filledIn s x (take k xs)) (emptyLine (l + 1)) none (omega (arith, same)) in
+      omega (arith, ap (λ (ys : List ℕ). filledIn s x ys .lines) whole, goes (take k xs) next (emptyLine (l + 1)) u)
+
+  no-word : (c : ℕ) (z : Fill) → inWord c ≡ false → fillBy inWord g (s .tab .0) w z c ≡ fillBy inWord g (s .tab .0) w (fillOther z) c
+  unfolding fillBy fillBlank
+  no-word c z e = pick-false (inWord c) _ _ e ∙ sym (pick-false (inWord c) _ _ e)
+
+  -- Behind a word comes no character of one: whether the word would have moved along does not matter.
+  word-over : (rest : List ℕ) (z y : Fill) → Stops inWord rest → Under w (fillOther z) y → filledIn s z rest .lines ≤ filledIn s y rest .lines
+  unfolding fillAll
+  word-over [] z y h u = u .lines
+  word-over (c ∷ cs) z y h u =
+      let same : fillBy inWord g (s .tab .0) w z c ≡ fillBy inWord g (s .tab .0) w (fillOther z) c = no-word c z h in
+      omega (arith, ap (λ (v : Fill). filledIn s v cs .lines) same, fills-no-more (c ∷ cs) (fillOther z) y u)
+
   -- ---- a space run
 
-  module _ (cs : List ℕ) (n : ℕ) (run : Pass inRun cs) (counts : not (p .empty) ≡ true → counted cs ≤ n) where
+  module _ (cs rest : List ℕ) (n : ℕ) (more : 1 ≤ length cs) (run : Pass inRun cs) (counts : not (p .empty) ≡ true → counted cs ≤ n) where
     spaces-wide : n * g ≤ spacesWidth (p .spaces) n
     unfolding spacesWidth
     spaces-wide = omega (arith, mul-le-mul-left n (f .wide))
@@ -122,28 +155,37 @@ module _ (s : Settings) (l : ℕ) (p : Place) (at : ℕ) (f : InBox s p) where
     run-at =
         by-test (not (p .empty))
         (λ e. omega (arith, run-fills g (s .tab .0) w cs x run .at, mul-le-mul-right g (counts e), spaces-wide))
-        (λ e. let same = ap (λ (z : Fill). z .at) (run-still g (s .tab .0) w cs x run e) in omega (arith, same))
+        (λ e. omega (arith, run-still g (s .tab .0) w cs x run e))
 
-    space-room : (look : Looked) → Roomy s l p cs (onSpace s p at cs n look)
+    -- The pass then stands so far on, or further.
+    run-under : (to : ℕ) → filledIn s x cs .at ≤ to → Under w (filledIn s x cs) (record { lines = l; at = to; begun = not (p .empty); moves = not (p .empty); part = 0 })
+    run-under to h =
+        let r = run-fills g (s .tab .0) w cs x run in
+        let rested = run-rested g (s .tab .0) w cs x more run in
+        under-by w _ _ (rested .0) (omega (arith, r .lines)) (λ _ _. h) (λ _ b. sym (r .begun) ∙ b) (λ _ m. sym (r .begun) ∙ rested .1 m)
+
+    cut-ends : (k : ℕ) → 1 ≤ k → filledIn s x (cs ++ rest) .lines ≤ filledIn s (emptyLine (l + 1)) (drop k cs ++ rest) .lines
+    cut-ends k h =
+        let part = pass-parts inRun k cs run .0 in
+        let taken : 1 ≤ length (take k cs) = omega (arith, length-take k cs, more) in
+        ends cs rest k (run-rested g (s .tab .0) w (take k cs) x taken part .0) (run-fills g (s .tab .0) w (take k cs) x part .lines)
+
+    space-room : (look : Looked) → Roomy s l p cs rest (onSpace s p at cs n look)
     unfolding onSpace cutRun spacesAfter advance
     space-room look =
-        let taken = min (roomOf (p .cursor) / (spacesWidth (p .spaces) n / n) + 1) n in
-        let r = run-fills g (s .tab .0) w cs x run in
-        let parts = pass-parts inRun taken cs run in
-        pick-cases (Roomy s l p cs) (skips s p)
+        let wide = spacesWidth (p .spaces) n in
+        let taken = min (roomOf (p .cursor) / (wide / n) + 1) n in
+        let P = Roomy s l p cs rest in
+        pick-cases P (skips s p)
         (λ e. (
           record { width = f .width; tab = f .tab; low = f .low; wide = f .wide },
-          subst (λ (z : Fill). Under w z x) (sym (run-still g (s .tab .0) w cs x run (skipped e))) (under-self w x),
+          goes cs rest x (run-under position (omega (arith, run-still g (s .tab .0) w cs x run (skipped e)))),
         ))
         λ _.
-        pick-cases (Roomy s l p cs) (fitsIn (p .cursor) (spacesWidth (p .spaces) n))
+        pick-cases P (fitsIn (p .cursor) wide) (λ e. (box-on _ _ _ (fits-by _ e) refl, goes cs rest _ (run-under (position + wide) run-at)))
         (λ e. (
-          box-on _ _ _ (fits-by _ e) refl,
-          record { lines = omega (arith, r .lines); at = λ _ _. run-at; begun = λ _ b. sym (r .begun) ∙ b },
-        ))
-        (λ _. (
-          λ _. ends _ (run-fills g (s .tab .0) w (take taken cs) x (parts .0) .lines),
-          pass-parts inRun (heldAfter (length cs) n taken .chars) (drop taken cs) (parts .1) .0,
+          λ _. cut-ends taken (omega (arith, some-spaces (p .spaces) n _ (too-wide (p .cursor) wide e))),
+          pass-parts inRun (heldAfter (length cs) n taken .chars) (drop taken cs) (pass-parts inRun taken cs run .1) .0,
         ))
 
   -- ---- a tab
@@ -156,88 +198,100 @@ module _ (s : Settings) (l : ℕ) (p : Place) (at : ℕ) (f : InBox s p) where
       (λ d. rw (ne-eqb (p .cursor .tab .0) 0 d) (omega (arith, next-stop position (p .cursor .tab .0) (omega arith) .0))))
 
   -- The pass stands as far on as the tab goes, or at the edge.
-  tab-under : (to : ℕ) → position ≤ to → min (nextStop (s .tab .0) position) w ≤ to
-      → Under w (filledIn s x (0x0009 ∷ [])) (record { lines = l; at = to; begun = not (p .empty) })
+  tab-under : (to : ℕ) → position ≤ to → (not (p .empty) ≡ true → min (nextStop (s .tab .0) position) w ≤ to)
+      → Under w (filledIn s x (0x0009 ∷ [])) (record { lines = l; at = to; begun = not (p .empty); moves = not (p .empty); part = 0 })
   tab-under to a b =
-      let P : Fill → Type 0 = λ (z : Fill). Under w z (record { lines = l; at = to; begun = not (p .empty) }) in
+      let P : Fill → Type 0 = λ (z : Fill). Under w z (record { lines = l; at = to; begun = not (p .empty); moves = not (p .empty); part = 0 }) in
       subst P (sym (tab-fills g (s .tab .0) w x))
-      (pick-cases P (not (p .empty)) (λ _. record { lines = omega arith; at = λ _ _. b; begun = λ _ e. e })
-      (λ _. record { lines = omega arith; at = λ _ _. a; begun = λ _ e. e }))
+      (pick-cases P (not (p .empty)) (λ h. under-by w _ _ refl (omega arith) (λ _ _. b h) (λ _ e. e) (λ _ e. e))
+      (λ _. under-by w _ _ refl (omega arith) (λ _ _. a) (λ _ e. e) (λ _ e. absurd (false≢true e))))
 
-  tab-room : (look : Looked) → Roomy s l p (0x0009 ∷ []) (onTab s p at look)
+  tab-room : (rest : List ℕ) (look : Looked) → Roomy s l p (0x0009 ∷ []) rest (onTab s p at look)
   unfolding onTab advance
-  tab-room look =
-      let P = Roomy s l p (0x0009 ∷ []) in
+  tab-room rest look =
+      let P = Roomy s l p (0x0009 ∷ []) rest in
       pick-cases P (skips s p)
       (λ e. (
         record { width = f .width; tab = f .tab; low = f .low; wide = f .wide },
-        subst (λ (z : Fill). Under w z x) (sym (tab-fills g (s .tab .0) w x ∙ pick-false (not (p .empty)) _ _ (skipped e))) (under-self w x),
+        goes (0x0009 ∷ []) rest x (tab-under position (omega arith) (λ h. absurd (false≢true (sym (skipped e) ∙ h)))),
       ))
       λ _.
       pick-cases P (fitsIn (p .cursor) (tabWidth (p .cursor)))
-      (λ e. (box-on _ _ _ (fits-by _ e) refl, tab-under _ (omega arith) (omega (arith, tab-to))))
-      (λ _. (box-on _ _ _ (omega arith) refl, tab-under _ (omega arith) (omega (arith, room-is))))
+      (λ e. (box-on _ _ _ (fits-by _ e) refl, goes (0x0009 ∷ []) rest _ (tab-under _ (omega arith) (λ _. omega (arith, tab-to)))))
+      (λ _. (box-on _ _ _ (omega arith) refl, goes (0x0009 ∷ []) rest _ (tab-under _ (omega arith) (λ _. omega (arith, room-is)))))
 
   -- ---- a soft hyphen
 
   abbrev hyphen : List ℕ
   hyphen = 0x00AD ∷ []
 
-  hyphen-on : (n : ℕ) → Under w (filledIn s x hyphen) (record { lines = l; at = position + n; begun = not (p .empty) })
+  hyphen-on : (n : ℕ) → Under w (filledIn s x hyphen) (record { lines = l; at = position + n; begun = not (p .empty); moves = not (p .empty); part = 0 })
   hyphen-on n =
-      subst (λ (z : Fill). Under w z (record { lines = l; at = position + n; begun = not (p .empty) })) (sym (hyphen-fills g (s .tab .0) w x))
-      (record { lines = omega arith; at = λ _ _. omega arith; begun = λ _ e. e })
+      let P : Fill → Type 0 = λ (z : Fill). Under w z (record { lines = l; at = position + n; begun = not (p .empty); moves = not (p .empty); part = 0 }) in
+      subst P (sym (hyphen-fills g (s .tab .0) w x)) (under-by w _ _ refl (omega arith) (λ _ _. omega arith) (λ _ e. e) (λ _ e. absurd (false≢true e)))
 
-  stays : GoesOn s l p hyphen p
-  stays = (f, subst (λ (z : Fill). Under w z x) (sym (hyphen-fills g (s .tab .0) w x)) (under-self w x))
+  stays : (rest : List ℕ) → GoesOn s l p hyphen rest p
+  stays rest =
+      let P : Fill → Type 0 = λ (z : Fill). Under w z x in
+      (f, goes hyphen rest x (subst P (sym (hyphen-fills g (s .tab .0) w x)) (under-by w _ _ refl (omega arith) (λ _ _. omega arith) (λ _ e. e) (λ _ e. absurd (false≢true e)))))
 
-  hyphen-taken : filledIn s x (take 1 hyphen) .lines ≡ l
-  hyphen-taken = ap (λ (z : Fill). z .lines) (hyphen-fills g (s .tab .0) w x)
+  hyphen-ends : (rest : List ℕ) → filledIn s x (hyphen ++ rest) .lines ≤ filledIn s (emptyLine (l + 1)) (drop 1 hyphen ++ rest) .lines
+  hyphen-ends rest =
+      let is = hyphen-fills g (s .tab .0) w x in
+      ends hyphen rest 1 (ap (λ (z : Fill). z .part) is) (ap (λ (z : Fill). z .lines) is)
 
-  break-room : (v : NextWord) (r : ℕ) → Roomy s l p hyphen (onBreak s p at v r)
+  break-room : (rest : List ℕ) (v : NextWord) (r : ℕ) → Roomy s l p hyphen rest (onBreak s p at v r)
   unfolding onBreak hyphenated advance fillAll
-  break-room Nothing r = stays
-  break-room (Width v) r =
-      let P = Roomy s l p hyphen in
+  break-room rest Nothing r = stays rest
+  break-room rest (Width v) r =
+      let P = Roomy s l p hyphen rest in
       pick-cases P (p .empty || not (fitsIn (p .cursor) (v .0)))
       (λ _.
       pick-cases P (fitsIn (p .cursor) g)
-      (λ e. pick-cases P (p .empty) (λ _. (box-on _ _ _ (fits-by _ e) refl, hyphen-on g)) (λ _. (λ _. ends _ hyphen-taken, tt)))
-      (λ _. pick-cases P (p .empty) (λ _. stays) (λ _. (λ _. ends x refl, tt))))
-      (λ _. stays)
+      (λ e. pick-cases P (p .empty) (λ _. (box-on _ _ _ (fits-by _ e) refl, goes hyphen rest _ (hyphen-on g))) (λ _. (λ _. hyphen-ends rest, tt)))
+      (λ _. pick-cases P (p .empty) (λ _. stays rest) (λ _. (λ _. ends hyphen rest 0 refl refl, tt))))
+      (λ _. stays rest)
 
   -- ---- a word
 
-  -- So many characters of a word are taken, for which there is room.
-  part-lines : (cs : List ℕ) (k : ℕ) → Pass inWord cs → k * g ≤ roomOf (p .cursor) → filledIn s x (take k cs) .lines ≡ l
-  part-lines cs k all h =
+  -- So many characters of a word are taken on an empty line, for which there is room.
+  part-ends : (cs rest : List ℕ) (k : ℕ) → Pass inWord cs → p .empty ≡ true → k * g ≤ roomOf (p .cursor)
+      → filledIn s x (cs ++ rest) .lines ≤ filledIn s (emptyLine (l + 1)) (drop k cs ++ rest) .lines
+  part-ends cs rest k all e h =
       let few : length (take k cs) ≤ k = omega (arith, length-take k cs) in
-      word-fills g (s .tab .0) w (take k cs) x (pass-parts inWord k cs all .0) (omega (arith, room-is, mul-le-mul-right g few)) .0
+      let r = word-fills g (s .tab .0) w (take k cs) x (pass-parts inWord k cs all .0) (omega (arith, room-is, mul-le-mul-right g few)) in
+      ends cs rest k (r .part (rw e refl) refl) (r .lines)
 
-  word-room : (cs : List ℕ) → Pass inWord cs → Roomy s l p cs (onWord s p at cs)
+  word-room : (cs rest : List ℕ) → Pass inWord cs → Stops inWord rest → Roomy s l p cs rest (onWord s p at cs)
   unfolding onWord cutWord unfitWord advance fillAll spacesAfter
-  word-room cs all =
-      let P = Roomy s l p cs in
+  word-room cs rest all over =
+      let P = Roomy s l p cs rest in
       pick-cases P (fitsIn (p .cursor) (length cs * g))
       (λ e.
       let r = word-fills g (s .tab .0) w cs x all (omega (arith, room-is, fits-by _ e)) in
-      (box-on _ _ _ (fits-by _ e) refl, record { lines = omega (arith, r .0); at = λ _ _. omega (arith, r .1); begun = λ _ _. refl }))
+      let u = under-by w (fillOther (filledIn s x cs)) (record { lines = l; at = position + length cs * g; begun = true; moves = true; part = 0 }) refl
+      (omega (arith, r .lines)) (λ _ _. omega (arith, r .at)) (λ _ _. refl) (λ _ _. refl) in
+      (box-on _ _ _ (fits-by _ e) refl, omega (arith, ap (λ (z : Fill). z .lines) (apart cs rest), word-over rest (filledIn s x cs) _ over u)))
       λ _.
       pick-cases P (p .empty)
-      (λ _.
+      (λ e.
       pick-cases P (eqb (roomOf (p .cursor) / g) 0)
-      (λ _. pick-cases P (wrapOn s && hasMoved (p .cursor)) (λ _. (λ _. ends x refl, tt))
-      (λ _. (λ d. ends _ (part-lines cs (length cs) all (omega (arith, ap (λ (n : ℕ). n * g) d, zero-mul g))), tt)))
-      (λ _. (λ _. ends _ (part-lines cs (roomOf (p .cursor) / g) all (div-mul-le-self (roomOf (p .cursor)) g)), tt)))
-      (λ _. (λ _. ends x refl, tt))
+      (λ _. pick-cases P (wrapOn s && hasMoved (p .cursor)) (λ _. (λ _. ends cs rest 0 refl refl, tt))
+      (λ _. (λ d. part-ends cs rest (length cs) all e (omega (arith, ap (λ (n : ℕ). n * g) d, zero-mul g)), tt)))
+      (λ _. (λ _. part-ends cs rest (roomOf (p .cursor) / g) all e (div-mul-le-self (roomOf (p .cursor)) g), tt)))
+      (λ _. (λ _. ends cs rest 0 refl refl, tt))
 
   -- ---- any token
 
-  pub step-room : (t : Tok) (ts : List Tok) → Known (not (p .empty)) t → Roomy s l p (textOf t) (step s p at t ts)
+  line-ends : (c : ℕ) (rest : List ℕ) → filledIn s x (c ∷ []) ≡ emptyLine (l + 1)
+      → filledIn s x ((c ∷ []) ++ rest) .lines ≤ filledIn s (emptyLine (l + 1)) (drop 1 (c ∷ []) ++ rest) .lines
+  line-ends c rest is = goes (c ∷ []) rest (emptyLine (l + 1)) (subst (λ (z : Fill). Under w z (emptyLine (l + 1))) (sym is) (under-self w _))
+
+  pub step-room : (t : Tok) (ts : List Tok) → SoundTok t (spell ts) → Known (not (p .empty)) (spell ts) t → Roomy s l p (textOf t) (spell ts) (step s p at t ts)
   unfolding step
-  step-room newLine ts h = (λ _. subst (λ (z : Fill). Under w z (emptyLine (l + 1))) (sym (new-line-fills g (s .tab .0) w x)) (under-self w _), tt)
-  step-room carriageReturn ts h = (λ _. subst (λ (z : Fill). Under w z (emptyLine (l + 1))) (sym (return-fills g (s .tab .0) w x)) (under-self w _), tt)
-  step-room tab ts h = tab-room _
-  step-room softHyphen ts h = break-room _ _
-  step-room (space cs n e) ts h = space-room cs n (h .0) (h .1) _
-  step-room (word cs e) ts h = word-room cs h
+  step-room newLine ts sound h = (λ _. line-ends 0x000A (spell ts) (new-line-fills g (s .tab .0) w x), tt)
+  step-room carriageReturn ts sound h = (λ _. line-ends 0x000D (spell ts) (return-fills g (s .tab .0) w x), tt)
+  step-room tab ts sound h = tab-room (spell ts) _
+  step-room softHyphen ts sound h = break-room (spell ts) _ _
+  step-room (space cs n e) ts sound h = space-room cs (spell ts) n (sound .0) (h .0) (h .1) _
+  step-room (word cs e) ts sound h = word-room cs (spell ts) (h .0) (h .1)

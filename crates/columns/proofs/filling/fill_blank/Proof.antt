@@ -33,11 +33,15 @@ returns-2 c =
     let a = e .before .args in
     c .fill-to2 .ensures ∙ on-tab (a .glyph) (a .tab) (a .w) (a .f) (a .b) (e .if1 .left) (i .if2 .taken) (n .next-stop .result) (n .next-stop .ensures)
 
+fill-other-requires : tie.Need-fill-other-requires
+fill-other-requires c κs = search needs
+
 returns-3 : tie.Need-returns-3
 returns-3 c =
-    let e = c .before in
+    let i = c .before in
+    let e = i .before in
     let a = e .before .args in
-    on-other (a .glyph) (a .tab) (a .w) (a .f) (a .b) (e .if1 .left) (c .if2 .left)
+    on-other (a .glyph) (a .tab) (a .w) (a .f) (a .b) (e .if1 .left) (i .if2 .left) (c .fill-other .result) (c .fill-other .ensures)
 
 pub fill-blank-spec : {M : Type 1} → statement M
 fill-blank-spec =
@@ -49,4 +53,5 @@ fill-blank-spec =
     next-stop-requires
     fill-to-requires-2
     returns-2
+    fill-other-requires
     returns-3)

@@ -47,14 +47,18 @@ returns-3 c =
     let a = b .before .args in
     by-blank (a .glyph) (a .tab) (a .w) (a .f) (a .b) (sym (b .begins-word .ensures) ∙ e .if1 .left) (sym (n .breaks-line .ensures) ∙ i .if2 .left) (j .if3 .taken) (c .fill-blank .result) (c .fill-blank .ensures)
 
+fill-other-requires : tie.Need-fill-other-requires
+fill-other-requires c κs = search needs
+
 returns-4 : tie.Need-returns-4
 returns-4 c =
-    let i = c .before in
+    let j = c .before in
+    let i = j .before in
     let n = i .before in
     let e = n .before in
     let b = e .before in
     let a = b .before .args in
-    by-none (a .glyph) (a .tab) (a .w) (a .f) (a .b) (sym (b .begins-word .ensures) ∙ e .if1 .left) (sym (n .breaks-line .ensures) ∙ i .if2 .left) (c .if3 .left)
+    by-none (a .glyph) (a .tab) (a .w) (a .f) (a .b) (sym (b .begins-word .ensures) ∙ e .if1 .left) (sym (n .breaks-line .ensures) ∙ i .if2 .left) (j .if3 .left) (c .fill-other .result) (c .fill-other .ensures)
 
 pub fill-byte-spec : {M : Type 1} → statement M
 fill-byte-spec =
@@ -68,4 +72,5 @@ fill-byte-spec =
     returns-2
     fill-blank-requires
     returns-3
+    fill-other-requires
     returns-4)

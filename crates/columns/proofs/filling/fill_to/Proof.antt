@@ -13,7 +13,7 @@ lesser-requires c κs = search needs
 returns : tie.Need-returns
 returns c =
     let f : Fill = c .before .args .f in
-    ap (λ (n : ℕ). record { lines = f .lines; at = n; begun = f .begun }) (c .lesser .ensures)
+    ap (λ (n : ℕ). record { lines = f .lines; at = n; begun = f .begun; moves = f .begun; part = 0 }) (c .lesser .ensures)
 
 pub fill-to-spec : {M : Type 1} → statement M
 fill-to-spec = tie.close (tie.spec lesser-requires returns)

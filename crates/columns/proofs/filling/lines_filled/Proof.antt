@@ -26,7 +26,7 @@ fill-byte-requires c κs =
     let l = t .before in
     let p = l .before .before .pre in
     let small = l .loop .inv .small in
-    (p .0, p .1, p .2, (small .0, omega (arith, small .1, t .loop-test .taken, p .3)))
+    (p .0, p .1, p .2, (small .0, small .1, omega (arith, small .2, t .loop-test .taken, p .3)))
 
 add-i : tie.Need-add-i Inv-loop μ-loop
 add-i c = search needs
