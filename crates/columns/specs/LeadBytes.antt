@@ -76,21 +76,25 @@ leads-says b high =
 -- ---- what it fills
 
 module _ (g t w : ℕ) where
+  -- A character of a word, or another that does nothing of its own.
+  abbrev either : Bool → Fill → Fill
+  either b x = pick b (fillWord g w x) (fillOther x)
+
   -- Any other does nothing unless it is of a word.
   others-fill : (f : ℕ → Bool) (x : Fill) (c : ℕ) → (breaks c ≡ false) → (c ≡ 0x0020 → ⊥) → (c ≡ 0x0009 → ⊥)
-      → fillBy f g t w x c ≡ pick (f c) (fillWord g w x) (fillOther x)
+      → fillBy f g t w x c ≡ either (f c) x
   unfolding fillBy fillBlank pick
   others-fill f x c b d e = rw (b, ne-eqb c 0x0020 d, ne-eqb c 0x0009 e) (ap (λ (z : Fill). pick (f c) (fillWord g w x) z) (pick-same (x .begun) (fillOther x)))
 
-  high-fill : (f : ℕ → Bool) (x : Fill) (c : ℕ) → 0x80 ≤ c → fillBy f g t w x c ≡ pick (f c) (fillWord g w x) (fillOther x)
+  high-fill : (f : ℕ → Bool) (x : Fill) (c : ℕ) → 0x80 ≤ c → fillBy f g t w x c ≡ either (f c) x
   unfolding breaks pick
   high-fill f x c h =
       others-fill f x c (rw (ne-eqb c 0x000A (λ e. omega arith), ne-eqb c 0x000D (λ e. omega arith)) refl) (λ e. omega arith) (λ e. omega arith)
 
   -- Where a test tells of fewer characters, lines are filled no further.
-  fewer-fill : (a b : Bool) (x : Fill) → (a ≡ true → b ≡ true) → Under w (pick a (fillWord g w x) (fillOther x)) (pick b (fillWord g w x) (fillOther x))
+  fewer-fill : (a b : Bool) (x : Fill) → (a ≡ true → b ≡ true) → Under w (either a x) (either b x)
   unfolding pick
-  fewer-fill true b x f = subst (λ (z : Bool). Under w (fillWord g w x) (pick z (fillWord g w x) (fillOther x))) (sym (f refl)) (under-self w _)
+  fewer-fill true b x f = subst (λ (z : Bool). Under w (fillWord g w x) (either z x)) (sym (f refl)) (under-self w _)
   fewer-fill false true x f = under-word w g x
   fewer-fill false false x f = under-self w _
 
@@ -114,7 +118,7 @@ module _ (g t w : ℕ) where
       let space = other-than inWord c 0x0020 e refl in
       let tab = other-than inWord c 0x0009 e refl in
       subst (λ (z : Fill). Under w z (fillBy inWord g t w x c)) (sym (others-fill leads x c free space tab))
-      (subst (Under w (pick (leads c) (fillWord g w x) (fillOther x))) (sym (others-fill inWord x c free space tab)) (fewer-fill (leads c) (inWord c) x (λ _. e))))
+      (subst (Under w (either (leads c) x)) (sym (others-fill inWord x c free space tab)) (fewer-fill (leads c) (inWord c) x (λ _. e))))
       (λ e. subst (Under w (fillBy leads g t w x c)) (same-fill c (no-leads c h e ∙ sym e) x) (under-self w _))
 
   -- The bytes after the first fill nothing.
@@ -141,7 +145,7 @@ module _ (g t w : ℕ) where
   once b rest c high far still f x =
       under-then w _ (fillBy leads g t w x b) _ (still (fillBy leads g t w x b))
       (subst (λ (z : Fill). Under w z (fillBy inWord g t w x c)) (sym (high-fill leads x b high))
-      (subst (Under w (pick (leads b) (fillWord g w x) (fillOther x))) (sym (high-fill inWord x c far)) (fewer-fill (leads b) (inWord c) x f)))
+      (subst (Under w (either (leads b) x)) (sym (high-fill inWord x c far)) (fewer-fill (leads b) (inWord c) x f)))
 
   two-bytes : (c : ℕ) → 0x80 ≤ c → c < 0x800 → Once ((0xC0 + c / 64) ∷ trail c ∷ []) c
   two-bytes c from below =

@@ -91,6 +91,10 @@ module _ (s : Settings) (some : 1 ≤ s .glyph .0) (l : ℕ) (p : Place) (at : �
   abbrev x : Fill
   x = standing l p
 
+  -- The same line, filled up to a place.
+  abbrev filledTo : (to : ℕ) → Fill
+  filledTo n = record { lines = l; at = n; begun = not (p .empty); moves = not (p .empty); part = 0 }
+
   room-is : position + roomOf (p .cursor) ≡ w
   unfolding roomOf
   room-is = omega (arith, f .width, f .low)
@@ -158,7 +162,7 @@ module _ (s : Settings) (some : 1 ≤ s .glyph .0) (l : ℕ) (p : Place) (at : �
         (λ e. omega (arith, run-still g (s .tab .0) w cs x run e))
 
     -- The pass then stands so far on, or further.
-    run-under : (to : ℕ) → filledIn s x cs .at ≤ to → Under w (filledIn s x cs) (record { lines = l; at = to; begun = not (p .empty); moves = not (p .empty); part = 0 })
+    run-under : (to : ℕ) → filledIn s x cs .at ≤ to → Under w (filledIn s x cs) (filledTo to)
     run-under to h =
         let r = run-fills g (s .tab .0) w cs x run in
         let rested = run-rested g (s .tab .0) w cs x more run in
@@ -199,9 +203,9 @@ module _ (s : Settings) (some : 1 ≤ s .glyph .0) (l : ℕ) (p : Place) (at : �
 
   -- The pass stands as far on as the tab goes, or at the edge.
   tab-under : (to : ℕ) → position ≤ to → (not (p .empty) ≡ true → min (nextStop (s .tab .0) position) w ≤ to)
-      → Under w (filledIn s x (0x0009 ∷ [])) (record { lines = l; at = to; begun = not (p .empty); moves = not (p .empty); part = 0 })
+      → Under w (filledIn s x (0x0009 ∷ [])) (filledTo to)
   tab-under to a b =
-      let P : Fill → Type 0 = λ (z : Fill). Under w z (record { lines = l; at = to; begun = not (p .empty); moves = not (p .empty); part = 0 }) in
+      let P : Fill → Type 0 = λ (z : Fill). Under w z (filledTo to) in
       subst P (sym (tab-fills g (s .tab .0) w x))
       (pick-cases P (not (p .empty)) (λ h. under-by w _ _ refl (omega arith) (λ _ _. b h) (λ _ e. e) (λ _ e. e))
       (λ _. under-by w _ _ refl (omega arith) (λ _ _. a) (λ _ e. e) (λ _ e. absurd (false≢true e))))
@@ -225,15 +229,15 @@ module _ (s : Settings) (some : 1 ≤ s .glyph .0) (l : ℕ) (p : Place) (at : �
   abbrev hyphen : List ℕ
   hyphen = 0x00AD ∷ []
 
-  hyphen-on : (n : ℕ) → Under w (filledIn s x hyphen) (record { lines = l; at = position + n; begun = not (p .empty); moves = not (p .empty); part = 0 })
+  hyphen-on : (n : ℕ) → Under w (filledIn s x hyphen) (filledTo (position + n))
   hyphen-on n =
-      let P : Fill → Type 0 = λ (z : Fill). Under w z (record { lines = l; at = position + n; begun = not (p .empty); moves = not (p .empty); part = 0 }) in
+      let P : Fill → Type 0 = λ (z : Fill). Under w z (filledTo (position + n)) in
       subst P (sym (hyphen-fills g (s .tab .0) w x)) (under-by w _ _ refl (omega arith) (λ _ _. omega arith) (λ _ e. e) (λ _ e. absurd (false≢true e)))
 
   stays : (rest : List ℕ) → GoesOn s l p hyphen rest p
   stays rest =
-      let P : Fill → Type 0 = λ (z : Fill). Under w z x in
-      (f, goes hyphen rest x (subst P (sym (hyphen-fills g (s .tab .0) w x)) (under-by w _ _ refl (omega arith) (λ _ _. omega arith) (λ _ e. e) (λ _ e. absurd (false≢true e)))))
+      let u = under-by w (fillOther x) x refl (omega arith) (λ _ _. omega arith) (λ _ e. e) (λ _ e. absurd (false≢true e)) in
+      (f, goes hyphen rest x (subst (λ (z : Fill). Under w z x) (sym (hyphen-fills g (s .tab .0) w x)) u))
 
   hyphen-ends : (rest : List ℕ) → filledIn s x (hyphen ++ rest) .lines ≤ filledIn s (emptyLine (l + 1)) (drop 1 hyphen ++ rest) .lines
   hyphen-ends rest =
@@ -287,7 +291,8 @@ module _ (s : Settings) (some : 1 ≤ s .glyph .0) (l : ℕ) (p : Place) (at : �
       → filledIn s x ((c ∷ []) ++ rest) .lines ≤ filledIn s (emptyLine (l + 1)) (drop 1 (c ∷ []) ++ rest) .lines
   line-ends c rest is = goes (c ∷ []) rest (emptyLine (l + 1)) (subst (λ (z : Fill). Under w z (emptyLine (l + 1))) (sym is) (under-self w _))
 
-  pub step-room : (t : Tok) (ts : List Tok) → SoundTok t (spell ts) → Known (not (p .empty)) (spell ts) t → Roomy s l p (textOf t) (spell ts) (step s p at t ts)
+  pub step-room : (t : Tok) (ts : List Tok) → SoundTok t (spell ts) → Known (not (p .empty)) (spell ts) t
+      → Roomy s l p (textOf t) (spell ts) (step s p at t ts)
   unfolding step
   step-room newLine ts sound h = (λ _. line-ends 0x000A (spell ts) (new-line-fills g (s .tab .0) w x), tt)
   step-room carriageReturn ts sound h = (λ _. line-ends 0x000D (spell ts) (return-fills g (s .tab .0) w x), tt)

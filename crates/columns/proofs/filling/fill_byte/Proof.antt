@@ -45,7 +45,8 @@ returns-3 c =
     let e = n .before in
     let b = e .before in
     let a = b .before .args in
-    by-blank (a .glyph) (a .tab) (a .w) (a .f) (a .b) (sym (b .begins-word .ensures) ∙ e .if1 .left) (sym (n .breaks-line .ensures) ∙ i .if2 .left) (j .if3 .taken) (c .fill-blank .result) (c .fill-blank .ensures)
+    by-blank (a .glyph) (a .tab) (a .w) (a .f) (a .b) (sym (b .begins-word .ensures) ∙ e .if1 .left)
+    (sym (n .breaks-line .ensures) ∙ i .if2 .left) (j .if3 .taken) (c .fill-blank .result) (c .fill-blank .ensures)
 
 fill-other-requires : tie.Need-fill-other-requires
 fill-other-requires c κs = search needs
@@ -58,7 +59,8 @@ returns-4 c =
     let e = n .before in
     let b = e .before in
     let a = b .before .args in
-    by-none (a .glyph) (a .tab) (a .w) (a .f) (a .b) (sym (b .begins-word .ensures) ∙ e .if1 .left) (sym (n .breaks-line .ensures) ∙ i .if2 .left) (j .if3 .left) (c .fill-other .result) (c .fill-other .ensures)
+    by-none (a .glyph) (a .tab) (a .w) (a .f) (a .b) (sym (b .begins-word .ensures) ∙ e .if1 .left)
+    (sym (n .breaks-line .ensures) ∙ i .if2 .left) (j .if3 .left) (c .fill-other .result) (c .fill-other .ensures)
 
 pub fill-byte-spec : {M : Type 1} → statement M
 fill-byte-spec =
