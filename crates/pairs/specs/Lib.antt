@@ -1,6 +1,7 @@
 pub mod Pairs
 pub mod PlainWords
 pub mod Within
+pub mod Stretches
 pub mod PairLaws
 pub mod PlainLaws
 pub mod WithinLaws
