@@ -5,3 +5,4 @@ pub mod Stretches
 pub mod PairLaws
 pub mod PlainLaws
 pub mod WithinLaws
+pub mod StretchLaws
