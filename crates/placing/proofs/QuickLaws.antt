@@ -77,13 +77,13 @@ unfolding fitsIn roomOf
 unfit c w e = leb-false w _ e
 
 -- A line that ends before it: how far it looked depends on whether the space before it fits.
-record WaitEnd (s : Settings) (p : Place) (v : Waiting) (e : Ended) : Type 0 where
-  ended : e .ended ≡ LineBreak
-  next : e .next ≡ v .next
-  rest : e .rest ≡ nothingResumed
-  dropped : e .dropped ≡ record { 0 = 0 }
-  wide : p .cursor .position .0 + spacesWidth (p .spaces) 1 ≤ p .cursor .width .0 → e .reach .0 ≡ v .reach .0
-  thin : p .cursor .width .0 < p .cursor .position .0 + spacesWidth (p .spaces) 1 → e .reach .0 ≡ v .looked .0
+pub record WaitEnd (s : Settings) (p : Place) (v : Waiting) (e : Ended) : Type 0 where
+  pub ended : e .ended ≡ LineBreak
+  pub next : e .next ≡ v .next
+  pub rest : e .rest ≡ nothingResumed
+  pub dropped : e .dropped ≡ record { 0 = 0 }
+  pub wide : p .cursor .position .0 + spacesWidth (p .spaces) 1 ≤ p .cursor .width .0 → e .reach .0 ≡ v .reach .0
+  pub thin : p .cursor .width .0 < p .cursor .position .0 + spacesWidth (p .spaces) 1 → e .reach .0 ≡ v .looked .0
 
 module _ {s : Settings} {p : Place} {t : List ℕ} {at : ℕ} {m : Measure} (r : PassReady s p t at nothingResumed m) {v : Waiting} (w : Waits s p t at v) where
   abbrev single : ℕ
@@ -102,7 +102,7 @@ module _ {s : Settings} {p : Place} {t : List ℕ} {at : ℕ} {m : Measure} (r :
       subst P (waits-thin r v w single refl f _ refl) (a (omega arith)))
       (λ f. subst P (waits-cut r v w single refl f) (b (omega (arith, unfit (p .cursor) single f))))
 
-  wait-ends : WaitEnd s p v (ranFrom s p t at 0 0 m)
+  pub wait-ends : WaitEnd s p v (ranFrom s p t at 0 0 m)
   unfolding endsBefore
   wait-ends =
       waits-by (WaitEnd s p v)
@@ -116,9 +116,9 @@ unfolding endsBefore
 same-before e m n next reach = record { ended = refl; next = refl; rest = refl; dropped = refl; reach = omega arith }
 
 -- What is measured in all: the words, whatever stands behind them.
-record Measured (s : Settings) (columns spaces : ℕ) (m : Measure) : Type 0 where
-  width : m .width .0 ≡ columns * s .glyph .0
-  count : m .count .0 ≡ spaces
+pub record Measured (s : Settings) (columns spaces : ℕ) (m : Measure) : Type 0 where
+  pub width : m .width .0 ≡ columns * s .glyph .0
+  pub count : m .count .0 ≡ spaces
 
 words-measured : (s : Settings) (columns spaces : ℕ) → Measured s columns spaces (printedAt (columns * s .glyph .0) spaces)
 words-measured s columns spaces = record { width = refl; count = refl }
@@ -163,7 +163,7 @@ module _ {s : Settings} {t : List ℕ} {at : ℕ} (h : LineReady s t at nothingR
     -- ---- before a word that waits
 
     module _ (v : Waiting) (w : Waits s here t to v) where
-      space-measured : Measured s columns spaces (ranFrom s here t to 0 0 printed .measure)
+      pub space-measured : Measured s columns spaces (ranFrom s here t to 0 0 printed .measure)
       unfolding endsBefore
       space-measured =
           waits-by (c .plain .ready) w (λ (e : Ended). Measured s columns spaces (e .measure))
@@ -209,7 +209,7 @@ module _ {s : Settings} {t : List ℕ} {at : ℕ} (h : LineReady s t at nothingR
                   (λ l. omega (arith, a .thin l, b .thin k)));
             }
 
-      waits-alike : (e : Ended) → e ≡ ranFrom s here t to 0 0 printed → DrawnAlike s t at e
+      pub waits-alike : (e : Ended) → e ≡ ranFrom s here t to 0 0 printed → DrawnAlike s t at e
       waits-alike e is =
           subst (DrawnAlike s t at) (sym is) (alike (ranFrom s here t to 0 0 printed) refl space-measured waits-same)
 

@@ -7,3 +7,4 @@ pub mod LineLaws
 pub mod Quick
 pub mod FairLaws
 pub mod LayLaws
+pub mod Plain

@@ -2,5 +2,6 @@
 pub mod alignment;
 pub mod cut;
 pub mod entry;
+pub mod plain;
 pub mod quick;
 pub mod taken;
