@@ -2,5 +2,6 @@ pub mod Standing
 pub mod RowsFrom
 pub mod Writing
 pub mod Turns
+pub mod Going
 pub mod GoodInput
 pub mod Passing

@@ -1,0 +1,71 @@
+-- Lines written one after the other from a stand on: what is still to be written stays the same.
+-- Assumes nothing.
+use Prim.Native.Nat.{ℕ, _+_, _*_, _≤_}
+use native.Mathlib.Omega.{arith}
+use mathlib.Core.Path.{_≡_, refl, sym, ap, _∙_}
+use mathlib.Core.Bool.{false}
+use mathlib.Core.List.{List, _∷_}
+use lib.ListN.{length}
+use Rattle.meaning.specs.Table.{entryNumbers, ofEntry}
+use Rattle.meaning.specs.declared.settings.Settings.{Settings}
+use Rattle.table.specs.Numbers.{putNumbers}
+use Rattle.rows.specs.Standing.{StandsAt, StandReady, laidRow, ready-next, further}
+use Rattle.rows.specs.RowsFrom.{entriesOf, entriesFrom, entry-here, some-entries, more-entries}
+use Rattle.rows.specs.Writing.{linesPut, first-put}
+use Rattle.rows.specs.Turns.{Counted, Wrote}
+use Rattle.rows.specs.declared.stand.Stand.{Stand}
+use Rattle.rows.specs.declared.line.LaidRow.{LaidRow}
+
+-- From the stand p, with n lines before it in the table u, to the stand q, with m lines in the table v.
+pub record Went (s : Settings) (t u : List ℕ) (n : ℕ) (p : Stand) (v : List ℕ) (m : ℕ) (q : Stand) : Type 0 where
+  pub ready : StandReady s t q
+  pub count : m + length (entriesFrom s t 0 q) ≡ n + length (entriesFrom s t 0 p)
+  pub same : length v ≡ length u
+  pub left : linesPut v m (entriesFrom s t 0 q) ≡ linesPut u n (entriesFrom s t 0 p)
+  pub forward : p .at .0 ≤ q .at .0
+
+-- There is room in a table for all lines from a stand on, behind n others.
+abbrev pub RoomFrom : Settings → List ℕ → List ℕ → (n : ℕ) → Stand → Type 0
+RoomFrom s t u n p = entryNumbers * (n + length (entriesFrom s t 0 p)) ≤ length u
+
+module _ (s : Settings) (t u : List ℕ) (n : ℕ) (p : Stand) where
+  pub went-nowhere : StandReady s t p → Went s t u n p u n p
+  went-nowhere c = record { ready = c; count = refl; same = refl; left = refl; forward = omega arith }
+
+  module _ (v : List ℕ) (m : ℕ) (q : Stand) (g : Went s t u n p v m q) where
+    pub went-room : RoomFrom s t u n p → entryNumbers * m + entryNumbers ≤ length v
+    went-room room = omega (arith, g .count, g .same, room, some-entries s t 0 q)
+
+    -- One line more.
+    module _ (room : RoomFrom s t u n p) (x : LaidRow) (is : x ≡ laidRow s t q) (w : List ℕ)
+        (put : w ≡ putNumbers v (entryNumbers * m) (ofEntry (x .entry))) (kept : length w ≡ length v) (next : Stand)
+        (on : StandsAt t (x .next) (q .before .0 + x .chars .0) (x .rest) next) (goes : x .last ≡ false)
+      where
+        one-off : entriesFrom s t 0 q ≡ x .entry ∷ entriesFrom s t 0 next
+        one-off = more-entries s t 0 q (g .ready) x is (x .entry) (entry-here s t q (g .ready) x is) next on goes
+
+        pub went-line : Went s t u n p w (m + 1) next
+        went-line =
+            record {
+              ready = ready-next s t q (g .ready) x is next on;
+              count = omega (arith, g .count, ap length one-off);
+              same = kept ∙ g .same;
+              left =
+                  ap (λ (y : List ℕ). linesPut y (m + 1) (entriesFrom s t 0 next)) put
+                  ∙ sym (first-put v m (x .entry) (entriesFrom s t 0 next) (omega (arith, went-room room)))
+                  ∙ ap (linesPut v m) (sym one-off)
+                  ∙ g .left;
+              forward = omega (arith, g .forward, further s t q (g .ready) x is next on goes);
+            }
+
+-- What the loop over all lines keeps is kept so.
+pub wrote-on : (s : Settings) (t t₀ u : List ℕ) (n : ℕ) (p : Stand) (v : List ℕ) (m : ℕ) (q : Stand) → Wrote s t t₀ u n p → Went s t u n p v m q → Wrote s t t₀ v m q
+wrote-on s t t₀ u n p v m q w g =
+    record {
+      counted = record { ready = g .ready; left = g .count ∙ w .counted .left };
+      same = g .same ∙ w .same;
+      left = g .left ∙ w .left;
+    }
+
+pub wrote-room : (s : Settings) (t t₀ u : List ℕ) (n : ℕ) (p : Stand) → Wrote s t t₀ u n p → entryNumbers * length (entriesOf s t) ≤ length t₀ → RoomFrom s t u n p
+wrote-room s t t₀ u n p w room = omega (arith, w .counted .left, w .same, room)
