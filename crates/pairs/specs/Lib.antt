@@ -5,4 +5,4 @@ pub mod Stretches
 pub mod PairLaws
 pub mod PlainLaws
 pub mod WithinLaws
-pub mod StretchLaws
+pub mod StretchedWords

@@ -26,7 +26,7 @@ use Rattle.parser.specs.declared.scan.Scanned.{Scanned}
 use Rattle.pairs.specs.Pairs.{oneSpace, PairAt}
 use Rattle.pairs.specs.PlainWords.{PlainWord, Stride}
 use Rattle.pairs.specs.Stretches.{PlainLine}
-use Rattle.pairs.specs.StretchLaws.{stretched-words}
+use Rattle.pairs.specs.StretchedWords.{stretched-words}
 use Rattle.pairs.specs.PairLaws.{blank-space, pair-is}
 use Rattle.pairs.specs.WithinLaws.{scanned-pair, first-plain}
 use Rattle.steps.specs.Stepping.{ranFrom}
