@@ -6,3 +6,5 @@ pub mod PairLaws
 pub mod PlainLaws
 pub mod WithinLaws
 pub mod StretchedWords
+pub mod StretchLaws
+pub mod PlainLineLaws

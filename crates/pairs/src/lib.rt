@@ -1,3 +1,5 @@
-// A space and a word read together, and the words that a line begins with (rule 2).
+// A space and a word read together, the words that a line begins with, and lines of plain words (rule 2).
 pub mod pair;
+pub mod plain_line;
+pub mod stretch;
 pub mod within;
