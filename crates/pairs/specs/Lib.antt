@@ -5,6 +5,6 @@ pub mod Stretches
 pub mod PairLaws
 pub mod PlainLaws
 pub mod WithinLaws
-pub mod StretchedWords
 pub mod StretchLaws
+pub mod StretchedWords
 pub mod PlainLineLaws

@@ -37,7 +37,8 @@ smooth-part t from to less s h k a b = s k a (omega arith)
 
 -- ---- plain
 
-plain-smooth : (before b : ℕ) → smooth before b ≡ true → (b ≡ 0x20 → ⊥) → plain b ≡ true
+-- A smooth byte that is no space.
+pub plain-smooth : (before b : ℕ) → smooth before b ≡ true → (b ≡ 0x20 → ⊥) → plain b ≡ true
 plain-smooth before b e n =
     let f = and-true (leb 0x20 b && ltb b 0x80) (not (eqb before 0x20) || not (eqb b 0x20)) e in
     let g = and-true (leb 0x20 b) (ltb b 0x80) (f .0) in

@@ -1,50 +1,36 @@
 -- Words with one space between any two, from the bytes that tell them: the first word, then stride after stride.
 -- Assumes nothing.
-use mathlib.Core.Path.{_≡_, refl, sym, subst, _∙_}
-use mathlib.Core.Bool.{Bool, true, false, _&&_, _||_, not, false≢true}
+use mathlib.Core.Path.{_≡_, refl, sym, subst}
+use mathlib.Core.Bool.{true, _&&_, _||_, not, false≢true}
 use mathlib.Core.List.{List}
 use Prim.Native.Nat.{ℕ, zero, suc, _+_, _-_, _≤_, _<_}
 use native.Mathlib.Omega.{arith}
-use borrow.Author.Tests.{lt-ltb, le-ltb, eq-eqb, ne-eqb, leb-true, ltb-true, eqb-true}
+use borrow.Author.Tests.{lt-ltb, eq-eqb, eqb-true}
 use lib.Dec.{ltb, leb, eqb}
 use lib.ListN.{length, getD}
-use Rattle.basis.specs.Choice.{pick, and-true, and-both, by-either}
+use Rattle.basis.specs.Choice.{pick, and-true}
 use Rattle.basis.specs.Order.{by-eq}
-use Rattle.parser.specs.Ascii.{plain, plainAt, spaceAt, isEnder, enderAt, space-inside, plain-inside}
+use Rattle.parser.specs.Ascii.{plainAt, spaceAt, enderAt, space-inside}
 use Rattle.parser.specs.Letters.{Lettered}
 use Rattle.parser.specs.LetterLaws.{lettered-none, lettered-more}
 use Rattle.pairs.specs.PlainWords.{PlainWord, Stride}
-use Rattle.pairs.specs.Stretches.{smooth, Smooth, Stretched}
+use Rattle.pairs.specs.Stretches.{smooth, Stretched}
+use Rattle.pairs.specs.StretchLaws.{plain-smooth, plain-here, space-here}
 
 -- ---- one byte
 
--- What a smooth byte is: no less than a space, of ASCII, and no space behind a space.
-pub smooth-says : (before b : ℕ) → smooth before b ≡ true → (0x20 ≤ b) × (b < 0x80) × (before ≡ 0x20 → b ≡ 0x20 → ⊥)
-smooth-says before b e =
+-- No space stands behind a space.
+apart : (before b : ℕ) → smooth before b ≡ true → before ≡ 0x20 → b ≡ 0x20 → ⊥
+apart before b e p q =
     let f = and-true (leb 0x20 b && ltb b 0x80) (not (eqb before 0x20) || not (eqb b 0x20)) e in
-    let g = and-true (leb 0x20 b) (ltb b 0x80) (f .0) in
-    (leb-true 0x20 b (g .0), ltb-true b 0x80 (g .1), λ p q. not-both p q (f .1))
-  where
-    not-both : before ≡ 0x20 → b ≡ 0x20 → not (eqb before 0x20) || not (eqb b 0x20) ≡ true → ⊥
-    not-both p q h = false≢true (rw (eq-eqb before 0x20 p, eq-eqb b 0x20 q) at h)
+    false≢true (rw (eq-eqb before 0x20 p, eq-eqb b 0x20 q) at (f .1))
 
 module _ (t : List ℕ) (i : ℕ) (inside : i < length t) where
-  pub plain-here : 0x20 < getD t i 0 → getD t i 0 < 0x80 → plain (getD t i 0) ≡ true
-  plain-here a b = and-both (ltb 0x20 (getD t i 0)) (ltb (getD t i 0) 0x80) (lt-ltb 0x20 (getD t i 0) a) (lt-ltb (getD t i 0) 0x80 b)
-
-  pub plain-there : 0x20 < getD t i 0 → getD t i 0 < 0x80 → plainAt t i ≡ true
-  unfolding plainAt pick
-  plain-there a b = rw (lt-ltb i (length t) inside) (plain-here a b)
-
-  pub space-there : getD t i 0 ≡ 0x20 → spaceAt t i ≡ true
-  unfolding spaceAt pick
-  space-there e = rw (lt-ltb i (length t) inside, e) refl
-
-  pub space-byte : spaceAt t i ≡ true → getD t i 0 ≡ 0x20
+  space-byte : spaceAt t i ≡ true → getD t i 0 ≡ 0x20
   unfolding spaceAt pick
   space-byte e = let f = rw (lt-ltb i (length t) inside) at e in eqb-true (getD t i 0) 0x20 f
 
-  pub space-ends : getD t i 0 ≡ 0x20 → enderAt t i ≡ true
+  space-ends : getD t i 0 ≡ 0x20 → enderAt t i ≡ true
   unfolding enderAt pick
   space-ends e = rw (lt-ltb i (length t) inside, e) refl
 
@@ -64,28 +50,31 @@ module _ (t : List ℕ) (at end : ℕ) (w : Stretched t at end) (P : ℕ → Typ
     inside : end < length t
     inside = space-inside t end (w .space)
 
-    byte : (i : ℕ) → at + 1 ≤ i → i ≤ end → (0x20 ≤ getD t i 0) × (getD t i 0 < 0x80) × (getD t (i - 1) 0 ≡ 0x20 → getD t i 0 ≡ 0x20 → ⊥)
-    byte i low high = smooth-says (getD t (i - 1) 0) (getD t i 0) (w .smooth i low (omega arith))
+    smooth-here : (i : ℕ) → at + 1 ≤ i → i ≤ end → smooth (getD t (i - 1) 0) (getD t i 0) ≡ true
+    smooth-here i low high = w .smooth i low (omega arith)
 
     closed : (i : ℕ) → i ≤ end → getD t i 0 ≡ 0x20 → Begun i → P i
     closed i high e b =
         b .ends i (record { first = b .letter; letters = b .letters; ends = space-ends t i (omega (arith, inside)) e })
 
     -- Behind a space that ends words a letter begins the next one.
-    next-byte : (i : ℕ) → at + 1 ≤ i → i + 1 ≤ end → getD t i 0 ≡ 0x20 → plainAt t (i + 1) ≡ true
-    next-byte i low high e =
-        let b = byte (i + 1) (omega arith) high in
+    behind : (i : ℕ) → at + 1 ≤ i → i + 1 ≤ end → getD t i 0 ≡ 0x20 → getD t (i + 1) 0 ≡ 0x20 → ⊥
+    behind i low high e =
         let back : i + 1 - 1 ≡ i = omega arith in
-        let apart : getD t (i + 1) 0 ≡ 0x20 → ⊥ = b .2 (subst (λ (k : ℕ). getD t k 0 ≡ 0x20) (sym back) e) in
-        by-eq (getD t (i + 1) 0) 0x20 (λ q. absurd (apart q)) (λ d. plain-there t (i + 1) (omega (arith, inside)) (omega (arith, b .0)) (b .1))
+        apart (getD t (i + 1 - 1) 0) (getD t (i + 1) 0) (smooth-here (i + 1) (omega arith) high) (subst (λ (k : ℕ). getD t k 0 ≡ 0x20) (sym back) e)
+
+    letter-behind : (i : ℕ) → at + 1 ≤ i → i + 1 ≤ end → getD t i 0 ≡ 0x20 → plainAt t (i + 1) ≡ true
+    letter-behind i low high e =
+        plain-here t (i + 1) (omega (arith, inside))
+        (plain-smooth (getD t (i + 1 - 1) 0) (getD t (i + 1) 0) (smooth-here (i + 1) (omega arith) high) (behind i low high e))
 
     begins : (i : ℕ) → at + 1 ≤ i → i + 1 ≤ end → getD t i 0 ≡ 0x20 → P i → Begun (i + 2)
     begins i low high e p =
         record {
           from = i + 1;
-          letter = next-byte i low high e;
+          letter = letter-behind i low high e;
           letters = subst (λ (k : ℕ). Lettered t k (i + 2)) two (lettered-none t (i + 2) (omega (arith, inside)));
-          ends = λ x d. more i x p (record { space = space-there t i (omega (arith, inside)) e; word = d });
+          ends = λ x d. more i x p (record { space = space-here t i (omega (arith, inside)) e; word = d });
         }
       where
         two : i + 2 ≡ i + 1 + 1
@@ -93,12 +82,11 @@ module _ (t : List ℕ) (at end : ℕ) (w : Stretched t at end) (P : ℕ → Typ
 
     goes : (i : ℕ) → at + 1 ≤ i → i ≤ end → (getD t i 0 ≡ 0x20 → ⊥) → Begun i → Begun (i + 1)
     goes i low high d b =
-        let x = byte i low high in
         let here : i < length t = omega (arith, inside) in
         record {
           from = b .from;
           letter = b .letter;
-          letters = lettered-more t (b .from + 1) i (b .letters) here (plain-here t i here (omega (arith, x .0)) (x .1));
+          letters = lettered-more t (b .from + 1) i (b .letters) here (plain-smooth (getD t (i - 1) 0) (getD t i 0) (smooth-here i low high) d);
           ends = b .ends;
         }
 
@@ -110,9 +98,7 @@ module _ (t : List ℕ) (at end : ℕ) (w : Stretched t at end) (P : ℕ → Typ
         by-eq (getD t i 0) 0x20
         (λ q.
         let last : i + 1 ≡ end = omega arith in
-        let z = byte (i + 1) (omega arith) (omega arith) in
-        let back : i + 1 - 1 ≡ i = omega arith in
-        absurd (z .2 (subst (λ (j : ℕ). getD t j 0 ≡ 0x20) (sym back) q) (subst (λ (j : ℕ). getD t j 0 ≡ 0x20) (sym last) (space-byte t end inside (w .space)))))
+        absurd (behind i low (omega arith) q (subst (λ (j : ℕ). getD t j 0 ≡ 0x20) (sym last) (space-byte t end inside (w .space)))))
         (λ d. walk zero (i + 1) (omega arith) (omega arith) (goes i low (omega arith) d b))
     walk (suc (suc k)) i e low b =
         by-eq (getD t i 0) 0x20
