@@ -18,16 +18,16 @@ unfoldable pub leftOf : (alignment room : ℕ) → ℕ
 leftOf alignment room = pick (eqb alignment 0) 0 (pick (eqb alignment 1) ((room + 1) / 2) room)
 
 -- The entry of a line of so many characters, all of them drawn a glyph wide, that ends before a word.
-unfoldable pub plainEntry : (glyph width alignment start columns reach before : ℕ) → Entry
-plainEntry glyph width alignment start columns reach before =
+unfoldable pub plainEntry : Settings → (start columns reach before : ℕ) → Entry
+plainEntry s start columns reach before =
     record {
       start = record { 0 = start };
       rest = record { end = record { 0 = 0 }; count = record { 0 = 0 } };
       ending = 3;
-      left = record { 0 = leftOf alignment (width - columns * glyph) };
-      space = record { 0 = glyph };
+      left = record { 0 = leftOf (s .alignment) (s .width .0 - columns * s .glyph .0) };
+      space = s .glyph;
       extra = record { 0 = 0 };
-      width = record { 0 = columns * glyph };
+      width = record { 0 = columns * s .glyph .0 };
       dropped = record { 0 = 0 };
       reach = record { 0 = reach };
       before = record { 0 = before };
@@ -37,7 +37,7 @@ plainEntry glyph width alignment start columns reach before =
 abbrev pub plainLineAt : Settings → (at before end reach : ℕ) → LineAt
 plainLineAt s at before end reach =
     record {
-      entry = plainEntry (s .glyph .0) (s .width .0) (s .alignment) at (end - at) reach before;
+      entry = plainEntry s at (end - at) reach before;
       ended = LineBreak;
       next = record { 0 = end + 1 };
       chars = record { 0 = end - at + 1 };

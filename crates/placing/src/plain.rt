@@ -1,12 +1,25 @@
-// A line of plain words before a word that waits: its entry (rule 6, rule 12).
+// A line of plain words before a word that waits, and its entry (rule 6, rule 10, rule 12).
 use meaning::counts::Chars;
 use meaning::counts::Offset;
 use meaning::counts::Pixels;
 use meaning::line::Entry;
 use meaning::line::Rest;
+use meaning::settings::Settings;
+use pairs::plain_line::FoundLine;
+use pairs::plain_line::plain_line;
 ghost use Prim.Native.Nat.{_*_, _≤_};
 ghost use mathlib.Core.Path.{_≡_};
-ghost use Rattle.placing.specs.Plain.{leftOf, plainEntry};
+ghost use lib.ListN.{length};
+ghost use Rattle.pairs.specs.PlainWords.{Found};
+ghost use Rattle.placing.specs.Plain.{leftOf, plainEntry, PlainRow};
+
+// The line at an offset of a text, in a box that holds so many characters, if its bytes tell that it is such a line.
+pub fn plain_row(text: &[u8], at: usize, most: u32) -> FoundLine
+    requires { ⌜ (length (now text) ≤ 65535) × (at ≤ length (now text)) × (most ≤ 4096) ⌝ }
+    ensures { λ r. ⌜ Found (r .end .0) (PlainRow (now (text .entry)) at most (r .end .0) (r .reach .0)) ⌝ }
+{
+    plain_line(text, at, most)
+}
 
 // The left of a line that leaves so much room, where none of it is shared out among its spaces.
 fn left_of(alignment: u32, room: u32) -> u32
@@ -22,21 +35,14 @@ fn left_of(alignment: u32, room: u32) -> u32
     room
 }
 
-// The entry of a line of so many characters that ends before a word, in a box that is so wide.
-pub fn plain_entry(
-    glyph: u32,
-    width: u32,
-    alignment: u32,
-    start: Offset,
-    columns: u32,
-    reach: Offset,
-    before: Chars,
-) -> Entry
-    requires { ⌜ (columns * glyph ≤ width) × (width ≤ 4096) ⌝ }
-    ensures { λ r. ⌜ r ≡ plainEntry glyph width alignment (start .0) columns (reach .0) (before .0) ⌝ }
+// The entry of a line of so many characters that ends before a word.
+pub fn plain_entry(s: Settings, start: Offset, columns: u32, reach: Offset, before: Chars) -> Entry
+    requires { ⌜ (columns * s .glyph .0 ≤ s .width .0) × (s .width .0 ≤ 4096) ⌝ }
+    ensures { λ r. ⌜ r ≡ plainEntry s (start .0) columns (reach .0) (before .0) ⌝ }
 {
-    let wide = columns * glyph;
-    let left = left_of(alignment, width - wide);
+    let glyph = s.glyph;
+    let wide = columns * glyph.0;
+    let left = left_of(s.alignment, s.width.0 - wide);
     let rest = Rest {
         end: Offset(0),
         count: Chars(0),
@@ -46,7 +52,7 @@ pub fn plain_entry(
         rest,
         ending: 3,
         left: Pixels(left),
-        space: Pixels(glyph),
+        space: glyph,
         extra: Pixels(0),
         width: Pixels(wide),
         dropped: Chars(0),

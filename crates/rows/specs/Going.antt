@@ -6,11 +6,12 @@ use mathlib.Core.Path.{_≡_, refl, sym, ap, _∙_}
 use mathlib.Core.Bool.{false}
 use mathlib.Core.List.{List, _∷_}
 use lib.ListN.{length}
+use Rattle.meaning.specs.Checks.{textLimit}
 use Rattle.meaning.specs.Table.{entryNumbers, ofEntry}
 use Rattle.meaning.specs.declared.settings.Settings.{Settings}
 use Rattle.table.specs.Numbers.{putNumbers}
 use Rattle.rows.specs.Standing.{StandsAt, StandReady, laidRow, ready-next, further}
-use Rattle.rows.specs.RowsFrom.{entriesOf, entriesFrom, entry-here, some-entries, more-entries}
+use Rattle.rows.specs.RowsFrom.{entriesOf, entriesFrom, entry-here, some-entries, few-entries, more-entries}
 use Rattle.rows.specs.Writing.{linesPut, first-put}
 use Rattle.rows.specs.Turns.{Counted, Wrote}
 use Rattle.rows.specs.declared.stand.Stand.{Stand}
@@ -24,9 +25,11 @@ pub record Went (s : Settings) (t u : List ℕ) (n : ℕ) (p : Stand) (v : List 
   pub left : linesPut v m (entriesFrom s t 0 q) ≡ linesPut u n (entriesFrom s t 0 p)
   pub forward : p .at .0 ≤ q .at .0
 
--- There is room in a table for all lines from a stand on, behind n others.
+-- There is room in a table for all lines from a stand on, behind n others, and no count of them wraps.
 abbrev pub RoomFrom : Settings → List ℕ → List ℕ → (n : ℕ) → Stand → Type 0
-RoomFrom s t u n p = entryNumbers * (n + length (entriesFrom s t 0 p)) ≤ length u
+RoomFrom s t u n p =
+    let all = n + length (entriesFrom s t 0 p) in
+    (entryNumbers * all ≤ length u) × (all ≤ textLimit + 1)
 
 module _ (s : Settings) (t u : List ℕ) (n : ℕ) (p : Stand) where
   pub went-nowhere : StandReady s t p → Went s t u n p u n p
@@ -34,7 +37,10 @@ module _ (s : Settings) (t u : List ℕ) (n : ℕ) (p : Stand) where
 
   module _ (v : List ℕ) (m : ℕ) (q : Stand) (g : Went s t u n p v m q) where
     pub went-room : RoomFrom s t u n p → entryNumbers * m + entryNumbers ≤ length v
-    went-room room = omega (arith, g .count, g .same, room, some-entries s t 0 q)
+    went-room room = omega (arith, g .count, g .same, room .0, some-entries s t 0 q)
+
+    pub went-few : RoomFrom s t u n p → m ≤ textLimit
+    went-few room = omega (arith, g .count, room .1, some-entries s t 0 q)
 
     -- One line more.
     module _ (room : RoomFrom s t u n p) (x : LaidRow) (is : x ≡ laidRow s t q) (w : List ℕ)
@@ -68,4 +74,6 @@ wrote-on s t t₀ u n p v m q w g =
     }
 
 pub wrote-room : (s : Settings) (t t₀ u : List ℕ) (n : ℕ) (p : Stand) → Wrote s t t₀ u n p → entryNumbers * length (entriesOf s t) ≤ length t₀ → RoomFrom s t u n p
-wrote-room s t t₀ u n p w room = omega (arith, w .counted .left, w .same, room)
+wrote-room s t t₀ u n p w room =
+    let c = w .counted in
+    (omega (arith, c .left, w .same, room), omega (arith, c .left, few-entries s t, c .ready .line .short))

@@ -3,5 +3,6 @@ pub mod RowsFrom
 pub mod Writing
 pub mod Turns
 pub mod Going
+pub mod Plain
 pub mod GoodInput
 pub mod Passing

@@ -2,4 +2,5 @@
 pub mod line;
 pub mod lines;
 pub mod pass;
+pub mod plain;
 pub mod stand;

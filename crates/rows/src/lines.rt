@@ -1,4 +1,5 @@
 // The lines of a text, one after the other: counted, and written to a table (rule 10).
+use crate::plain::write_on;
 use crate::stand::at_start;
 use crate::stand::lay_row;
 use crate::stand::next_stand;
@@ -37,13 +38,16 @@ pub fn write_lines(text: &[u8], s: Settings, table: &mut [u32]) -> usize
     let mut n: usize = 0;
     let mut stand = at_start(text);
     loop {
-        let row = lay_row(text, s, stand);
+        let far = write_on(text, s, table, n, stand);
+        let here = far.stand;
+        n = far.lines;
+        let row = lay_row(text, s, here);
         let entry = row.entry;
         write_entry(table, n, entry);
         n += 1;
         if row.last {
             return n;
         }
-        stand = next_stand(text, stand, row);
+        stand = next_stand(text, here, row);
     }
 }

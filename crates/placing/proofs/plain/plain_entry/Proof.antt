@@ -8,7 +8,7 @@ use Rattle.placing.proofs.plain.plain_entry.Statement.{statement}
 use Rattle.placing.proofs.plain.plain_entry.Tie as tie
 
 mul-wide : tie.Need-mul-wide
-mul-wide c = record { fits = omega (arith, c .pre .0, c .pre .1) }
+mul-wide c = record { fits = omega (arith, c .before .before .pre .0, c .before .before .pre .1) }
 
 sub-left-of : tie.Need-sub-left-of
 sub-left-of c = search needs

@@ -6,6 +6,7 @@ use mathlib.Core.Path.{_∙_}
 use lib.ListN.{length}
 use Rattle.rows.specs.Standing.{next-ready, further, stays}
 use Rattle.rows.specs.Turns.{Wrote, write-start, room-left, count-low, count-last, write-last, write-next}
+use Rattle.rows.specs.Going.{wrote-on, wrote-room}
 use Rattle.rows.proofs.lines.write_lines.Statement.{statement}
 use Rattle.rows.proofs.lines.write_lines.Tie as tie
 
@@ -15,56 +16,79 @@ Inv-loop text s table₀ n₀ stand₀ table n stand = Wrote s text table₀ tab
 abbrev μ-loop : tie.MeasureT-loop
 μ-loop text s table₀ n₀ stand₀ table n stand = length text - stand .at .0
 
+abbrev begin : tie.At-loop Inv-loop μ-loop → tie.Start Inv-loop μ-loop
+begin c = c .before .before .before .before
+
 at-start-requires : tie.Need-at-start-requires Inv-loop μ-loop
 at-start-requires c κs = c .before .before .pre .0 .short
 
 loop-holds : tie.Need-loop-holds Inv-loop μ-loop
 loop-holds c = write-start _ _ _ _ (c .before .before .before .pre .0) (c .at-start .ensures)
 
+write-on-requires : tie.Need-write-on-requires Inv-loop μ-loop
+write-on-requires c κs =
+    let l = c .before in
+    (l .loop .inv .counted .ready, wrote-room _ _ _ _ _ _ (l .loop .inv) (begin l .pre .1))
+
+-- ---- after the plain lines, if there were any
+
+abbrev gone : tie.After-here Inv-loop μ-loop → tie.After-write-on Inv-loop μ-loop
+gone c = c .before .before .before
+
+wrote : (c : tie.After-here Inv-loop μ-loop) →
+    let w = gone c in
+    let a = begin (w .before .before) .args in
+    Wrote (a .s) (a .text .now) (a .table .now) (w .write-on .last .1 .1 .0) (w .write-on .result .lines) (w .write-on .result .stand)
+wrote c =
+    let w = gone c in
+    wrote-on _ _ _ _ _ _ _ _ _ (w .before .before .loop .inv) (w .write-on .ensures)
+
 lay-row-requires : tie.Need-lay-row-requires Inv-loop μ-loop
-lay-row-requires c κs = c .loop .inv .counted .ready
+lay-row-requires c κs = wrote c .counted .ready
+
+abbrev stood : tie.After-write-entry Inv-loop μ-loop → tie.After-here Inv-loop μ-loop
+stood c = c .before .before .before .before
 
 write-entry-requires : tie.Need-write-entry-requires Inv-loop μ-loop
 write-entry-requires c κs =
-    let l = c .before .before .before in
-    room-left _ _ _ _ _ _ (l .loop .inv) (l .before .before .before .before .pre .1)
+    let h = c .before .before .before in
+    room-left _ _ _ _ _ _ (wrote h) (begin (gone h .before .before) .pre .1)
 
 add-n : tie.Need-add-n Inv-loop μ-loop
-add-n c = omega (arith, count-low _ _ _ _ (c .before .before .before .before .before .before .loop .inv .counted))
+add-n c = omega (arith, count-low _ _ _ _ (wrote (stood (c .before .before)) .counted))
 
 same-length : tie.Need-same-length Inv-loop μ-loop
-same-length c = let w = c .before .before .before in w .write-entry .kept .0 ∙ w .before .before .before .before .loop .inv .same
+same-length c = let w = c .before .before .before in w .write-entry .kept .0 ∙ wrote (stood w) .same
 
 returns : tie.Need-returns Inv-loop μ-loop
 returns c =
     let w = c .before .before .before in
-    let r = w .before .before .before in
-    let l = r .before in
-    let i = l .loop .inv in
-    let is = r .lay-row .ensures in (
-      count-last _ _ _ _ (i .counted) _ is (c .if1 .taken),
-      write-last _ _ _ _ _ _ i (l .before .before .before .before .pre .1) _ is _ (w .write-entry .ensures) (w .write-entry .kept .0) (c .if1 .taken),
+    let h = stood w in
+    let is = w .before .before .before .lay-row .ensures in (
+      count-last _ _ _ _ (wrote h .counted) _ is (c .if1 .taken),
+      write-last _ _ _ _ _ _ (wrote h) (begin (gone h .before .before) .pre .1) _ is _ (w .write-entry .ensures) (w .write-entry .kept .0) (c .if1 .taken),
     )
 
 next-stand-requires : tie.Need-next-stand-requires Inv-loop μ-loop
 next-stand-requires c κs =
     let r = c .before .before .before .before .before .before in
-    next-ready _ _ _ (r .before .loop .inv .counted .ready) _ (r .lay-row .ensures)
+    next-ready _ _ _ (wrote (r .before) .counted .ready) _ (r .lay-row .ensures)
 
 loop-less : tie.Need-loop-less Inv-loop μ-loop
 loop-less c =
     let r = c .before .before .before .before .before .before .before in
-    let i = r .before .loop .inv .counted .ready in
+    let h = r .before in
+    let i = wrote h .counted .ready in
     let is = r .lay-row .ensures in
-    omega (arith, further _ _ _ i _ is _ (c .next-stand .ensures) (c .before .if1 .left), stays _ _ _ i _ is _ (c .next-stand .ensures))
+    omega (arith, gone h .write-on .ensures .forward, further _ _ _ i _ is _ (c .next-stand .ensures) (c .before .if1 .left), stays _ _ _ i _ is _ (c .next-stand .ensures))
 
 loop-again : tie.Need-loop-again Inv-loop μ-loop
 loop-again c =
     let e = c .before in
     let w = e .before .before .before in
     let r = w .before .before .before in
-    let l = r .before in
-    write-next _ _ _ _ _ _ (l .loop .inv) (l .before .before .before .before .pre .1) _ (r .lay-row .ensures) _ (w .write-entry .ensures)
+    let h = r .before in
+    write-next _ _ _ _ _ _ (wrote h) (begin (gone h .before .before) .pre .1) _ (r .lay-row .ensures) _ (w .write-entry .ensures)
     (w .write-entry .kept .0) _ (c .next-stand .ensures) (e .if1 .left)
 
 pub write-lines-spec : {M : Type 1} → statement M
@@ -75,6 +99,7 @@ write-lines-spec =
     μ-loop
     at-start-requires
     loop-holds
+    write-on-requires
     lay-row-requires
     write-entry-requires
     add-n
