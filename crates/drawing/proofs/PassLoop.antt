@@ -25,7 +25,7 @@ use Rattle.table.specs.Numbers.{putEvents}
 use Rattle.drawing.specs.Drawn.{drawnFrom, eventsFrom}
 use Rattle.ink.specs.Sheet.{Sheet, sheet, drawnOn, on-append, on-none, on-is, pen-after}
 use Rattle.prints.specs.TokenDrawn.{tokDrawn, PenRoom}
-use Rattle.drawing.specs.PassDrawn.{DrawRoom, none-drawn, go-drawn, stop-drawn}
+use Rattle.drawing.specs.PassDrawn.{DrawRoom, penAt, none-drawn, go-drawn, stop-drawn}
 use Rattle.drawing.specs.DrawnBounds.{tok-few}
 use Rattle.drawing.specs.DrawingOn.{PenReady, Strode}
 use Rattle.ink.specs.declared.pen.Pen.{Pen}
@@ -37,9 +37,6 @@ use Rattle.drawing.proofs.OnwardEvents.{pen-rest}
 pub record Drawing (t : List ℕ) (s : Settings) (goal : Sheet) (ev : List ℕ) (p : Place) (at : ℕ) (held : Resumed) (o : Pen) : Type 0 where
   pub draws : drawnOn (sheet ev o) (drawnFrom s p t at (held .chars .0) (held .count .0)) ≡ goal
   pub ready : PenReady s p t at held o
-
-abbrev pub penAt : (k x : ℕ) → Pen
-penAt k x = record { next = k; x = record { 0 = x } }
 
 pub drawing-first : (t : List ℕ) (s : Settings) (ev : List ℕ) (p : Place) (at : ℕ) (r : Resumed) (x k : ℕ) → DrawRoom s p t at r x k
     → Drawing t s (drawnOn (sheet ev (penAt k x)) (drawnFrom s p t at (r .chars .0) (r .count .0))) ev p at r (penAt k x)

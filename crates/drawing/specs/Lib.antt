@@ -1,4 +1,5 @@
 pub mod Drawn
 pub mod PassDrawn
 pub mod DrawingOn
+pub mod PlainDrawn
 pub mod DrawnBounds

@@ -20,6 +20,7 @@ use Rattle.steps.specs.Running.{PassReady}
 use Rattle.steps.specs.declared.step.Resumed.{Resumed}
 use Rattle.steps.specs.declared.step.Ended.{Ended}
 use Rattle.steps.specs.declared.step.Stepped.the-variants.{Go, Stop}
+use Rattle.ink.specs.declared.pen.Pen.{Pen}
 use Rattle.drawing.specs.Drawn.{drawnFrom}
 use Rattle.prints.specs.TokenDrawn.{drawnOf, tokDrawn}
 
@@ -28,6 +29,9 @@ pub record DrawRoom (s : Settings) (p : Place) (t : List ℕ) (at : ℕ) (r : Re
   pub pass : PassReady s p t at r unmeasured
   pub narrow : x ≤ 100000000
   pub few : k ≤ 500000000
+
+abbrev pub penAt : (k x : ℕ) → Pen
+penAt k x = record { next = k; x = record { 0 = x } }
 
 -- ---- one token and the rest
 

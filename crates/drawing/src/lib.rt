@@ -1,6 +1,7 @@
 // The events of a line, drawn into a lent buffer (rule 13).
 mod inked;
 pub mod pass;
+pub mod plain;
 mod striding;
 mod taken;
 mod waiting;
