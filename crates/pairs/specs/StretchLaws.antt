@@ -1,16 +1,16 @@
 -- Stretches of plain words with one space between any two: byte after byte, stretch after stretch, and what is left without spaces.
 -- Assumes nothing.
-use mathlib.Core.Path.{_≡_, subst, _∙_}
-use mathlib.Core.Bool.{Bool, true, false, _&&_, _||_, not}
+use mathlib.Core.Path.{_≡_, refl, subst, _∙_}
+use mathlib.Core.Bool.{Bool, true, false, _&&_, _||_, not, false≢true}
 use mathlib.Core.List.{List}
 use Prim.Native.Nat.{ℕ, zero, suc, _+_, _-_, _≤_, _<_}
 use native.Mathlib.Omega.{arith}
-use borrow.Author.Tests.{lt-ltb, eq-eqb, leb-true}
+use borrow.Author.Tests.{lt-ltb, eq-eqb, leb-true, eqb-true}
 use lib.Dec.{ltb, leb, eqb}
 use lib.ListN.{length, getD}
-use Rattle.basis.specs.Choice.{pick-true, and-true, and-both}
+use Rattle.basis.specs.Choice.{pick, pick-true, and-true, and-both}
 use Rattle.basis.specs.Order.{by-lt}
-use Rattle.parser.specs.Ascii.{plain, plainAt, spaceAt}
+use Rattle.parser.specs.Ascii.{plain, plainAt, spaceAt, enderAt}
 use Rattle.parser.specs.Letters.{GoesOn, Lettered}
 use Rattle.parser.specs.LetterLaws.{goes-on, lettered-none, lettered-more}
 use Rattle.pairs.specs.Stretches.{smooth, Smooth, Plains, Unspaced, LastSpace}
@@ -43,6 +43,12 @@ plain-smooth before b e n =
     let f = and-true (leb 0x20 b && ltb b 0x80) (not (eqb before 0x20) || not (eqb b 0x20)) e in
     let g = and-true (leb 0x20 b) (ltb b 0x80) (f .0) in
     and-both (ltb 0x20 b) (ltb b 0x80) (lt-ltb 0x20 b (omega (arith, n, leb-true 0x20 b (g .0)))) (g .1)
+
+-- No space stands behind a space.
+pub smooth-apart : (before b : ℕ) → smooth before b ≡ true → before ≡ 0x20 → b ≡ 0x20 → ⊥
+smooth-apart before b e p q =
+    let f = and-true (leb 0x20 b && ltb b 0x80) (not (eqb before 0x20) || not (eqb b 0x20)) e in
+    false≢true (rw (eq-eqb before 0x20 p, eq-eqb b 0x20 q) at (f .1))
 
 -- Behind the last space of a smooth stretch all is plain.
 pub plains-behind : (t : List ℕ) (at limit end : ℕ) → Smooth t (at + 1) (limit + 1) → LastSpace t at limit end → Plains t (end + 1) (limit + 1)
@@ -84,3 +90,13 @@ unspaced-more t at limit u n i a b e =
 pub space-here : (t : List ℕ) (i : ℕ) → i < length t → getD t i 0 ≡ 0x20 → spaceAt t i ≡ true
 unfolding spaceAt
 space-here t i h e = pick-true (ltb i (length t)) (eqb (getD t i 0) 0x20) false (lt-ltb i (length t) h) ∙ eq-eqb (getD t i 0) 0x20 e
+
+-- What a space says of its byte, and of the word before it.
+module _ (t : List ℕ) (i : ℕ) (inside : i < length t) where
+  pub space-byte : spaceAt t i ≡ true → getD t i 0 ≡ 0x20
+  unfolding spaceAt pick
+  space-byte e = let f = rw (lt-ltb i (length t) inside) at e in eqb-true (getD t i 0) 0x20 f
+
+  pub space-ends : getD t i 0 ≡ 0x20 → enderAt t i ≡ true
+  unfolding enderAt pick
+  space-ends e = rw (lt-ltb i (length t) inside, e) refl

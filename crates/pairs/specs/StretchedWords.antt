@@ -1,40 +1,18 @@
 -- Words with one space between any two, from the bytes that tell them: the first word, then stride after stride.
 -- Assumes nothing.
-use mathlib.Core.Path.{_≡_, refl, sym, subst}
-use mathlib.Core.Bool.{true, _&&_, _||_, not, false≢true}
+use mathlib.Core.Path.{_≡_, sym, subst}
+use mathlib.Core.Bool.{true}
 use mathlib.Core.List.{List}
 use Prim.Native.Nat.{ℕ, zero, suc, _+_, _-_, _≤_, _<_}
 use native.Mathlib.Omega.{arith}
-use borrow.Author.Tests.{lt-ltb, eq-eqb, eqb-true}
-use lib.Dec.{ltb, leb, eqb}
 use lib.ListN.{length, getD}
-use Rattle.basis.specs.Choice.{pick, and-true}
 use Rattle.basis.specs.Order.{by-eq}
-use Rattle.parser.specs.Ascii.{plainAt, spaceAt, enderAt, space-inside}
+use Rattle.parser.specs.Ascii.{plainAt, space-inside}
 use Rattle.parser.specs.Letters.{Lettered}
 use Rattle.parser.specs.LetterLaws.{lettered-none, lettered-more}
 use Rattle.pairs.specs.PlainWords.{PlainWord, Stride}
 use Rattle.pairs.specs.Stretches.{smooth, Stretched}
-use Rattle.pairs.specs.StretchLaws.{plain-smooth, plain-here, space-here}
-
--- ---- one byte
-
--- No space stands behind a space.
-apart : (before b : ℕ) → smooth before b ≡ true → before ≡ 0x20 → b ≡ 0x20 → ⊥
-apart before b e p q =
-    let f = and-true (leb 0x20 b && ltb b 0x80) (not (eqb before 0x20) || not (eqb b 0x20)) e in
-    false≢true (rw (eq-eqb before 0x20 p, eq-eqb b 0x20 q) at (f .1))
-
-module _ (t : List ℕ) (i : ℕ) (inside : i < length t) where
-  space-byte : spaceAt t i ≡ true → getD t i 0 ≡ 0x20
-  unfolding spaceAt pick
-  space-byte e = let f = rw (lt-ltb i (length t) inside) at e in eqb-true (getD t i 0) 0x20 f
-
-  space-ends : getD t i 0 ≡ 0x20 → enderAt t i ≡ true
-  unfolding enderAt pick
-  space-ends e = rw (lt-ltb i (length t) inside, e) refl
-
--- ---- from the first byte to the last
+use Rattle.pairs.specs.StretchLaws.{plain-smooth, smooth-apart, plain-here, space-here, space-byte, space-ends}
 
 -- What holds where a first word ends, and one stride further on wherever it held, holds where the words end.
 module _ (t : List ℕ) (at end : ℕ) (w : Stretched t at end) (P : ℕ → Type 0) (first : (e : ℕ) → PlainWord t at e → P e)
@@ -61,7 +39,7 @@ module _ (t : List ℕ) (at end : ℕ) (w : Stretched t at end) (P : ℕ → Typ
     behind : (i : ℕ) → at + 1 ≤ i → i + 1 ≤ end → getD t i 0 ≡ 0x20 → getD t (i + 1) 0 ≡ 0x20 → ⊥
     behind i low high e =
         let back : i + 1 - 1 ≡ i = omega arith in
-        apart (getD t (i + 1 - 1) 0) (getD t (i + 1) 0) (smooth-here (i + 1) (omega arith) high) (subst (λ (k : ℕ). getD t k 0 ≡ 0x20) (sym back) e)
+        smooth-apart (getD t (i + 1 - 1) 0) (getD t (i + 1) 0) (smooth-here (i + 1) (omega arith) high) (subst (λ (k : ℕ). getD t k 0 ≡ 0x20) (sym back) e)
 
     letter-behind : (i : ℕ) → at + 1 ≤ i → i + 1 ≤ end → getD t i 0 ≡ 0x20 → plainAt t (i + 1) ≡ true
     letter-behind i low high e =
