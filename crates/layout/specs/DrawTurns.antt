@@ -43,7 +43,7 @@ draw-start s t ev₀ p h f =
     }
 
 -- A line that can be laid can be drawn.
-line-room : (s : Settings) (t : List ℕ) (p : Stand) (k : ℕ) (e : Entry) → LineReady s t (p .at .0) (p .rest) → k ≤ textLimit
+pub line-room : (s : Settings) (t : List ℕ) (p : Stand) (k : ℕ) (e : Entry) → LineReady s t (p .at .0) (p .rest) → k ≤ textLimit
     → e ≡ lineAt s t p .entry → DrawRoom s (placeIn s e) t (p .at .0) (p .rest) (e .left .0) k
 unfolding placeIn lineFrom lineAtOf entryAt
 line-room s t p k e c h is =

@@ -1,4 +1,5 @@
 pub mod EventsFrom
 pub mod DrawTurns
+pub mod DrawGoing
 pub mod Checking
 pub mod Answering

@@ -1,4 +1,5 @@
 // The events of a text's lines, one line after the other: counted, and drawn as each line is written (rule 10, rule 13).
+use crate::plain::draw_on;
 use drawing::pass::draw_pass;
 use meaning::cursor::Spaces;
 use meaning::line::Entry;
@@ -92,17 +93,20 @@ pub fn write_and_draw(text: &[u8], s: Settings, table: &mut [u32], events: &mut 
     let mut drawn: usize = 0;
     let mut stand = at_start(text);
     loop {
-        let row = lay_row(text, s, stand);
+        let far = draw_on(text, s, table, lines, events, drawn, stand);
+        let here = far.stand;
+        lines = far.lines;
+        let row = lay_row(text, s, here);
         let entry = row.entry;
         write_entry(table, lines, entry);
         lines += 1;
-        drawn = draw_line(text, s, stand, entry, events, drawn);
+        drawn = draw_line(text, s, here, entry, events, far.events);
         if row.last {
             return Both {
                 lines,
                 events: drawn,
             };
         }
-        stand = next_stand(text, stand, row);
+        stand = next_stand(text, here, row);
     }
 }

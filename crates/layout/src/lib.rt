@@ -3,3 +3,4 @@ pub mod checked;
 pub mod drawn;
 mod events;
 pub mod fresh;
+pub mod plain;

@@ -81,12 +81,16 @@ module _ (s : Settings) (t : List ℕ) (p : Stand) (c : StandReady s t p) (none 
   here = plainStand (p .at .0) (p .before .0)
 
   -- It does not matter what is known there.
-  entries-here : entriesFrom s t 0 here ≡ entriesFrom s t 0 p
-  unfolding entriesFrom rowsFrom
-  entries-here =
+  pub rows-here : rowsFrom s t 0 here ≡ rowsFrom s t 0 p
+  unfolding rowsFrom
+  rows-here =
       let count : p .rest .count .0 ≡ 0 = omega (arith, c .line .rest .counts) in
-      λ i. map entryOfRow
-      (rowsBy (suc (length (charsFrom t (p .at .0)))) s (0 + p .at .0) (p .before .0) (record { chars = sym none i; count = sym count i }) (charsFrom t (p .at .0)))
+      let cs = charsFrom t (p .at .0) in
+      λ i. rowsBy (suc (length cs)) s (0 + p .at .0) (p .before .0) (record { chars = sym none i; count = sym count i }) cs
+
+  entries-here : entriesFrom s t 0 here ≡ entriesFrom s t 0 p
+  unfolding entriesFrom
+  entries-here = ap (map entryOfRow) rows-here
 
   pub ready-here : StandReady s t here
   ready-here = record { line = rested (c .line) none; few = c .few; known = nothing-fits t nothingKnown refl }

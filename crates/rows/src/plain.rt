@@ -7,11 +7,11 @@ use parser::lexeme::Lexed;
 use placing::plain::plain_entry;
 use placing::plain::plain_row;
 use steps::ending::nothing_left;
-use steps::first::Known;
 use steps::first::nothing_known;
 use table::entries::write_entry;
 ghost use Prim.Native.Nat.{_≤_};
 ghost use mathlib.Core.Path.{_≡_};
+ghost use mathlib.Core.Bool.{true};
 ghost use Rattle.rows.specs.Standing.{StandReady};
 ghost use Rattle.rows.specs.Going.{RoomFrom};
 ghost use Rattle.rows.specs.Plain.{plainStand, WentTo};
@@ -23,7 +23,7 @@ pub struct Reached {
 }
 
 // Before a line that resumes nothing, where no word is known.
-fn plain_stand(at: Offset, before: Chars) -> Stand
+pub fn plain_stand(at: Offset, before: Chars) -> Stand
     ensures { λ r. ⌜ r ≡ plainStand (at .0) (before .0) ⌝ }
 {
     let rest = nothing_left();
@@ -33,15 +33,6 @@ fn plain_stand(at: Offset, before: Chars) -> Stand
         before,
         rest,
         known,
-    }
-}
-
-// Is a token known.
-fn knows(known: Known) -> bool {
-    let first = known.first;
-    match first {
-        Lexed::Token(_) => true,
-        Lexed::End => false,
     }
 }
 
@@ -79,18 +70,30 @@ fn write_plain(
     }
 }
 
-// The same from a stand on: none where lines are justified, where a rest is resumed, or where a word is known.
+// May such lines follow from a stand on: none does where lines are justified or a rest is resumed, and few where a word is known.
+pub fn may_be_plain(s: Settings, stand: Stand) -> bool
+    ensures { λ r. ⌜ (r ≡ true → (s .alignment ≤ 2) × (stand .rest .chars .0 ≡ 0)) ⌝ }
+{
+    if 2 < s.alignment {
+        return false;
+    }
+    if stand.rest.chars.0 != 0 {
+        return false;
+    }
+    let known = stand.known;
+    let first = known.first;
+    match first {
+        Lexed::Token(_) => false,
+        Lexed::End => true,
+    }
+}
+
+// As many such lines as follow from a stand on, which may be none.
 pub fn write_on(text: &[u8], s: Settings, table: &mut [u32], lines: usize, stand: Stand) -> Reached
     requires { ⌜ StandReady s (now text) stand × RoomFrom s (now text) (now table) lines stand ⌝ }
     ensures { λ r. ⌜ WentTo s (now (text .entry)) (now (table .entry)) lines stand (now (table .exit)) r ⌝ }
 {
-    if 2 < s.alignment {
-        return Reached { lines, stand };
-    }
-    if stand.rest.chars.0 != 0 {
-        return Reached { lines, stand };
-    }
-    if knows(stand.known) {
+    if !may_be_plain(s, stand) {
         return Reached { lines, stand };
     }
     let at = stand.at;

@@ -7,7 +7,9 @@ use mathlib.Core.Path.{_∙_}
 use lib.ListN.{length}
 use Rattle.rows.specs.Standing.{next-ready, further, stays}
 use Rattle.rows.specs.Turns.{Wrote, write-start, room-left, count-low, count-last, write-last, write-next}
+use Rattle.rows.specs.Going.{wrote-on, wrote-room}
 use Rattle.layout.specs.DrawTurns.{Drew, draw-start, draw-ready, draw-last, draw-next}
+use Rattle.layout.specs.DrawGoing.{drew-on, drew-few}
 use Rattle.layout.proofs.events.write_and_draw.Statement.{statement}
 use Rattle.layout.proofs.events.write_and_draw.Tie as tie
 
@@ -17,6 +19,54 @@ Inv-loop text s table₀ events₀ lines₀ drawn₀ stand₀ table events lines
 
 abbrev μ-loop : tie.MeasureT-loop
 μ-loop text s table₀ events₀ lines₀ drawn₀ stand₀ table events lines drawn stand = length text - stand .at .0
+
+abbrev begin : tie.At-loop Inv-loop μ-loop → tie.Start Inv-loop μ-loop
+begin c = c .before .before .before .before .before
+
+at-start-requires : tie.Need-at-start-requires Inv-loop μ-loop
+at-start-requires c κs = c .before .before .before .pre .0 .short
+
+loop-holds : tie.Need-loop-holds Inv-loop μ-loop
+loop-holds c =
+    let h = c .before .before .before .before .pre .0 in
+    (write-start _ _ _ _ h (c .at-start .ensures), draw-start _ _ _ _ h (c .at-start .ensures))
+
+draw-on-requires : tie.Need-draw-on-requires Inv-loop μ-loop
+draw-on-requires c κs =
+    let l = c .before .before in
+    let i = l .loop .inv in
+    (i .1 .ready, wrote-room _ _ _ _ _ _ (i .0) (begin l .pre .1), drew-few _ _ _ _ _ _ (i .1))
+
+-- ---- after the plain lines, if there were any
+
+abbrev Here : Type 0
+Here = tie.After-here Inv-loop μ-loop
+
+abbrev gone : Here → tie.After-draw-on Inv-loop μ-loop
+gone c = c .before .before .before .before .before
+
+abbrev turn : Here → tie.At-loop Inv-loop μ-loop
+turn c = gone c .before .before .before
+
+wrote : (c : Here) →
+    let d = gone c .draw-on in
+    let a = begin (turn c) .args in
+    Wrote (a .s) (a .text .now) (a .table .now) (d .last .1 .1 .0) (d .result .lines) (d .result .stand)
+wrote c = wrote-on _ _ _ _ _ _ _ _ _ (turn c .loop .inv .0) (gone c .draw-on .ensures .0)
+
+drew : (c : Here) →
+    let d = gone c .draw-on in
+    let a = begin (turn c) .args in
+    Drew (a .s) (a .text .now) (a .events .now) (d .last .1 .1 .1 .1 .0) (d .result .events) (d .result .stand)
+drew c =
+    let d = gone c .draw-on in
+    drew-on _ _ _ _ _ _ _ _ _ (d .ensures .0 .ready) (turn c .loop .inv .1) (d .ensures .1)
+
+abbrev room : (c : Here) → tie.Start Inv-loop μ-loop
+room c = begin (turn c)
+
+lay-row-requires : tie.Need-lay-row-requires Inv-loop μ-loop
+lay-row-requires c κs = drew c .ready
 
 -- From a line's end back to where its entry was written, and to where it was laid.
 abbrev Drawn : Type 0
@@ -28,61 +78,50 @@ written c = c .before .before .before .before
 abbrev laid : Drawn → tie.After-lay-row Inv-loop μ-loop
 laid c = written c .before .before .before
 
-at-start-requires : tie.Need-at-start-requires Inv-loop μ-loop
-at-start-requires c κs = c .before .before .before .pre .0 .short
-
-loop-holds : tie.Need-loop-holds Inv-loop μ-loop
-loop-holds c =
-    let h = c .before .before .before .before .pre .0 in
-    (write-start _ _ _ _ h (c .at-start .ensures), draw-start _ _ _ _ h (c .at-start .ensures))
-
-lay-row-requires : tie.Need-lay-row-requires Inv-loop μ-loop
-lay-row-requires c κs = c .loop .inv .1 .ready
-
 write-entry-requires : tie.Need-write-entry-requires Inv-loop μ-loop
 write-entry-requires c κs =
-    let l = c .before .before .before in
-    room-left _ _ _ _ _ _ (l .loop .inv .0) (l .before .before .before .before .before .pre .1)
+    let h = c .before .before .before in
+    room-left _ _ _ _ _ _ (wrote h) (room h .pre .1)
 
 add-lines : tie.Need-add-lines Inv-loop μ-loop
-add-lines c = omega (arith, count-low _ _ _ _ (c .before .before .before .before .before .before .loop .inv .0 .counted))
+add-lines c = omega (arith, count-low _ _ _ _ (wrote (c .before .before .before .before .before .before) .counted))
 
 draw-line-requires : tie.Need-draw-line-requires Inv-loop μ-loop
 draw-line-requires c κs =
     let r = c .before .before .before .before .before .before in
-    draw-ready _ _ _ _ _ _ (r .before .loop .inv .1) _ (r .lay-row .ensures)
+    draw-ready _ _ _ _ _ _ (drew (r .before)) _ (r .lay-row .ensures)
 
 same-length : tie.Need-same-length Inv-loop μ-loop
-same-length c = let d = c .before .before .before in written d .write-entry .kept .0 ∙ laid d .before .loop .inv .0 .same
+same-length c = let d = c .before .before .before in written d .write-entry .kept .0 ∙ wrote (laid d .before) .same
 
 same-length-2 : tie.Need-same-length-2 Inv-loop μ-loop
-same-length-2 c = let d = c .before .before .before in d .draw-line .kept .1 .1 .1 .1 .0 ∙ laid d .before .loop .inv .1 .same
+same-length-2 c = let d = c .before .before .before in d .draw-line .kept .1 .1 .1 .1 .0 ∙ drew (laid d .before) .same
 
 returns : tie.Need-returns Inv-loop μ-loop
 returns c =
     let d = c .before .before .before in
     let w = written d in
     let r = laid d in
-    let l = r .before in
-    let i = l .loop .inv in
+    let b = r .before in
     let h = c .if1 .taken in
     let is = r .lay-row .ensures in
-    let drew = draw-last _ _ _ _ _ _ (i .1) _ is _ _ (d .draw-line .ensures .0) (d .draw-line .ensures .1) (d .draw-line .kept .1 .1 .1 .1 .0) h in
-    let wrote = write-last _ _ _ _ _ _ (i .0) (l .before .before .before .before .before .pre .1) _ is _ (w .write-entry .ensures) (w .write-entry .kept .0) h in
-    (count-last _ _ _ _ (i .0 .counted) _ is h, (drew .0, (wrote, drew .1)))
+    let last-drawn = draw-last _ _ _ _ _ _ (drew b) _ is _ _ (d .draw-line .ensures .0) (d .draw-line .ensures .1) (d .draw-line .kept .1 .1 .1 .1 .0) h in
+    let last-written = write-last _ _ _ _ _ _ (wrote b) (room b .pre .1) _ is _ (w .write-entry .ensures) (w .write-entry .kept .0) h in
+    (count-last _ _ _ _ (wrote b .counted) _ is h, (last-drawn .0, (last-written, last-drawn .1)))
 
 next-stand-requires : tie.Need-next-stand-requires Inv-loop μ-loop
 next-stand-requires c κs =
     let r = laid (c .before .before .before) in
-    next-ready _ _ _ (r .before .loop .inv .1 .ready) _ (r .lay-row .ensures)
+    next-ready _ _ _ (drew (r .before) .ready) _ (r .lay-row .ensures)
 
 loop-less : tie.Need-loop-less Inv-loop μ-loop
 loop-less c =
     let e = c .before in
     let r = laid (e .before .before .before) in
-    let i = r .before .loop .inv .1 .ready in
+    let b = r .before in
+    let i = drew b .ready in
     let is = r .lay-row .ensures in
-    omega (arith, further _ _ _ i _ is _ (c .next-stand .ensures) (e .if1 .left), stays _ _ _ i _ is _ (c .next-stand .ensures))
+    omega (arith, gone b .draw-on .ensures .0 .forward, further _ _ _ i _ is _ (c .next-stand .ensures) (e .if1 .left), stays _ _ _ i _ is _ (c .next-stand .ensures))
 
 loop-again : tie.Need-loop-again Inv-loop μ-loop
 loop-again c =
@@ -90,13 +129,11 @@ loop-again c =
     let d = e .before .before .before in
     let w = written d in
     let r = laid d in
-    let l = r .before in
-    let i = l .loop .inv in
+    let b = r .before in
     let is = r .lay-row .ensures in
     let on = c .next-stand .ensures in (
-      write-next _ _ _ _ _ _ (i .0) (l .before .before .before .before .before .pre .1) _ is _ (w .write-entry .ensures) (w .write-entry .kept .0) _ on
-          (e .if1 .left),
-      draw-next _ _ _ _ _ _ (i .1) _ is _ _ (d .draw-line .ensures .0) (d .draw-line .ensures .1) (d .draw-line .kept .1 .1 .1 .1 .0) _ on
+      write-next _ _ _ _ _ _ (wrote b) (room b .pre .1) _ is _ (w .write-entry .ensures) (w .write-entry .kept .0) _ on (e .if1 .left),
+      draw-next _ _ _ _ _ _ (drew b) _ is _ _ (d .draw-line .ensures .0) (d .draw-line .ensures .1) (d .draw-line .kept .1 .1 .1 .1 .0) _ on
           (e .if1 .left),
     )
 
@@ -108,6 +145,7 @@ write-and-draw-spec =
     μ-loop
     at-start-requires
     loop-holds
+    draw-on-requires
     lay-row-requires
     write-entry-requires
     add-lines

@@ -1,0 +1,28 @@
+-- `rows::plain::may_be_plain` meets its contract (rule 10).
+-- Assumes nothing.
+use mathlib.Core.Bool.{false≢true}
+use borrow.Author.Needs.{needs}
+use Rattle.rows.proofs.plain.may_be_plain.Statement.{statement}
+use Rattle.rows.proofs.plain.may_be_plain.Tie as tie
+
+returns : tie.Need-returns
+returns c = λ e. absurd (false≢true e)
+
+returns-2 : tie.Need-returns-2
+returns-2 c = λ e. absurd (false≢true e)
+
+enum-told : tie.Need-enum-told
+enum-told c = search needs
+
+enum-told-2 : tie.Need-enum-told-2
+enum-told-2 c = search needs
+
+returns-3 : tie.Need-returns-3
+returns-3 c = search needs
+
+returns-4 : tie.Need-returns-4
+returns-4 c = search needs
+
+pub may-be-plain-spec : {M : Type 1} → statement M
+may-be-plain-spec =
+    tie.close (tie.spec returns returns-2 enum-told enum-told-2 returns-3 returns-4)
