@@ -81,8 +81,36 @@ pub struct Both {
 
 // All lines of a text, each laid once: written to a table that has room for them, and their events put into a buffer as far as it has
 // room.
-pub fn write_and_draw(text: &[u8], s: Settings, table: &mut [u32], events: &mut [u32]) -> Both
+fn draw_each(text: &[u8], s: Settings, table: &mut [u32], events: &mut [u32]) -> Both
     requires { ⌜ TextReady s (now text) ⌝ }
+    requires { ⌜ entryNumbers * length (entriesOf s (now text)) ≤ length (now table) ⌝ }
+    ensures { λ r. ⌜ r .lines ≡ length (entriesOf s (now (text .entry))) ⌝ }
+    ensures { λ r. ⌜ r .events ≡ length (eventsOf s (now (text .entry))) ⌝ }
+    ensures { λ r. ⌜ now (table .exit) ≡ written (now (table .entry)) (ofAll ofEntry (entriesOf s (now (text .entry)))) ⌝ }
+    ensures { λ r. ⌜ now (events .exit) ≡ putEvents (now (events .entry)) 0 (eventsOf s (now (text .entry))) ⌝ }
+{
+    let mut lines: usize = 0;
+    let mut drawn: usize = 0;
+    let mut stand = at_start(text);
+    loop {
+        let row = lay_row(text, s, stand);
+        let entry = row.entry;
+        write_entry(table, lines, entry);
+        lines += 1;
+        drawn = draw_line(text, s, stand, entry, events, drawn);
+        if row.last {
+            return Both {
+                lines,
+                events: drawn,
+            };
+        }
+        stand = next_stand(text, stand, row);
+    }
+}
+
+// The same by settings that justify no line: those of plain words as they are found.
+fn draw_found(text: &[u8], s: Settings, table: &mut [u32], events: &mut [u32]) -> Both
+    requires { ⌜ TextReady s (now text) × (s .alignment ≤ 2) ⌝ }
     requires { ⌜ entryNumbers * length (entriesOf s (now text)) ≤ length (now table) ⌝ }
     ensures { λ r. ⌜ r .lines ≡ length (entriesOf s (now (text .entry))) ⌝ }
     ensures { λ r. ⌜ r .events ≡ length (eventsOf s (now (text .entry))) ⌝ }
@@ -109,4 +137,19 @@ pub fn write_and_draw(text: &[u8], s: Settings, table: &mut [u32], events: &mut 
         }
         stand = next_stand(text, here, row);
     }
+}
+
+// The same by any settings.
+pub fn write_and_draw(text: &[u8], s: Settings, table: &mut [u32], events: &mut [u32]) -> Both
+    requires { ⌜ TextReady s (now text) ⌝ }
+    requires { ⌜ entryNumbers * length (entriesOf s (now text)) ≤ length (now table) ⌝ }
+    ensures { λ r. ⌜ r .lines ≡ length (entriesOf s (now (text .entry))) ⌝ }
+    ensures { λ r. ⌜ r .events ≡ length (eventsOf s (now (text .entry))) ⌝ }
+    ensures { λ r. ⌜ now (table .exit) ≡ written (now (table .entry)) (ofAll ofEntry (entriesOf s (now (text .entry)))) ⌝ }
+    ensures { λ r. ⌜ now (events .exit) ≡ putEvents (now (events .entry)) 0 (eventsOf s (now (text .entry))) ⌝ }
+{
+    if 2 < s.alignment {
+        return draw_each(text, s, table, events);
+    }
+    draw_found(text, s, table, events)
 }

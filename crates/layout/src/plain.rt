@@ -77,11 +77,11 @@ pub fn draw_on(
     drawn: usize,
     stand: Stand,
 ) -> Drawn
-    requires { ⌜ StandReady s (now text) stand × RoomFrom s (now text) (now table) lines stand × FewFrom s (now text) drawn stand ⌝ }
+    requires { ⌜ StandReady s (now text) stand × RoomFrom s (now text) (now table) lines stand × FewFrom s (now text) drawn stand × (s .alignment ≤ 2) ⌝ }
     ensures { λ r. ⌜ Went s (now (text .entry)) (now (table .entry)) lines stand (now (table .exit)) (r .lines) (r .stand) ⌝ }
     ensures { λ r. ⌜ DrewTo s (now (text .entry)) (now (events .entry)) drawn stand (now (events .exit)) (r .events) (r .stand) ⌝ }
 {
-    if !may_be_plain(s, stand) {
+    if !may_be_plain(stand) {
         return Drawn {
             lines,
             events: drawn,

@@ -28,9 +28,30 @@ pub fn count_lines(text: &[u8], s: Settings) -> usize
     }
 }
 
-// All lines of a text, written to a table that has room for them.
-pub fn write_lines(text: &[u8], s: Settings, table: &mut [u32]) -> usize
+// All lines of a text, written to a table that has room for them: each by the step.
+fn write_each(text: &[u8], s: Settings, table: &mut [u32]) -> usize
     requires { ⌜ TextReady s (now text) ⌝ }
+    requires { ⌜ entryNumbers * length (entriesOf s (now text)) ≤ length (now table) ⌝ }
+    ensures { λ r. ⌜ r ≡ length (entriesOf s (now (text .entry))) ⌝ }
+    ensures { λ r. ⌜ now (table .exit) ≡ written (now (table .entry)) (ofAll ofEntry (entriesOf s (now (text .entry)))) ⌝ }
+{
+    let mut n: usize = 0;
+    let mut stand = at_start(text);
+    loop {
+        let row = lay_row(text, s, stand);
+        let entry = row.entry;
+        write_entry(table, n, entry);
+        n += 1;
+        if row.last {
+            return n;
+        }
+        stand = next_stand(text, stand, row);
+    }
+}
+
+// The same by settings that justify no line: those of plain words as they are found, and the others by the step.
+fn write_found(text: &[u8], s: Settings, table: &mut [u32]) -> usize
+    requires { ⌜ TextReady s (now text) × (s .alignment ≤ 2) ⌝ }
     requires { ⌜ entryNumbers * length (entriesOf s (now text)) ≤ length (now table) ⌝ }
     ensures { λ r. ⌜ r ≡ length (entriesOf s (now (text .entry))) ⌝ }
     ensures { λ r. ⌜ now (table .exit) ≡ written (now (table .entry)) (ofAll ofEntry (entriesOf s (now (text .entry)))) ⌝ }
@@ -50,4 +71,17 @@ pub fn write_lines(text: &[u8], s: Settings, table: &mut [u32]) -> usize
         }
         stand = next_stand(text, here, row);
     }
+}
+
+// The same by any settings.
+pub fn write_lines(text: &[u8], s: Settings, table: &mut [u32]) -> usize
+    requires { ⌜ TextReady s (now text) ⌝ }
+    requires { ⌜ entryNumbers * length (entriesOf s (now text)) ≤ length (now table) ⌝ }
+    ensures { λ r. ⌜ r ≡ length (entriesOf s (now (text .entry))) ⌝ }
+    ensures { λ r. ⌜ now (table .exit) ≡ written (now (table .entry)) (ofAll ofEntry (entriesOf s (now (text .entry)))) ⌝ }
+{
+    if 2 < s.alignment {
+        return write_each(text, s, table);
+    }
+    write_found(text, s, table)
 }

@@ -70,13 +70,10 @@ fn write_plain(
     }
 }
 
-// May such lines follow from a stand on: none does where lines are justified or a rest is resumed, and few where a word is known.
-pub fn may_be_plain(s: Settings, stand: Stand) -> bool
-    ensures { λ r. ⌜ (r ≡ true → (s .alignment ≤ 2) × (stand .rest .chars .0 ≡ 0)) ⌝ }
+// May such lines follow from a stand on: none does where a rest is resumed, and few where a word is known.
+pub fn may_be_plain(stand: Stand) -> bool
+    ensures { λ r. ⌜ (r ≡ true → stand .rest .chars .0 ≡ 0) ⌝ }
 {
-    if 2 < s.alignment {
-        return false;
-    }
     if stand.rest.chars.0 != 0 {
         return false;
     }
@@ -90,10 +87,10 @@ pub fn may_be_plain(s: Settings, stand: Stand) -> bool
 
 // As many such lines as follow from a stand on, which may be none.
 pub fn write_on(text: &[u8], s: Settings, table: &mut [u32], lines: usize, stand: Stand) -> Reached
-    requires { ⌜ StandReady s (now text) stand × RoomFrom s (now text) (now table) lines stand ⌝ }
+    requires { ⌜ StandReady s (now text) stand × RoomFrom s (now text) (now table) lines stand × (s .alignment ≤ 2) ⌝ }
     ensures { λ r. ⌜ WentTo s (now (text .entry)) (now (table .entry)) lines stand (now (table .exit)) r ⌝ }
 {
-    if !may_be_plain(s, stand) {
+    if !may_be_plain(stand) {
         return Reached { lines, stand };
     }
     let at = stand.at;

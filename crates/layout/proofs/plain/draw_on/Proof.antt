@@ -23,11 +23,11 @@ draw-plain-lines-requires c κs =
     let m = e .before in
     let b = begin m in
     let a = b .args in
-    let may = m .may-be-plain .ensures (not-false _ (e .if1 .left)) in (
-      (ready-here (a .s) (a .text .now) (a .stand) (b .pre .0) (may .1), may .0),
+    let none = m .may-be-plain .ensures (not-false _ (e .if1 .left)) in (
+      (ready-here (a .s) (a .text .now) (a .stand) (b .pre .0) none, b .pre .3),
       (
-        room-here (a .s) (a .text .now) (a .stand) (b .pre .0) (may .1) (a .table .now) (a .lines) (b .pre .1),
-        few-here (a .s) (a .text .now) (a .stand) (b .pre .0) (may .1) (a .drawn) (b .pre .2),
+        room-here (a .s) (a .text .now) (a .stand) (b .pre .0) none (a .table .now) (a .lines) (b .pre .1),
+        few-here (a .s) (a .text .now) (a .stand) (b .pre .0) none (a .drawn) (b .pre .2),
       ),
     )
 
@@ -43,7 +43,7 @@ returns-2 c =
     let e = w .before .before .before .before .before in
     let m = e .before in
     let b = begin m in
-    let none = m .may-be-plain .ensures (not-false _ (e .if1 .left)) .1 in (
+    let none = m .may-be-plain .ensures (not-false _ (e .if1 .left)) in (
       went-here _ _ _ (b .pre .0) none _ _ _ _ _ (w .draw-plain-lines .ensures .0),
       drew-here _ _ _ (b .pre .0) none _ _ _ _ _ (w .draw-plain-lines .ensures .1),
     )

@@ -8,21 +8,18 @@ use Rattle.rows.proofs.plain.may_be_plain.Tie as tie
 returns : tie.Need-returns
 returns c = λ e. absurd (false≢true e)
 
-returns-2 : tie.Need-returns-2
-returns-2 c = λ e. absurd (false≢true e)
-
 enum-told : tie.Need-enum-told
 enum-told c = search needs
 
 enum-told-2 : tie.Need-enum-told-2
 enum-told-2 c = search needs
 
+returns-2 : tie.Need-returns-2
+returns-2 c = search needs
+
 returns-3 : tie.Need-returns-3
 returns-3 c = search needs
 
-returns-4 : tie.Need-returns-4
-returns-4 c = search needs
-
 pub may-be-plain-spec : {M : Type 1} → statement M
 may-be-plain-spec =
-    tie.close (tie.spec returns returns-2 enum-told enum-told-2 returns-3 returns-4)
+    tie.close (tie.spec returns enum-told enum-told-2 returns-2 returns-3)

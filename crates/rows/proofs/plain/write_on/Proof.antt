@@ -22,9 +22,9 @@ write-plain-requires c κs =
     let m = e .before in
     let b = begin m in
     let a = b .args in
-    let may = m .may-be-plain .ensures (not-false _ (e .if1 .left)) in (
-      (ready-here (a .s) (a .text .now) (a .stand) (b .pre .0) (may .1), may .0),
-      room-here (a .s) (a .text .now) (a .stand) (b .pre .0) (may .1) (a .table .now) (a .lines) (b .pre .1),
+    let none = m .may-be-plain .ensures (not-false _ (e .if1 .left)) in (
+      (ready-here (a .s) (a .text .now) (a .stand) (b .pre .0) none, b .pre .2),
+      room-here (a .s) (a .text .now) (a .stand) (b .pre .0) none (a .table .now) (a .lines) (b .pre .1),
     )
 
 same-length : tie.Need-same-length
@@ -36,7 +36,7 @@ returns-2 c =
     let e = w .before .before .before .before in
     let m = e .before in
     let b = begin m in
-    went-here _ _ _ (b .pre .0) (m .may-be-plain .ensures (not-false _ (e .if1 .left)) .1) _ _ _ _ _ (w .write-plain .ensures)
+    went-here _ _ _ (b .pre .0) (m .may-be-plain .ensures (not-false _ (e .if1 .left))) _ _ _ _ _ (w .write-plain .ensures)
 
 pub write-on-spec : {M : Type 1} → statement M
 write-on-spec =

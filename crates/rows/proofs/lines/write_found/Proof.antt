@@ -1,4 +1,4 @@
--- `rows::lines::write_lines` meets its contract. The invariant: what is still to be written makes what was to be written (rule 10).
+-- `rows::lines::write_found` meets its contract. The invariant: what is still to be written makes what was to be written (rule 10).
 -- Assumes nothing.
 use Prim.Native.Nat.{_-_}
 use native.Mathlib.Omega.{arith}
@@ -7,8 +7,8 @@ use lib.ListN.{length}
 use Rattle.rows.specs.Standing.{next-ready, further, stays}
 use Rattle.rows.specs.Turns.{Wrote, write-start, room-left, count-low, count-last, write-last, write-next}
 use Rattle.rows.specs.Going.{wrote-on, wrote-room}
-use Rattle.rows.proofs.lines.write_lines.Statement.{statement}
-use Rattle.rows.proofs.lines.write_lines.Tie as tie
+use Rattle.rows.proofs.lines.write_found.Statement.{statement}
+use Rattle.rows.proofs.lines.write_found.Tie as tie
 
 abbrev Inv-loop : tie.InvT-loop
 Inv-loop text s table₀ n₀ stand₀ table n stand = Wrote s text table₀ table n stand
@@ -20,15 +20,15 @@ abbrev begin : tie.At-loop Inv-loop μ-loop → tie.Start Inv-loop μ-loop
 begin c = c .before .before .before .before
 
 at-start-requires : tie.Need-at-start-requires Inv-loop μ-loop
-at-start-requires c κs = c .before .before .pre .0 .short
+at-start-requires c κs = c .before .before .pre .0 .0 .short
 
 loop-holds : tie.Need-loop-holds Inv-loop μ-loop
-loop-holds c = write-start _ _ _ _ (c .before .before .before .pre .0) (c .at-start .ensures)
+loop-holds c = write-start _ _ _ _ (c .before .before .before .pre .0 .0) (c .at-start .ensures)
 
 write-on-requires : tie.Need-write-on-requires Inv-loop μ-loop
 write-on-requires c κs =
     let l = c .before in
-    (l .loop .inv .counted .ready, wrote-room _ _ _ _ _ _ (l .loop .inv) (begin l .pre .1))
+    (l .loop .inv .counted .ready, wrote-room _ _ _ _ _ _ (l .loop .inv) (begin l .pre .1), begin l .pre .0 .1)
 
 -- ---- after the plain lines, if there were any
 
@@ -91,8 +91,8 @@ loop-again c =
     write-next _ _ _ _ _ _ (wrote h) (begin (gone h .before .before) .pre .1) _ (r .lay-row .ensures) _ (w .write-entry .ensures)
     (w .write-entry .kept .0) _ (c .next-stand .ensures) (e .if1 .left)
 
-pub write-lines-spec : {M : Type 1} → statement M
-write-lines-spec =
+pub write-found-spec : {M : Type 1} → statement M
+write-found-spec =
     tie.close
     (tie.spec
     Inv-loop

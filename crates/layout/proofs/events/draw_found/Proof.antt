@@ -1,4 +1,4 @@
--- `layout::events::write_and_draw` meets its contract. The invariants are those of `write_lines` and of `draw_lines`, side by side.
+-- `layout::events::draw_found` meets its contract. The invariants are those of `write_lines` and of `draw_lines`, side by side.
 -- Rule 10, rule 13.
 -- Assumes nothing.
 use Prim.Native.Nat.{_-_}
@@ -10,8 +10,8 @@ use Rattle.rows.specs.Turns.{Wrote, write-start, room-left, count-low, count-la
 use Rattle.rows.specs.Going.{wrote-on, wrote-room}
 use Rattle.layout.specs.DrawTurns.{Drew, draw-start, draw-ready, draw-last, draw-next}
 use Rattle.layout.specs.DrawGoing.{drew-on, drew-few}
-use Rattle.layout.proofs.events.write_and_draw.Statement.{statement}
-use Rattle.layout.proofs.events.write_and_draw.Tie as tie
+use Rattle.layout.proofs.events.draw_found.Statement.{statement}
+use Rattle.layout.proofs.events.draw_found.Tie as tie
 
 abbrev Inv-loop : tie.InvT-loop
 Inv-loop text s table₀ events₀ lines₀ drawn₀ stand₀ table events lines drawn stand =
@@ -24,18 +24,18 @@ abbrev begin : tie.At-loop Inv-loop μ-loop → tie.Start Inv-loop μ-loop
 begin c = c .before .before .before .before .before
 
 at-start-requires : tie.Need-at-start-requires Inv-loop μ-loop
-at-start-requires c κs = c .before .before .before .pre .0 .short
+at-start-requires c κs = c .before .before .before .pre .0 .0 .short
 
 loop-holds : tie.Need-loop-holds Inv-loop μ-loop
 loop-holds c =
-    let h = c .before .before .before .before .pre .0 in
+    let h = c .before .before .before .before .pre .0 .0 in
     (write-start _ _ _ _ h (c .at-start .ensures), draw-start _ _ _ _ h (c .at-start .ensures))
 
 draw-on-requires : tie.Need-draw-on-requires Inv-loop μ-loop
 draw-on-requires c κs =
     let l = c .before .before in
     let i = l .loop .inv in
-    (i .1 .ready, wrote-room _ _ _ _ _ _ (i .0) (begin l .pre .1), drew-few _ _ _ _ _ _ (i .1))
+    (i .1 .ready, wrote-room _ _ _ _ _ _ (i .0) (begin l .pre .1), drew-few _ _ _ _ _ _ (i .1), begin l .pre .0 .1)
 
 -- ---- after the plain lines, if there were any
 
@@ -137,8 +137,8 @@ loop-again c =
           (e .if1 .left),
     )
 
-pub write-and-draw-spec : {M : Type 1} → statement M
-write-and-draw-spec =
+pub draw-found-spec : {M : Type 1} → statement M
+draw-found-spec =
     tie.close
     (tie.spec
     Inv-loop
