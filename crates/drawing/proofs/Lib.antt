@@ -2,6 +2,5 @@ pub mod StrideEvents
 pub mod OnwardEvents
 pub mod TakenEvents
 pub mod PassLoop
-pub mod PlainSteps
 pub mod PlainEvents
 pub mod PlainEnd

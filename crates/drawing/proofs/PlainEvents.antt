@@ -18,6 +18,8 @@ use Rattle.meaning.specs.declared.line.EventKind.the-variants.{Space, Printed}
 use Rattle.parser.specs.Ascii.{spaceAt}
 use Rattle.pairs.specs.PlainWords.{PlainWord}
 use Rattle.pairs.specs.Stretches.{Stretched}
+use Rattle.pairs.specs.NextPlain.{NextPlain}
+use Rattle.pairs.specs.NextPlainLaws.{stretched-on}
 use Rattle.pairs.specs.PlainLaws.{plain-pair}
 use Rattle.steps.specs.Unrolled.{nothingResumed}
 use Rattle.steps.specs.Stopping.{wordPlace}
@@ -28,10 +30,9 @@ use Rattle.ink.specs.Sheet.{sheet, drawnOn, pen-one}
 use Rattle.ink.specs.declared.pen.Pen.{Pen}
 use Rattle.drawing.specs.PassDrawn.{DrawRoom, penAt}
 use Rattle.drawing.specs.DrawingOn.{PenReady, Drew}
-use Rattle.drawing.specs.PlainDrawn.{NextWord, plainStart, plainPlace, PlainToDraw, DrewPlain}
+use Rattle.drawing.specs.PlainDrawn.{plainStart, plainPlace, PlainToDraw, DrewPlain}
 use Rattle.drawing.proofs.OnwardEvents.{drew-none, drew-on, drew-first, drew-space}
 use Rattle.drawing.proofs.PassLoop.{drawing-first}
-use Rattle.drawing.proofs.PlainSteps.{stretched-on}
 
 -- ---- columns
 
@@ -72,7 +73,7 @@ module _ {s : Settings} {t : List ℕ} {at end left : ℕ} (d : PlainToDraw s t 
   columns-fit : (to : ℕ) → to ≤ end → left + (to - at) * s .glyph .0 ≤ s .width .0
   columns-fit to h = let l : to - at ≤ end - at = omega arith in omega (arith, d .fits, mul-le-mul-right (s .glyph .0) l)
 
-  module _ {k : ℕ} (r : DrawRoom s (plainStart s left) t at nothingResumed left k) {first : ℕ} (x : NextWord t at first) where
+  module _ {k : ℕ} (r : DrawRoom s (plainStart s left) t at nothingResumed left k) {first : ℕ} (x : NextPlain t at first) where
     first-near : first ≤ end
     first-near = x .nearest end (d .line .words)
 
@@ -97,7 +98,7 @@ module _ {s : Settings} {t : List ℕ} {at end left : ℕ} (d : PlainToDraw s t 
   -- ---- a space and a word behind it
 
   pub turn-first : {ev : List ℕ} {p : Place} {from : ℕ} {o : Pen} {u : List ℕ} {to : ℕ} {v : Pen} → DrewPlain s t left at ev p from o u to v
-      → NextWord t at to → Turn s t at end left u (plainPlace s left (to - at)) to v u to v
+      → NextPlain t at to → Turn s t at end left u (plainPlace s left (to - at)) to v u to v
   turn-first f x =
       record {
         drew = record { onward = drew-none (f .onward .ready); pen = f .pen };
@@ -117,7 +118,7 @@ module _ {s : Settings} {t : List ℕ} {at end left : ℕ} (d : PlainToDraw s t 
       (record { onward = drew-on (f .onward) (g .drew .onward); pen = g .drew .pen })
 
   module _ {ev : List ℕ} {p : Place} {from : ℕ} {o : Pen} {u : List ℕ} {to : ℕ} {v : Pen} (f : Turn s t at end left ev p from o u to v) (more : to < end)
-      {next : ℕ} (x : NextWord t (to + 1) next)
+      {next : ℕ} (x : NextPlain t (to + 1) next)
     where
       next-near : next ≤ end
       next-near = x .nearest end (f .rest more)

@@ -2,31 +2,16 @@
 -- Assumes nothing.
 use Prim.Native.Nat.{ℕ, _+_, _-_, _*_, _/_, _≤_}
 use mathlib.Core.Path.{_≡_}
-use mathlib.Core.Bool.{true, false}
+use mathlib.Core.Bool.{false}
 use mathlib.Core.List.{List}
 use Rattle.meaning.specs.Alignment.{plainSpaces}
 use Rattle.meaning.specs.Line.{startPlace}
 use Rattle.meaning.specs.declared.settings.Settings.{Settings}
 use Rattle.meaning.specs.declared.cursor.Place.{Place}
-use Rattle.parser.specs.Ascii.{spaceAt}
-use Rattle.pairs.specs.PlainWords.{PlainWord}
-use Rattle.pairs.specs.Stretches.{Stretched, PlainLine}
+use Rattle.pairs.specs.Stretches.{PlainLine}
 use Rattle.steps.specs.Unrolled.{nothingResumed}
 use Rattle.ink.specs.declared.pen.Pen.{Pen}
 use Rattle.drawing.specs.DrawingOn.{Drew}
-
--- ---- words
-
--- Plain words with one space between any two stand from a position on, up to some space.
-pub record Stretching (t : List ℕ) (from : ℕ) : Type 0 where
-  pub end : ℕ
-  pub words : Stretched t from end
-
--- The first of them, up to the space behind it.
-pub record NextWord (t : List ℕ) (from to : ℕ) : Type 0 where
-  pub word : PlainWord t from to
-  pub space : spaceAt t to ≡ true
-  pub nearest : (end : ℕ) → Stretched t from end → to ≤ end
 
 -- ---- places
 

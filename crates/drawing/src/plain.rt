@@ -5,26 +5,15 @@ use ink::pen::put_one;
 use meaning::counts::Pixels;
 use meaning::line::EventKind;
 use meaning::settings::Settings;
-ghost use Prim.Native.Nat.{_+_, _≤_};
+use pairs::word_end::word_end;
+ghost use Prim.Native.Nat.{_+_};
 ghost use mathlib.Core.Path.{_≡_};
 ghost use lib.ListN.{length};
 ghost use Rattle.steps.specs.Unrolled.{nothingResumed};
 ghost use Rattle.table.specs.Numbers.{putEvents};
 ghost use Rattle.drawing.specs.Drawn.{drawnFrom, eventsFrom};
 ghost use Rattle.drawing.specs.PassDrawn.{DrawRoom, penAt};
-ghost use Rattle.drawing.specs.PlainDrawn.{Stretching, NextWord, plainStart, PlainToDraw, DrewPlain};
-
-// Where the plain word ends that stands at a position, before a space.
-fn word_end(text: &[u8], from: usize) -> usize
-    requires { ⌜ (length (now text) ≤ 65535) × Stretching (now text) from ⌝ }
-    ensures { λ r. ⌜ NextWord (now (text .entry)) from r ⌝ }
-{
-    let mut at = from + 1;
-    while text[at] != 0x20 {
-        at += 1;
-    }
-    at
-}
+ghost use Rattle.drawing.specs.PlainDrawn.{plainStart, PlainToDraw, DrewPlain};
 
 // All words of a line from its left x on, up to the space behind the last, and the spaces between them: events number k and on.
 fn draw_plain_words(

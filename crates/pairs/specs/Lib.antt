@@ -2,9 +2,11 @@ pub mod Pairs
 pub mod PlainWords
 pub mod Within
 pub mod Stretches
+pub mod NextPlain
 pub mod PairLaws
 pub mod PlainLaws
 pub mod WithinLaws
 pub mod StretchLaws
 pub mod StretchedWords
 pub mod PlainLineLaws
+pub mod NextPlainLaws

@@ -3,3 +3,4 @@ pub mod pair;
 pub mod plain_line;
 pub mod stretch;
 pub mod within;
+pub mod word_end;

@@ -1,13 +1,13 @@
--- `drawing::plain::word_end` meets its contract (rule 2).
+-- `pairs::word_end::word_end` meets its contract (rule 2).
 -- Assumes nothing.
 use Prim.Native.Nat.{_-_}
 use native.Mathlib.Omega.{arith}
 use lib.ListN.{length}
 use borrow.Author.Needs.{needs}
 use Rattle.parser.specs.Ascii.{plain-inside}
-use Rattle.drawing.proofs.PlainSteps.{Lasting, lasting-first, lasting-inside, lasting-more, lasting-ends}
-use Rattle.drawing.proofs.plain.word_end.Statement.{statement}
-use Rattle.drawing.proofs.plain.word_end.Tie as tie
+use Rattle.pairs.specs.NextPlainLaws.{Lasting, lasting-first, lasting-inside, lasting-more, lasting-ends}
+use Rattle.pairs.proofs.word_end.word_end.Statement.{statement}
+use Rattle.pairs.proofs.word_end.word_end.Tie as tie
 
 abbrev Inv-loop : tie.InvT-loop
 Inv-loop text from at₀ at = Lasting text from at

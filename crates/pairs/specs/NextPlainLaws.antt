@@ -9,9 +9,9 @@ use lib.ListN.{length, getD}
 use Rattle.parser.specs.Ascii.{space-inside, plain-inside}
 use Rattle.parser.specs.Letters.{Lettered}
 use Rattle.parser.specs.LetterLaws.{lettered-none, lettered-more}
 use Rattle.pairs.specs.Stretches.{smooth, Stretched}
 use Rattle.pairs.specs.StretchLaws.{plain-smooth, smooth-apart, plain-here, space-here, space-byte, space-ends}
-use Rattle.drawing.specs.PlainDrawn.{Stretching, NextWord}
+use Rattle.pairs.specs.NextPlain.{Stretching, NextPlain}
 
 -- ---- within a word
 
@@ -39,7 +39,7 @@ module _ {t : List ℕ} {from : ℕ} (w : Stretching t from) where
               omega (arith, l .1 end x, apart),
         )
 
-    pub lasting-ends : getD t at 0 ≡ 0x20 → NextWord t from at
+    pub lasting-ends : getD t at 0 ≡ 0x20 → NextPlain t from at
     lasting-ends e =
         let here = lasting-inside in
         record {
@@ -50,7 +50,7 @@ module _ {t : List ℕ} {from : ℕ} (w : Stretching t from) where
 
 -- ---- behind it
 
-module _ {t : List ℕ} {from to end : ℕ} (w : Stretched t from end) (x : NextWord t from to) (h : to < end) where
+module _ {t : List ℕ} {from to end : ℕ} (w : Stretched t from end) (x : NextPlain t from to) (h : to < end) where
   -- A letter stands behind the space, and it is not the last one.
   abbrev behind : smooth (getD t (to + 1 - 1) 0) (getD t (to + 1) 0) ≡ true
   behind = w .smooth (to + 1) (omega (arith, x .word .letters .forward)) (omega arith)
