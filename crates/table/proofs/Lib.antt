@@ -4,6 +4,7 @@ pub mod Judging
 pub mod LineByLine
 pub mod EditLaws
 pub mod SkipTurns
+pub mod PlainTurns
 pub mod MovedParts
 pub mod InPlace
 pub mod MoveTurns

@@ -6,7 +6,7 @@ use mathlib.Core.Bool.{Bool, true, false, _&&_}
 use mathlib.Core.List.{List}
 use native.Mathlib.Nat.{add-zero}
 use native.Mathlib.Omega.{arith}
-use borrow.Author.Tests.{lt-ltb, le-leb, ne-eqb, ltb-true, ltb-false, leb-true}
+use borrow.Author.Tests.{lt-ltb, le-leb, eq-eqb, ne-eqb, ltb-true, ltb-false, leb-true}
 use lib.Dec.{leb, ltb, eqb}
 use lib.ListN.{length, getD, drop}
 use Rattle.basis.specs.Choice.{pick, pick-cases, and-true}
@@ -60,9 +60,9 @@ module _ (t : List ℕ) (at n most : ℕ) where
   unfolding startFits restStands
   plain-good m h p =
       let fits : startFits n (getD t (at - entryNumbers) 0) (getD t (at - entryNumbers + 9) 0) (getD t at 0) ≡ true
-      = rw (lt-ltb _ _ (p .past), le-leb _ _ (p .within), le-leb _ _ h) in
-      let ends : endingAt false (getD t (at + 3) 0) && leb (getD t (at + 9) 0) most ≡ true = rw (p .ending, le-leb _ _ (p .low)) in
-      all-good m fits (rw (p .restless)) (p .counted) ends
+      = rw (lt-ltb _ _ (p .follows .past), le-leb _ _ (p .follows .within), le-leb _ _ h) in
+      let ends : endingAt false (getD t (at + 3) 0) && leb (getD t (at + 9) 0) most ≡ true = rw (p .end .ending, le-leb _ _ (p .follows .low)) in
+      all-good m fits (rw (eq-eqb _ _ (p .follows .restless), eq-eqb _ _ (p .end .none))) (p .follows .counted) ends
 
 -- ---- line after line
 
@@ -108,17 +108,6 @@ module _ (t : List ℕ) (lines n most j : ℕ) where
       }
 
 -- ---- plain lines, and others
-
--- What the tests of a plain line say, on each way through the code.
-module _ (t : List ℕ) (at most : ℕ) where
-  pub plain-line : ltb (getD t (at - entryNumbers) 0) (getD t at 0) && leb (getD t at 0) (getD t (at - entryNumbers + 9) 0) ≡ true
-      → countFits (getD t (at - entryNumbers + 10) 0) (getD t at 0) (getD t (at + 10) 0) ≡ true
-      → eqb (getD t (at + 1) 0) 0 && eqb (getD t (at + 2) 0) 0 ≡ true
-      → endingAt false (getD t (at + 3) 0) ≡ true → getD t (at + 9) 0 ≤ most
-      → PlainLine t at most
-  plain-line f c n e l =
-      let both = and-true (ltb (getD t (at - entryNumbers) 0) (getD t at 0)) (leb (getD t at 0) (getD t (at - entryNumbers + 9) 0)) f in
-      record { past = ltb-true _ _ (both .0); within = leb-true _ _ (both .1); counted = c; restless = n; ending = e; low = l }
 
 pub breaks-good : (n : ℕ) → n ≡ 3 → endingAt false n ≡ true
 unfolding endingAt
@@ -172,7 +161,7 @@ module _ (t : List ℕ) (lines n most j : ℕ) (m : most ≤ n + 1) where
 
     pub skim-plain : PlainLine t (entryNumbers * k) most → Skimmed t lines n most j (k + 1)
     skim-plain p =
-        skim-on (λ b. skip-one t lines n most j k h (plain-good t at n most m b p) (c .skipped (omega (arith, p .past, p .within, c .reached)))) (p .low)
+        skim-on (λ b. skip-one t lines n most j k h (plain-good t at n most m b p) (c .skipped (omega (arith, p .follows .past, p .follows .within, c .reached)))) (p .follows .low)
 
     pub skim-good : GoodLine t (entryNumbers * k) n most → Skimmed t lines n most j (k + 1)
     skim-good p = skim-on (λ b. skip-one t lines n most j k h p (c .skipped (omega (arith, p .past, p .inside)))) (p .low)

@@ -24,14 +24,28 @@ pub record GoodLine (t : List ℕ) (at n most : ℕ) : Type 0 where
   pub inside : getD t at 0 ≤ n
   pub low : getD t (at + 9) 0 ≤ most
 
--- It is so if it starts within the text: it has no rest.
-pub record PlainLine (t : List ℕ) (at most : ℕ) : Type 0 where
+-- Two numbers side by side, as one; the first is a number of 32 bits.
+pub record Paired (t : List ℕ) (at r : ℕ) : Type 0 where
+  pub both : r ≡ getD t at 0 + 4294967296 * getD t (at + 1) 0
+  pub low : getD t at 0 < 4294967296
+
+-- The line cuts no run of spaces, and is not the last.
+pub record PlainEnd (t : List ℕ) (at : ℕ) : Type 0 where
+  pub none : getD t (at + 2) 0 ≡ 0
+  pub ending : endingAt false (getD t (at + 3) 0) ≡ true
+
+-- It starts behind the start of the line before it and within what that reached, without a rest, and its reach is at most this.
+pub record Follows (t : List ℕ) (at most : ℕ) : Type 0 where
   pub past : getD t (at - entryNumbers) 0 < getD t at 0
   pub within : getD t at 0 ≤ getD t (at - entryNumbers + 9) 0
   pub counted : countFits (getD t (at - entryNumbers + 10) 0) (getD t at 0) (getD t (at + 10) 0) ≡ true
-  pub restless : eqb (getD t (at + 1) 0) 0 && eqb (getD t (at + 2) 0) 0 ≡ true
-  pub ending : endingAt false (getD t (at + 3) 0) ≡ true
+  pub restless : getD t (at + 1) 0 ≡ 0
   pub low : getD t (at + 9) 0 ≤ most
+
+-- Such a line is good if it starts within the text.
+pub record PlainLine (t : List ℕ) (at most : ℕ) : Type 0 where
+  pub follows : Follows t at most
+  pub end : PlainEnd t at
 
 -- All lines from one number of the table up to another are, and none of them is the one at `last`.
 pub record PlainLines (t : List ℕ) (last most from to : ℕ) : Type 0 where

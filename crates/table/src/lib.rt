@@ -5,6 +5,7 @@ pub mod entries;
 pub mod events;
 pub mod moving;
 pub mod one_line;
+mod plain;
 mod search;
 mod skipping;
 pub mod well_formed;

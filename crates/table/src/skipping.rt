@@ -3,6 +3,7 @@ use crate::one_line::count_fits;
 use crate::one_line::ending_good;
 use crate::one_line::rest_stands;
 use crate::one_line::start_fits;
+use crate::plain::skip_plain;
 use meaning::sizes::BEFORE;
 use meaning::sizes::ENDING;
 use meaning::sizes::ENTRY_NUMBERS;
@@ -16,7 +17,7 @@ ghost use lib.Dec.{ltb};
 ghost use lib.ListN.{length, getD};
 ghost use Rattle.basis.specs.Choice.{pick};
 ghost use Rattle.meaning.specs.Table.{entryNumbers};
-ghost use Rattle.table.specs.Skipping.{GoodLine, PlainLine, PlainLines, Skipped};
+ghost use Rattle.table.specs.Skipping.{GoodLine, Skipped};
 
 // Is the line at a number of the table good, behind the line before it and not the last, and its reach at most `most`.
 fn line_is_good(table: &[u32], at: usize, bytes: u32, most: u32) -> bool
@@ -44,60 +45,6 @@ fn line_is_good(table: &[u32], at: usize, bytes: u32, most: u32) -> bool
     ending_good(false, ending) & (reach <= most)
 }
 
-// Is it a line as most are: good, without a rest, and not the last. Whether it starts within the text is not asked: it does if the
-// line after it starts within what it reached.
-fn line_is_plain(table: &[u32], at: usize, most: u32) -> bool
-    requires { ⌜ (entryNumbers ≤ at) × (at + entryNumbers ≤ length (now table)) ⌝ }
-    ensures { λ r. ⌜ (r ≡ true → PlainLine (now (table .entry)) at most) ⌝ }
-{
-    let start = table[at];
-    let before = at - ENTRY_NUMBERS;
-    let from = table[before];
-    let reached = table[before + REACH];
-    let follows = (from < start) & (start <= reached);
-    if !follows {
-        return false;
-    }
-    let counted = table[before + BEFORE];
-    let chars = table[at + BEFORE];
-    if !count_fits(counted, start, chars) {
-        return false;
-    }
-    let reach = table[at + REACH];
-    if most < reach {
-        return false;
-    }
-    let ending = table[at + ENDING];
-    if ending == 3 {
-        let none = (table[at + REST_END] == 0) & (table[at + REST_COUNT] == 0);
-        return none;
-    }
-    if 2 <= ending {
-        return false;
-    }
-    let end = table[at + REST_END];
-    if end != 0 {
-        return false;
-    }
-    let count = table[at + REST_COUNT];
-    count == 0
-}
-
-// The first line from a number of the table on that is not such a line; the line at `last` is none.
-fn skip_plain(table: &[u32], last: usize, from: usize, most: u32) -> usize
-    requires { ⌜ (entryNumbers ≤ from) × (last + entryNumbers ≤ length (now table)) ⌝ }
-    ensures { λ r. ⌜ PlainLines (now (table .entry)) last most from r ⌝ }
-{
-    let mut at = from;
-    while at < last {
-        if !line_is_plain(table, at, most) {
-            return at;
-        }
-        at += ENTRY_NUMBERS;
-    }
-    at
-}
-
 // The lines from line j on are good up to the one at a number of the table, if the one before that starts within the text. Else
 // none is skipped.
 fn skipped_to(table: &[u32], j: usize, at: usize, bytes: u32) -> usize
@@ -112,7 +59,7 @@ fn skipped_to(table: &[u32], j: usize, at: usize, bytes: u32) -> usize
 }
 
 // The first line from line j on that is not good; the last is none, nor is one whose reach is above `most`. Lines as most are go by
-// themselves, since the others take longer.
+// themselves (`plain.rt`), since the others take longer.
 pub fn skip_good(table: &[u32], lines: usize, j: usize, bytes: u32, most: u32) -> usize
     requires { ⌜ (1 ≤ j) × (j ≤ lines) × (entryNumbers * lines ≤ length (now table)) × (most ≤ bytes + 1) ⌝ }
     ensures { λ r. ⌜ Skipped (now (table .entry)) lines bytes most j r ⌝ }

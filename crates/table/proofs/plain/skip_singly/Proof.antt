@@ -1,4 +1,4 @@
--- `table::skipping::skip_plain` meets its contract (refusal 5).
+-- `table::plain::skip_singly` meets its contract (refusal 5).
 -- Assumes nothing.
 use Prim.Native.Nat.{_-_}
 use native.Mathlib.Omega.{arith}
@@ -6,8 +6,8 @@ use borrow.Author.Tests.{not-false}
 use Rattle.table.specs.Skipping.{PlainLines}
 use Rattle.table.proofs.SkipTurns.{plain-none, plain-more}
 use borrow.Author.Needs.{needs}
-use Rattle.table.proofs.skipping.skip_plain.Statement.{statement}
-use Rattle.table.proofs.skipping.skip_plain.Tie as tie
+use Rattle.table.proofs.plain.skip_singly.Statement.{statement}
+use Rattle.table.proofs.plain.skip_singly.Tie as tie
 
 abbrev Inv-loop : tie.InvT-loop
 Inv-loop table last from most at₀ at = PlainLines table last most from at
@@ -39,8 +39,8 @@ loop-again c =
 returns-2 : tie.Need-returns-2 Inv-loop μ-loop
 returns-2 c = c .before .loop .inv
 
-pub skip-plain-spec : {M : Type 1} → statement M
-skip-plain-spec =
+pub skip-singly-spec : {M : Type 1} → statement M
+skip-singly-spec =
     tie.close
     (tie.spec
     Inv-loop

@@ -1,0 +1,194 @@
+// Lines as most are, without a rest and not the last, told by few tests and skipped eight at a time (refusal 5).
+use meaning::sizes::BEFORE;
+use meaning::sizes::ENDING;
+use meaning::sizes::ENTRY_NUMBERS;
+use meaning::sizes::REACH;
+use meaning::sizes::REST_COUNT;
+ghost use Prim.Native.Nat.{ℕ, _+_, _*_, _≤_, _<_};
+ghost use mathlib.Core.Path.{_≡_};
+ghost use mathlib.Core.Bool.{true};
+ghost use lib.ListN.{length, getD};
+ghost use Rattle.meaning.specs.Table.{entryNumbers};
+ghost use Rattle.table.specs.Skipping.{Paired, PlainEnd, Follows, PlainLine, PlainLines};
+
+// So many lines are skipped at once, and so many numbers.
+const LINES: usize = 8;
+
+const BLOCK: usize = 88;
+
+// No rest, and an end type of 3, as one number.
+const SOFT_END: u64 = 12884901888;
+
+fn wide(x: u32) -> u64
+    ensures { λ r. ⌜ (r ≡ x) × (r < 4294967296) ⌝ }
+{
+    x as u64
+}
+
+// Two numbers side by side, as one: the second counts 2^32 times. They are read as one.
+fn pair(table: &[u32], at: usize) -> u64
+    requires { ⌜ at + 2 ≤ length (now table) ⌝ }
+    ensures { λ r. ⌜ Paired (now (table .entry)) at r ⌝ }
+{
+    let first = wide(table[at]);
+    let second = wide(table[at + 1]);
+    first + 4294967296 * second
+}
+
+// Does the line at a number of the table break between words, and cut no run of spaces.
+fn breaks_softly(table: &[u32], at: usize) -> bool
+    requires { ⌜ at + entryNumbers ≤ length (now table) ⌝ }
+    ensures { λ r. ⌜ (r ≡ true → PlainEnd (now (table .entry)) at) ⌝ }
+{
+    pair(table, at + REST_COUNT) == SOFT_END
+}
+
+// Does it cut no run of spaces, and is it not the last.
+fn ends_plainly(table: &[u32], at: usize) -> bool
+    requires { ⌜ at + entryNumbers ≤ length (now table) ⌝ }
+    ensures { λ r. ⌜ (r ≡ true → PlainEnd (now (table .entry)) at) ⌝ }
+{
+    if breaks_softly(table, at) {
+        return true;
+    }
+    if table[at + REST_COUNT] != 0 {
+        return false;
+    }
+    table[at + ENDING] < 2
+}
+
+// 0 if a line follows the one before it as most do, without a rest, and its reach is at most `most`; else 1 or 2. The compiler
+// joins tests of one answer, which takes longer than a branch for each. Whether it starts within the text is not asked: it does if
+// the line after it starts within what it reached.
+fn following(table: &[u32], at: usize, most: u32) -> u32
+    requires { ⌜ (entryNumbers ≤ at) × (at + entryNumbers ≤ length (now table)) ⌝ }
+    ensures { λ r. ⌜ (r ≡ 0 → Follows (now (table .entry)) at most) ⌝ }
+{
+    let before = at - ENTRY_NUMBERS;
+    let start = pair(table, at);
+    let reached = wide(table[before + REACH]);
+    if reached < start {
+        return 1;
+    }
+    let from = wide(table[before]);
+    if start <= from {
+        return 2;
+    }
+    let chars = table[at + BEFORE];
+    if chars <= table[before + BEFORE] {
+        return 2;
+    }
+    if start < wide(chars) {
+        return 1;
+    }
+    if most < table[at + REACH] {
+        return 1;
+    }
+    0
+}
+
+// Is it good, without a rest, and not the last, if it starts within the text.
+fn line_is_plain(table: &[u32], at: usize, most: u32) -> bool
+    requires { ⌜ (entryNumbers ≤ at) × (at + entryNumbers ≤ length (now table)) ⌝ }
+    ensures { λ r. ⌜ (r ≡ true → PlainLine (now (table .entry)) at most) ⌝ }
+{
+    if following(table, at, most) != 0 {
+        return false;
+    }
+    ends_plainly(table, at)
+}
+
+// Do all lines of a block break between words.
+fn all_break(table: &[u32], at: usize) -> bool
+    requires { ⌜ at + 88 ≤ length (now table) ⌝ }
+    ensures { λ r. ⌜ (r ≡ true → (i : ℕ) → i < 8 → PlainEnd (now (table .entry)) (at + entryNumbers * i)) ⌝ }
+{
+    let mut i: usize = 0;
+    while i < LINES {
+        if !breaks_softly(table, at + ENTRY_NUMBERS * i) {
+            return false;
+        }
+        i += 1;
+    }
+    true
+}
+
+// 0 if all lines of a block follow as most do; else 1 or 2.
+fn all_following(table: &[u32], at: usize, most: u32) -> u32
+    requires { ⌜ (entryNumbers ≤ at) × (at + 88 ≤ length (now table)) ⌝ }
+    ensures { λ r. ⌜ (r ≡ 0 → (i : ℕ) → i < 8 → Follows (now (table .entry)) (at + entryNumbers * i) most) ⌝ }
+{
+    let mut i: usize = 0;
+    while i < LINES {
+        let told = following(table, at + ENTRY_NUMBERS * i, most);
+        if told != 0 {
+            return told;
+        }
+        i += 1;
+    }
+    0
+}
+
+// Blocks of plain lines are skipped, while there are any before the line at `last`. What their lines end with is asked first: it is
+// there that most of the others differ.
+fn skip_blocks(table: &[u32], last: usize, from: usize, most: u32) -> usize
+    requires { ⌜ (entryNumbers ≤ from) × (last + entryNumbers ≤ length (now table)) ⌝ }
+    ensures { λ r. ⌜ PlainLines (now (table .entry)) last most from r ⌝ }
+{
+    if last < BLOCK {
+        return from;
+    }
+    let stop = last - BLOCK;
+    let mut at = from;
+    while at <= stop {
+        if !all_break(table, at) {
+            return at;
+        }
+        let told = all_following(table, at, most);
+        if told == 1 {
+            return at;
+        }
+        if told != 0 {
+            return from;
+        }
+        at += BLOCK;
+    }
+    at
+}
+
+// Plain lines are skipped one by one, up to the line at `last`.
+fn skip_singly(table: &[u32], last: usize, from: usize, most: u32) -> usize
+    requires { ⌜ (entryNumbers ≤ from) × (last + entryNumbers ≤ length (now table)) ⌝ }
+    ensures { λ r. ⌜ PlainLines (now (table .entry)) last most from r ⌝ }
+{
+    let mut at = from;
+    while at < last {
+        if !line_is_plain(table, at, most) {
+            return at;
+        }
+        at += ENTRY_NUMBERS;
+    }
+    at
+}
+
+// Where a block ends that starts at a number of the table, or `last` if that comes first.
+fn block_end(last: usize, at: usize) -> usize
+    ensures { λ r. ⌜ r ≤ last ⌝ }
+{
+    if last < BLOCK {
+        return last;
+    }
+    if last - BLOCK <= at {
+        return last;
+    }
+    at + BLOCK
+}
+
+// The first line from a number of the table on that is not plain, or one behind a block; the line at `last` is none.
+pub fn skip_plain(table: &[u32], last: usize, from: usize, most: u32) -> usize
+    requires { ⌜ (entryNumbers ≤ from) × (last + entryNumbers ≤ length (now table)) ⌝ }
+    ensures { λ r. ⌜ PlainLines (now (table .entry)) last most from r ⌝ }
+{
+    let at = skip_blocks(table, last, from, most);
+    skip_singly(table, block_end(last, at), at, most)
+}
