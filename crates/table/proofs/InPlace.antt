@@ -1,20 +1,20 @@
--- A line moved where it stands: start, rest, reach and the characters before are stored, and the other numbers are as they were.
+-- A line without a rest, moved where it stands: start, reach and the characters before are stored, and the other numbers are as they were.
 -- Assumes nothing.
 use Prim.Native.Nat.{ℕ, zero, suc, _+_, _-_, _*_, _≤_}
 use mathlib.Core.Path.{_≡_, sym, ap, subst, _∙_}
 use mathlib.Core.List.{List, [], _∷_}
 use native.Mathlib.Nat.{add-zero}
 use native.Mathlib.Omega.{arith}
-use borrow.Author.Tests.{eq-eqb, ne-eqb}
+use borrow.Author.Tests.{eq-eqb}
 use lib.ListN.{length, getD, set}
-use lib.Seq.{set-getD, set-comm, getD-set-other}
+use lib.Seq.{set-getD, getD-set-other}
 use Rattle.basis.specs.Choice.{pick}
 use Rattle.meaning.specs.Table.{entryNumbers, ofEntry}
 use Rattle.meaning.specs.Edit.{moved, movedRest, movedEntry}
 use Rattle.meaning.specs.declared.line.Entry.{Entry}
 use Rattle.table.specs.Numbers.{putNumbers, storedFrom, stored-are}
 use Rattle.table.specs.declared.edited.Shift.{Shift}
-use Rattle.table.specs.Moving.{MovableEntry, Movable, movedBy, lineMoved, line-movable}
+use Rattle.table.specs.Moving.{MovableOffset, MovableCount, MovableEntry, Movable, movedBy, lineMoved, line-movable}
 use Rattle.table.proofs.Reading.{entryFrom, entry-from}
 
 module _ (t : List ℕ) (i : ℕ) where
@@ -54,7 +54,7 @@ module _ (t : List ℕ) (k : ℕ) (sh : Shift) (m : Movable t k k 1 sh) where
   room : at + entryNumbers ≤ length t
   room = omega (arith, m .to-room)
 
-  -- The three or four numbers that the code has stored.
+  -- The three numbers that are stored where there is no rest.
   module _ (start reach count : ℕ) (s : start ≡ moved (sh .edit) (getD t (entryNumbers * k) 0))
       (r : reach ≡ moved (sh .edit) (getD t (entryNumbers * k + 9) 0))
       (c : count ≡ sh .to .0 + (getD t (entryNumbers * k + 10) 0 - sh .from .0)) where
@@ -66,7 +66,7 @@ module _ (t : List ℕ) (k : ℕ) (sh : Shift) (m : Movable t k k 1 sh) where
         ∙ (λ j. putNumbers t at (s j ∷ e j ∷ own t at 2 7 (r j ∷ c j ∷ [])))
         ∙ ap (λ (x : Entry). putNumbers t at (ofEntry (movedBy sh x))) (entry-from t at)
 
-    pub moved-three : getD t (entryNumbers * k + 1) 0 ≡ 0
+    moved-three : getD t (entryNumbers * k + 1) 0 ≡ 0
         → set (set (set t (entryNumbers * k) start) (entryNumbers * k + 9) reach) (entryNumbers * k + 10) count ≡ lineMoved t k k sh
     unfolding movedRest pick
     moved-three z =
@@ -74,12 +74,25 @@ module _ (t : List ℕ) (k : ℕ) (sh : Shift) (m : Movable t k k 1 sh) where
         ap (λ (u : List ℕ). set (set u (at + 9) reach) (at + 10) count) (sym same)
         ∙ all-four (getD t (at + 1) 0) (rw (eq-eqb _ _ z) z)
 
-    pub moved-four : (getD t (entryNumbers * k + 1) 0 ≡ 0 → ⊥) → (end : ℕ) → end ≡ moved (sh .edit) (getD t (entryNumbers * k + 1) 0)
-        → set (set (set (set t (entryNumbers * k) start) (entryNumbers * k + 9) reach) (entryNumbers * k + 10) count) (entryNumbers * k + 1) end
-        ≡ lineMoved t k k sh
-    unfolding movedRest pick
-    moved-four d end e =
-        let u = set t at start in
-        set-comm (set u (at + 9) reach) (at + 10) (at + 1) count end (λ q. omega arith)
-        ∙ ap (λ (v : List ℕ). set v (at + 10) count) (set-comm u (at + 9) (at + 1) reach end (λ q. omega arith))
-        ∙ all-four end (rw (ne-eqb _ _ d) e)
+  -- The code reads each number after it has stored those before it, which are others.
+  module _ (start : ℕ) where
+    reach-kept : getD (set t (entryNumbers * k) start) (entryNumbers * k + 9) 0 ≡ getD t (entryNumbers * k + 9) 0
+    reach-kept = getD-set-other t at (at + 9) start 0 (λ e. omega arith)
+
+    pub reach-movable : MovableOffset (sh .edit) (getD (set t (entryNumbers * k) start) (entryNumbers * k + 9) 0)
+    reach-movable = subst (MovableOffset (sh .edit)) (sym reach-kept) (here-movable .reach)
+
+    module _ (reach : ℕ) where
+      count-kept : getD (set (set t (entryNumbers * k) start) (entryNumbers * k + 9) reach) (entryNumbers * k + 10) 0 ≡ getD t (entryNumbers * k + 10) 0
+      count-kept = getD-set-other (set t at start) (at + 9) (at + 10) reach 0 (λ e. omega arith) ∙ getD-set-other t at (at + 10) start 0 (λ e. omega arith)
+
+      pub count-movable : MovableCount sh (getD (set (set t (entryNumbers * k) start) (entryNumbers * k + 9) reach) (entryNumbers * k + 10) 0)
+      count-movable = subst (MovableCount sh) (sym count-kept) (here-movable .before)
+
+      pub moved-in-turn : (count : ℕ) → start ≡ moved (sh .edit) (getD t (entryNumbers * k) 0)
+          → reach ≡ moved (sh .edit) (getD (set t (entryNumbers * k) start) (entryNumbers * k + 9) 0)
+          → count ≡ sh .to .0 + (getD (set (set t (entryNumbers * k) start) (entryNumbers * k + 9) reach) (entryNumbers * k + 10) 0 - sh .from .0)
+          → getD t (entryNumbers * k + 1) 0 ≡ 0
+          → set (set (set t (entryNumbers * k) start) (entryNumbers * k + 9) reach) (entryNumbers * k + 10) count ≡ lineMoved t k k sh
+      moved-in-turn count s r c z =
+          moved-three start reach count s (r ∙ ap (moved (sh .edit)) reach-kept) (c ∙ ap (λ (x : ℕ). sh .to .0 + (x - sh .from .0)) count-kept) z

@@ -4,7 +4,7 @@ use Prim.Native.Nat.{ℕ, suc, _+_, _-_, _*_, _≤_, _<_}
 use mathlib.Core.Path.{_≡_, sym, ap, subst, _∙_}
 use mathlib.Core.List.{List, [], _∷_, _++_, map, map-append, append-nil}
 use native.Mathlib.Omega.{arith}
-use lib.ListN.{length, drop, length-map}
+use lib.ListN.{length, drop, getD, length-map}
 use lib.Seq.{drop-drop}
 use Rattle.meaning.specs.Table.{entryNumbers, ofEntry, ofAll, entryIn, entriesIn}
 use Rattle.meaning.specs.Edit.{movedEntry}
@@ -110,7 +110,7 @@ module _ (t : List ℕ) (from to n : ℕ) (sh : Shift) where
 
   module _ (order : to ≤ from) (room : entryNumbers * to + entryNumbers ≤ length t) where
     -- Those behind it are read as they were.
-    behind : drop (entryNumbers * (from + 1)) (lineMoved t from to sh) ≡ drop (entryNumbers * (from + 1)) t
+    pub behind : drop (entryNumbers * (from + 1)) (lineMoved t from to sh) ≡ drop (entryNumbers * (from + 1)) t
     behind =
         let e = movedBy sh (entryIn (drop (entryNumbers * from) t)) in
         put-past t (entryNumbers * to) (ofEntry e) (omega arith) (entryNumbers * (from + 1)) (omega (arith, entry-numbers e))
@@ -205,3 +205,16 @@ module _ (t : List ℕ) (from to n : ℕ) (sh : Shift) where
 pub none-moved : (t : List ℕ) (from to : ℕ) (sh : Shift) → linesMoved t from to 0 sh ≡ t
 unfolding entriesIn ofAll
 none-moved t from to sh = put-none t (entryNumbers * to)
+
+-- ---- lines moved one after the other, toward the front or in their place
+
+-- The first i lines of the table t are moved, which is u now: what is left to move makes the whole.
+pub record Forward (t : List ℕ) (from to count : ℕ) (sh : Shift) (u : List ℕ) (i : ℕ) : Type 0 where
+  pub within : i ≤ count
+  pub left : Movable u (from + i) (to + i) (count - i) sh
+  pub same : linesMoved t from to count sh ≡ linesMoved u (from + i) (to + i) (count - i) sh
+  pub size : length u ≡ length t
+
+-- None of so many lines from line k on has a rest.
+abbrev pub Restless : List ℕ → (k n : ℕ) → Type 0
+Restless t k n = (j : ℕ) → j < n → getD t (entryNumbers * (k + j) + 1) 0 ≡ 0

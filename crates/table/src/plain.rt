@@ -14,7 +14,7 @@ ghost use Rattle.table.specs.Skipping.{Paired, PlainEnd, Follows, PlainL
 // So many lines are skipped at once, and so many numbers.
 const LINES: usize = 8;
 
-const BLOCK: usize = 88;
+const BLOCK: usize = LINES * ENTRY_NUMBERS;
 
 // No rest, and an end type of 3, as one number.
 const SOFT_END: u64 = 12884901888;

@@ -3,7 +3,8 @@
 use native.Mathlib.Omega.{arith}
 use borrow.Author.Needs.{needs}
 use Prim.Native.Nat.{_-_}
-use Rattle.table.proofs.MoveTurns.{Forward, forward-start, forward-end, forward-one, forward-next}
+use Rattle.table.specs.Moving.{Forward}
+use Rattle.table.proofs.MoveTurns.{forward-start, forward-end, forward-one, forward-next}
 use Rattle.table.proofs.moving.move_forward.Statement.{statement}
 use Rattle.table.proofs.moving.move_forward.Tie as tie
 
