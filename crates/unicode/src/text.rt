@@ -51,7 +51,7 @@ fn skip_ascii(text: &[u8], from: usize) -> usize
     requires { ⌜ from ≤ length (now text) ⌝ }
     ensures { λ r. ⌜ Plain (now (text .entry)) from r ⌝ }
 {
-    let large = skip_blocks(text, from, 32);
+    let large = skip_blocks(text, from, 64);
     let mut at = skip_blocks(text, large, 8);
     while at < text.len() {
         if 0x80 <= text[at] {
