@@ -18,10 +18,10 @@ use Rattle.unicode.specs.declared.sequence.Decoded.the-variants.{Char}
 use Rattle.meaning.specs.Characters.{glue, inWord, inRun}
 use Rattle.parser.specs.Lexing.{charsFrom}
 use Rattle.parser.specs.Scanning.{glueOf, spaceOf, scannedAt, scanFrom}
-use Rattle.parser.specs.Ascii.{plain, plainAt, isEnder, enderAt, plain-range, plain-byte}
+use Rattle.parser.specs.Ascii.{plain, plainAt, spaceAt, isEnder, enderAt, plain-range, plain-byte, space-char}
 use Rattle.parser.specs.Letters.{longGlue, Spells, Letter, Glues, GoesOn, Lettered, Ends}
 use Rattle.parser.specs.GlueLaws.{glue-word, low-glue, black-glue, glue-some, glue-none, glue-one}
-use Rattle.parser.specs.CharacterLaws.{word-no-run, ascii-word, high-word}
+use Rattle.parser.specs.CharacterLaws.{word-no-run, ascii-word, ascii-run, high-word}
 use Rattle.parser.specs.ScanLaws.{scan-more, scan-stop, scan-past, char-room}
 
 -- ---- one character
@@ -94,6 +94,11 @@ module _ (t : List ℕ) (at : ℕ) where
   -- It ends a space run.
   pub run-stops : (n g : ℕ) → Spells t at n g → (chars count : ℕ) → scanFrom inRun spaceOf at chars count (charsFrom t at) ≡ scannedAt at chars count n
   run-stops n g x chars count = scan-stop inRun spaceOf t at chars count (x .char) n (x .is) (word-no-run (x .char) (x .word))
+
+  -- A space goes on with one.
+  pub space-goes : spaceAt t at ≡ true → (n w : ℕ) → scanFrom inRun spaceOf at n w (charsFrom t at) ≡ scanFrom inRun spaceOf (at + 1) (n + 1) (w + 1) (charsFrom t (at + 1))
+  unfolding spaceOf pick
+  space-goes e n w = scan-more inRun spaceOf t at n w 0x20 1 (space-char t at e) (ascii-run 0x20 (omega arith))
 
 -- ---- one after the other
 

@@ -3,11 +3,13 @@ pub mod Scanning
 pub mod Shorter
 pub mod Ascii
 pub mod Letters
+pub mod Marks
 pub mod GlueLaws
 pub mod CharacterLaws
 pub mod ScanLaws
 pub mod LetterLaws
 pub mod RunLaws
 pub mod LexerLaws
+pub mod MarkLaws
 pub mod NextLaws
 pub mod GoodText

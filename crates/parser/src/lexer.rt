@@ -7,12 +7,14 @@ ghost use Rattle.meaning.specs.Characters.{classOf};
 ghost use Rattle.meaning.specs.Tokens.{first, tokens};
 ghost use Rattle.parser.specs.Lexing.{charsFrom, lexemeAt, lexedAt};
 ghost use Rattle.parser.specs.Scanning.{aloneAt, wordOf, blankOf};
+ghost use Rattle.parser.specs.Marks.{markKind};
 use crate::ascii::plain_at;
 use crate::ascii::space_at;
 use crate::characters::in_word;
 use crate::glue::glue_of;
 use crate::lexeme::Lexed;
 use crate::lexeme::Lexeme;
+use crate::marks::mark_len;
 use crate::scan::Scanned;
 use crate::scan::scan_run;
 use crate::scan::scan_word;
@@ -36,6 +38,19 @@ fn alone(kind: TokenKind, end: usize) -> Lexeme
         glues: Chars(0),
         reach: Offset(end as u32),
     }
+}
+
+// The kind of the mark that has so many bytes.
+fn mark_kind(len: usize) -> TokenKind
+    ensures { λ r. ⌜ r ≡ markKind len ⌝ }
+{
+    if len == 1 {
+        return TokenKind::Tab;
+    }
+    if len == 2 {
+        return TokenKind::Break;
+    }
+    TokenKind::Whitespace
 }
 
 fn word(s: Scanned) -> Lexeme
@@ -125,6 +140,10 @@ pub fn token_at(text: &[u8], at: usize) -> Lexed
     let letter = long_len(text, at);
     if 0 < letter {
         return Lexed::Token(word(scan_word(text, at + letter, 0)));
+    }
+    let mark = mark_len(text, at);
+    if 0 < mark {
+        return Lexed::Token(alone(mark_kind(mark), at + mark));
     }
     decoded_at(text, at)
 }

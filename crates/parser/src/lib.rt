@@ -6,5 +6,6 @@ pub mod later;
 pub mod letters;
 pub mod lexeme;
 pub mod lexer;
+pub mod marks;
 pub mod part;
 pub mod scan;

@@ -8,12 +8,14 @@ ghost use Rattle.parser.specs.Lexing.{charsFrom};
 ghost use Rattle.parser.specs.Scanning.{glueOf, spaceOf, scannedAt, scanFrom};
 use crate::ascii::ends_at;
 use crate::ascii::plain_at;
+use crate::ascii::space_at;
 use crate::characters::in_run;
 use crate::characters::in_word;
 use crate::characters::space_of;
 use crate::glue::glue_len;
 use crate::glue::glue_of;
 use crate::letters::skip_letters;
+use crate::marks::mark_len;
 use meaning::counts::Chars;
 use meaning::counts::Offset;
 use unicode::long::long_len;
@@ -86,6 +88,10 @@ pub fn scan_word(text: &[u8], from: usize, first: u32) -> Scanned
             at = end + glue;
             continue;
         }
+        let mark = mark_len(text, end);
+        if 0 < mark {
+            return scanned_at(end, skipped, weight, mark as u32);
+        }
         match decode(text, end) {
             Decoded::Char { cp, len } => {
                 if !in_word(cp) {
@@ -116,6 +122,12 @@ pub fn scan_run(text: &[u8], from: usize) -> Scanned
     loop {
         if plain_at(text, at) {
             return scanned_at(at, chars, weight, 1);
+        }
+        if space_at(text, at) {
+            weight += 1;
+            chars += 1;
+            at += 1;
+            continue;
         }
         let letter = long_len(text, at);
         if 0 < letter {

@@ -7,11 +7,14 @@ use lib.ListN.{length}
 use borrow.Author.Needs.{needs}
 use Rattle.unicode.specs.Walk.{decode-at-within}
 use Rattle.unicode.specs.Long.{Long}
-use Rattle.parser.specs.Scanning.{wordOf, blankOf}
+use Rattle.meaning.specs.declared.tokens.TokenKind.{TokenKind}
+use Rattle.parser.specs.Scanning.{aloneAt, wordOf, blankOf}
 use Rattle.parser.specs.declared.lexeme.Lexed.the-variants.{Token}
 use Rattle.parser.specs.Ascii.{plain-inside, space-inside}
 use Rattle.parser.specs.LetterLaws.{letter-plain, letter-long}
+use Rattle.parser.specs.Marks.{Mark}
 use Rattle.parser.specs.LexerLaws.{letter-lexed, space-lexed}
+use Rattle.parser.specs.MarkLaws.{mark-room, mark-lexed}
 use Rattle.parser.proofs.lexer.token_at.Statement.{statement}
 use Rattle.parser.proofs.lexer.token_at.Tie as tie
 
@@ -82,11 +85,38 @@ returns-3 c =
     let w = c .before in
     ap Token (c .word2 .ensures ∙ ap wordOf (w .scan-word2 .ensures)) ∙ letter-lexed _ _ _ (letter-long _ _ _ (told (w .before)))
 
+mark-len-requires : tie.Need-mark-len-requires
+mark-len-requires c κs = search needs
+
+-- A mark that was told, and that its bytes lie in the text.
+mark : (c : tie.Then4) → let a = c .before .before .before .before .before .before .before .before .before .args in Mark (a .text .now) (a .at) (c .before .mark-len .result)
+mark c = c .before .mark-len .ensures (c .if4 .taken)
+
+mark-inside : (c : tie.Then4)
+    → let a = c .before .before .before .before .before .before .before .before .before .args in a .at + c .before .mark-len .result ≤ length (a .text .now)
+mark-inside c = mark-room _ _ _ (mark c) .2
+
+mark-kind-requires : tie.Need-mark-kind-requires
+mark-kind-requires c κs = search needs
+
+add-alone : tie.Need-add-alone
+add-alone c = omega (arith, mark-inside (c .before), c .before .before .before .before .before .before .before .before .before .before .pre)
+
+alone-requires : tie.Need-alone-requires
+alone-requires c κs = omega (arith, mark-inside (c .before), c .before .before .before .before .before .before .before .before .before .before .pre)
+
+returns-4 : tie.Need-returns-4
+returns-4 c =
+    let k = c .before in
+    let n = k .before .before .mark-len .result in
+    let a = k .before .before .before .before .before .before .before .before .before .before .args in
+    ap Token (c .alone .ensures ∙ ap (λ (x : TokenKind). aloneAt x (a .at + n)) (k .mark-kind .ensures)) ∙ mark-lexed _ _ _ (mark (k .before))
+
 decoded-at-requires : tie.Need-decoded-at-requires
 decoded-at-requires c κs = search needs
 
-returns-4 : tie.Need-returns-4
-returns-4 c = search needs
+returns-5 : tie.Need-returns-5
+returns-5 c = search needs
 
 pub token-at-spec : {M : Type 1} → statement M
 token-at-spec =
@@ -107,5 +137,10 @@ token-at-spec =
     scan-word-requires-2
     word-requires-2
     returns-3
+    mark-len-requires
+    mark-kind-requires
+    add-alone
+    alone-requires
+    returns-4
     decoded-at-requires
-    returns-4)
+    returns-5)

@@ -13,10 +13,11 @@ use Rattle.unicode.specs.declared.sequence.Decoded.the-variants.{Char}
 use Rattle.meaning.specs.Characters.{inWord}
 use Rattle.parser.specs.Lexing.{charsFrom}
 use Rattle.parser.specs.Scanning.{glueOf, scanFrom}
-use Rattle.parser.specs.Letters.{Glues}
+use Rattle.parser.specs.Letters.{Glues, Ends}
 use Rattle.parser.specs.GlueLaws.{glue-one}
 use Rattle.parser.specs.ScanLaws.{scan-more, scan-stop, scan-end, char-room}
 use Rattle.parser.specs.LetterLaws.{spells-room, ends-ender}
+use Rattle.parser.specs.MarkLaws.{mark-ends}
 use Rattle.parser.proofs.scan.scan_word.Statement.{statement}
 use Rattle.parser.proofs.scan.scan_word.Tie as tie
 
@@ -115,6 +116,24 @@ loop-again c =
       omega arith,
     )
 
+mark-len-requires : tie.Need-mark-len-requires Inv-loop μ-loop
+mark-len-requires c κs = search needs
+
+-- A tab, a soft hyphen or a zero width space ends the word.
+marks : (c : tie.Then3 Inv-loop μ-loop) → let b = c .before .before .before .before .before .before in Ends (T b) (E b) (c .before .mark-len .result)
+marks c = mark-ends _ _ _ (c .before .mark-len .ensures (c .if3 .taken))
+
+cast-scanned-at : tie.Need-cast-scanned-at Inv-loop μ-loop
+cast-scanned-at c = omega (arith, marks c .few)
+
+scanned-at-requires-2 : tie.Need-scanned-at-requires-2 Inv-loop μ-loop
+scanned-at-requires-2 c κs = omega (arith, marks c .few, bounds (c .before .before .before .before .before .before))
+
+returns-2 : tie.Need-returns-2 Inv-loop μ-loop
+returns-2 c =
+    let b = c .before .before .before .before .before .before .before in
+    c .scanned-at2 .ensures ∙ sym (marks (c .before) .scans (M b) (W b)) ∙ left b
+
 decode-requires : tie.Need-decode-requires Inv-loop μ-loop
 decode-requires c κs = search needs
 
@@ -129,7 +148,7 @@ abbrev Read : Type 0
 Read = tie.After-known-told Inv-loop μ-loop
 
 abbrev B : Read → Behind
-B c = c .before .before .before .before .before .before .before .before
+B c = c .before .before .before .before .before .before .before .before .before .before
 
 abbrev C : Read → ℕ
 C c = c .before .cp .given .0 .0
@@ -143,15 +162,15 @@ read c = sym (c .before .before .before .decode .ensures) ∙ c .before .cp .giv
 room : (c : Read) → (1 ≤ N c) × (N c ≤ 4) × (E (B c) + N c ≤ length (T (B c)))
 room c = char-room (T (B c)) (E (B c)) (C c) (N c) (read c)
 
-scanned-at-requires-2 : tie.Need-scanned-at-requires-2 Inv-loop μ-loop
-scanned-at-requires-2 c κs = omega (arith, room (c .before .before))
+scanned-at-requires-3 : tie.Need-scanned-at-requires-3 Inv-loop μ-loop
+scanned-at-requires-3 c κs = omega (arith, room (c .before .before))
 
-returns-2 : tie.Need-returns-2 Inv-loop μ-loop
-returns-2 c =
+returns-3 : tie.Need-returns-3 Inv-loop μ-loop
+returns-3 c =
     let i = c .before .before in
     let r = i .before in
-    c .scanned-at2 .ensures
-    ∙ sym (scan-stop inWord glueOf (T (B r)) _ _ _ _ _ (read r) (sym (i .in-word .ensures) ∙ not-true _ (c .before .if3 .taken)))
+    c .scanned-at3 .ensures
+    ∙ sym (scan-stop inWord glueOf (T (B r)) _ _ _ _ _ (read r) (sym (i .in-word .ensures) ∙ not-true _ (c .before .if4 .taken)))
     ∙ left (B r)
 
 glue-of-requires : tie.Need-glue-of-requires Inv-loop μ-loop
@@ -187,7 +206,7 @@ loop-again-2 c =
     let k = bounds b in
     let h = room r in (
       ap (λ (w : ℕ). scanFrom inWord glueOf (E b + N r) (M b + 1) (W b + w) (charsFrom (T b) (E b + N r))) (c .glue-of .ensures)
-          ∙ sym (scan-more inWord glueOf (T b) _ _ _ _ _ (read r) (sym (i .in-word .ensures) ∙ not-false _ (c .before .if3 .left)))
+          ∙ sym (scan-more inWord glueOf (T b) _ _ _ _ _ (read r) (sym (i .in-word .ensures) ∙ not-false _ (c .before .if4 .left)))
           ∙ left b,
       omega arith,
       omega arith,
@@ -197,28 +216,28 @@ loop-again-2 c =
 enum-told : tie.Need-enum-told Inv-loop μ-loop
 enum-told c = search needs
 
-scanned-at-requires-3 : tie.Need-scanned-at-requires-3 Inv-loop μ-loop
-scanned-at-requires-3 c κs = omega (arith, bounds (c .before .before .before .before .before .before .before))
-
-returns-3 : tie.Need-returns-3 Inv-loop μ-loop
-returns-3 c =
-    let d = c .before .before .before in
-    c .scanned-at3 .ensures
-    ∙ sym (scan-end inWord glueOf _ _ _ _ (ap isChar (sym (d .decode .ensures) ∙ c .before .enum-told .given .1)))
-    ∙ left (d .before .before .before .before .before)
-
-enum-told-2 : tie.Need-enum-told-2 Inv-loop μ-loop
-enum-told-2 c = search needs
-
 scanned-at-requires-4 : tie.Need-scanned-at-requires-4 Inv-loop μ-loop
-scanned-at-requires-4 c κs = omega (arith, bounds (c .before .before .before .before .before .before .before))
+scanned-at-requires-4 c κs = omega (arith, bounds (c .before .before .before .before .before .before .before .before .before))
 
 returns-4 : tie.Need-returns-4 Inv-loop μ-loop
 returns-4 c =
     let d = c .before .before .before in
     c .scanned-at4 .ensures
+    ∙ sym (scan-end inWord glueOf _ _ _ _ (ap isChar (sym (d .decode .ensures) ∙ c .before .enum-told .given .1)))
+    ∙ left (d .before .before .before .before .before .before .before)
+
+enum-told-2 : tie.Need-enum-told-2 Inv-loop μ-loop
+enum-told-2 c = search needs
+
+scanned-at-requires-5 : tie.Need-scanned-at-requires-5 Inv-loop μ-loop
+scanned-at-requires-5 c κs = omega (arith, bounds (c .before .before .before .before .before .before .before .before .before))
+
+returns-5 : tie.Need-returns-5 Inv-loop μ-loop
+returns-5 c =
+    let d = c .before .before .before in
+    c .scanned-at5 .ensures
     ∙ sym (scan-end inWord glueOf _ _ _ _ (ap isChar (sym (d .decode .ensures) ∙ c .before .enum-told2 .given .1)))
-    ∙ left (d .before .before .before .before .before)
+    ∙ left (d .before .before .before .before .before .before .before)
 
 pub scan-word-spec : {M : Type 1} → statement M
 scan-word-spec =
@@ -238,11 +257,15 @@ scan-word-spec =
     add-at
     loop-less
     loop-again
+    mark-len-requires
+    cast-scanned-at
+    scanned-at-requires-2
+    returns-2
     decode-requires
     enum-known-cp
     in-word-requires
-    scanned-at-requires-2
-    returns-2
+    scanned-at-requires-3
+    returns-3
     glue-of-requires
     add-weight-2
     add-chars-2
@@ -251,8 +274,8 @@ scan-word-spec =
     loop-less-2
     loop-again-2
     enum-told
-    scanned-at-requires-3
-    returns-3
-    enum-told-2
     scanned-at-requires-4
-    returns-4)
+    returns-4
+    enum-told-2
+    scanned-at-requires-5
+    returns-5)
