@@ -37,7 +37,7 @@ ghost use Rattle.steps.specs.Foreseeing.{Foresees, ForeseesAfter};
 ghost use Rattle.steps.specs.Runs.{CutRun, cutAnswer, WholeRun, wholeAnswer};
 
 // What is held of a run of so many characters and counted spaces that ends at an offset, of which some are taken.
-fn held_rest(end: Offset, chars: Chars, count: Chars, taken: u32) -> Resumed
+pub fn held_rest(end: Offset, chars: Chars, count: Chars, taken: u32) -> Resumed
     requires { ⌜ (taken ≤ count .0) × (count .0 ≤ chars .0) ⌝ }
     ensures { λ r. ⌜ r ≡ resumedAt (end .0) (heldAfter (chars .0) (count .0) taken) ⌝ }
 {

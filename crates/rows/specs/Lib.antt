@@ -6,3 +6,4 @@ pub mod Going
 pub mod Plain
 pub mod GoodInput
 pub mod Passing
+pub mod CutRests

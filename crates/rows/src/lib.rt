@@ -3,4 +3,5 @@ pub mod line;
 pub mod lines;
 pub mod pass;
 pub mod plain;
+pub mod resumed;
 pub mod stand;

@@ -1,5 +1,7 @@
 // A line is measured, placed and drawn (rule 10).
 use crate::pass::run_pass;
+use crate::resumed::is_cut_again;
+use crate::resumed::lay_rest;
 use meaning::counts::Chars;
 use meaning::counts::Offset;
 use meaning::counts::Pixels;
@@ -159,6 +161,9 @@ fn lay_twice(text: &[u8], s: Settings, at: usize, rest: Resumed, known: Known) -
     requires { ⌜ LineReady s (now text) at rest × KnownFits (now text) known ⌝ }
     ensures { λ r. ⌜ LaidBy s (now (text .entry)) at rest r ⌝ }
 {
+    if is_cut_again(s, at, rest) {
+        return lay_rest(text, s, at, rest);
+    }
     let first = pass_over(text, s, at, rest, placed_plainly(s), known);
     let m = first.measure;
     let width = m.width;

@@ -8,24 +8,35 @@ use Rattle.steps.specs.Knowing.{KnownFits}
 use native.Mathlib.Omega.{arith}
 use mathlib.Core.Path.{refl, sym, subst, _∙_}
 use borrow.Author.Needs.{needs}
+use Rattle.rows.proofs.CutRestLaws.{rest-few}
 use Rattle.rows.proofs.line.lay_twice.Statement.{statement}
 use Rattle.rows.proofs.line.lay_twice.Tie as tie
 
 ready : (c : tie.After-placed-plainly) →
-    let a = c .before .before .args in
+    let a = c .before .before .before .before .args in
     LineReady (a .s) (a .text .now) (a .at) (a .rest)
-ready c = c .before .before .pre .0
+ready c = c .before .before .before .before .pre .0
 
-known : (c : tie.After-placed-plainly) → let a = c .before .before .args in KnownFits (a .text .now) (a .known)
-known c = c .before .before .pre .1
+known : (c : tie.After-placed-plainly) → let a = c .before .before .before .before .args in KnownFits (a .text .now) (a .known)
+known c = c .before .before .before .before .pre .1
 
 -- The first pass ends where a character does.
 stretch : (c : tie.After-pass-over) →
-    let a = c .before .before .before .args in
+    let a = c .before .before .before .before .before .args in
     Stretch (a .text .now) (a .at) (c .pass-over .result .next .0)
 stretch c =
-    let a = c .before .before .before .args in
+    let a = c .before .before .before .before .before .args in
     subst (λ (e : Ended). Stretch (a .text .now) (a .at) (e .next .0)) (sym (c .pass-over .ensures)) (passed-stretch (a .s) (a .text .now) (a .at) (a .rest) _)
+
+-- A rest that is cut again.
+is-cut-again-requires : tie.Need-is-cut-again-requires
+is-cut-again-requires c κs = let a = c .before in let r = a .pre .0 in (r .settings, rest-few r .0, rest-few r .1, omega (arith, r .inside, r .short))
+
+lay-rest-requires : tie.Need-lay-rest-requires
+lay-rest-requires c κs = (c .before .before .before .pre .0, c .before .is-cut-again .ensures (c .if1 .taken))
+
+returns : tie.Need-returns
+returns c = search needs
 
 placed-plainly-requires : tie.Need-placed-plainly-requires
 placed-plainly-requires c κs = search needs
@@ -49,15 +60,15 @@ chars-to-requires c κs =
     let r = ready (f .before) in
     (r .short, r .inside, stretch f)
 
-returns : tie.Need-returns
-returns c =
+returns-2 : tie.Need-returns-2
+returns-2 c =
     let t = c .before .before in
     let i = t .before in
     let p = i .before .before in
     let f = p .before .before .before in
     λ before.
     laid-once (ready (f .before)) _ _ (f .before .placed-plainly .ensures) (f .pass-over .ensures) _ _ _ refl (p .placed-by .ensures)
-    before _ (sym (i .as-measured .ensures) ∙ t .if1 .taken) (c .chars-to .ensures) refl
+    before _ (sym (i .as-measured .ensures) ∙ t .if2 .taken) (c .chars-to .ensures) refl
 
 pass-over-requires-2 : tie.Need-pass-over-requires-2
 pass-over-requires-2 c κs =
@@ -70,12 +81,12 @@ chars-to-requires-2 : tie.Need-chars-to-requires-2
 chars-to-requires-2 c κs =
     let d = c .before in
     let f = d .before .before .before .before .before .before .before in
-    let a = f .before .before .before .args in
+    let a = f .before .before .before .before .before .args in
     let r = ready (f .before) in
     (r .short, r .inside, subst (λ (e : Ended). Stretch (a .text .now) (a .at) (e .next .0)) (sym (d .pass-over2 .ensures)) (passed-stretch (a .s) (a .text .now) (a .at) (a .rest) _))
 
-returns-2 : tie.Need-returns-2
-returns-2 c =
+returns-3 : tie.Need-returns-3
+returns-3 c =
     let d = c .before .before in
     let p = d .before .before .before .before in
     let f = p .before .before .before in
@@ -87,12 +98,15 @@ pub lay-twice-spec : {M : Type 1} → statement M
 lay-twice-spec =
     tie.close
     (tie.spec
+    is-cut-again-requires
+    lay-rest-requires
+    returns
     placed-plainly-requires
     pass-over-requires
     placed-by-requires
     as-measured-requires
     chars-to-requires
-    returns
+    returns-2
     pass-over-requires-2
     chars-to-requires-2
-    returns-2)
+    returns-3)
