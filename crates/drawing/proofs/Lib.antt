@@ -4,3 +4,4 @@ pub mod TakenEvents
 pub mod PassLoop
 pub mod PlainEvents
 pub mod PlainEnd
+pub mod CutRestEvents

@@ -2,6 +2,7 @@
 mod inked;
 pub mod pass;
 pub mod plain;
+mod resumed;
 mod striding;
 mod taken;
 mod waiting;

@@ -1,4 +1,6 @@
 // The events of a line: the running pass again, token by token or in strides, each drawn (rule 7, rule 8, rule 9 and rule 13).
+use crate::resumed::draw_rest;
+use crate::resumed::is_cut_rest;
 use crate::striding::draw_unless;
 use crate::waiting::draw_waiting;
 use blanks::ahead::look_after;
@@ -24,9 +26,8 @@ ghost use Rattle.table.specs.Numbers.{putEvents};
 ghost use Rattle.drawing.specs.Drawn.{drawnFrom, eventsFrom};
 ghost use Rattle.drawing.specs.PassDrawn.{DrawRoom};
 
-// What a pass draws from a place and an offset on, after a resumed rest, where a word may be known: events number k and on, from
-// the pen at x. How many there are with those before.
-pub fn draw_pass(
+// What a pass draws from a place and an offset on, token by token or in strides: see `draw_pass`.
+fn draw_tokens(
     text: &[u8],
     s: Settings,
     start: Place,
@@ -74,4 +75,32 @@ pub fn draw_pass(
         held = nothing_left();
         seen = ahead;
     }
+}
+
+// What a pass draws from a place and an offset on, after a resumed rest, where a word may be known: events number k and on, from
+// the pen at x. How many there are with those before.
+pub fn draw_pass(
+    text: &[u8],
+    s: Settings,
+    start: Place,
+    from: usize,
+    rest: Resumed,
+    known: Known,
+    x: u32,
+    events: &mut [u32],
+    k: usize,
+) -> usize
+    requires { ⌜ DrawRoom s start (now text) from rest x k × KnownFits (now text) known ⌝ }
+    ensures { λ r. ⌜ now (events .exit) ≡ putEvents (now (events .entry)) k (eventsFrom s start (now (text .entry)) from (rest .chars .0) (rest .count .0) x) ⌝ }
+    ensures { λ r. ⌜ r ≡ k + length (drawnFrom s start (now (text .entry)) from (rest .chars .0) (rest .count .0)) ⌝ }
+{
+    if is_cut_rest(s, start, from, rest) {
+        let pen = Pen {
+            next: k,
+            x: Pixels(x),
+        };
+        let last = draw_rest(text, s, start, from, rest, pen, events);
+        return last.next;
+    }
+    draw_tokens(text, s, start, from, rest, known, x, events, k)
 }

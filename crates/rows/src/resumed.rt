@@ -17,9 +17,10 @@ ghost use Prim.Native.Nat.{_≤_};
 ghost use mathlib.Core.Path.{_≡_};
 ghost use mathlib.Core.Bool.{true};
 ghost use Rattle.moves.specs.Fine.{FineSettings};
+ghost use Rattle.blanks.specs.CutRests.{cutEnd};
 ghost use Rattle.placing.specs.Laying.{LineReady};
 ghost use Rattle.rows.specs.Passing.{LaidBy};
-ghost use Rattle.rows.specs.CutRests.{CutAgain, CutNumbers, cutEnd};
+ghost use Rattle.rows.specs.CutRests.{CutAgain, CutNumbers};
 
 // Whether a rest is too wide for the box, is not skipped, and has characters of one byte alone.
 pub fn is_cut_again(s: Settings, at: usize, rest: Resumed) -> bool

@@ -7,7 +7,7 @@ use borrow.Author.Needs.{needs}
 use Rattle.meaning.specs.declared.line.Measure.{Measure}
 use Rattle.meaning.specs.declared.line.LineEnd.the-variants.{LineBreak}
 use Rattle.steps.specs.Runs.{cutShown}
-use Rattle.rows.specs.CutRests.{cutEnd}
+use Rattle.blanks.specs.CutRests.{cutEnd}
 use Rattle.rows.proofs.resumed.cut_again.Statement.{statement}
 use Rattle.rows.proofs.resumed.cut_again.Tie as tie
 

@@ -9,7 +9,7 @@ use Rattle.meaning.specs.declared.line.Placed.{Placed}
 use Rattle.meaning.specs.declared.line.LineEnd.the-variants.{LineBreak}
 use Rattle.placing.specs.PlaceLaws.{place-fine}
 use Rattle.steps.proofs.RestLaws.{rest-inside, ender-at-most}
-use Rattle.rows.proofs.CutRestLaws.{rest-few, filled, rest-laid}
+use Rattle.rows.proofs.CutRestLaws.{rest-few, rest-filled, rest-laid}
 use Rattle.rows.proofs.resumed.lay_rest.Statement.{statement}
 use Rattle.rows.proofs.resumed.lay_rest.Tie as tie
 
@@ -27,7 +27,7 @@ add-reach c =
     let e = c .before in
     let b = e .before .before .before .before in
     let h = b .pre .0 in
-    record { fits = omega (arith, rest-inside _ (b .args .at) (b .args .rest) (h .rest) (filled h (b .pre .1)), h .short, ender-at-most _ _ _ (e .ender-at .ensures)) }
+    record { fits = omega (arith, rest-inside _ (b .args .at) (b .args .rest) (h .rest) (rest-filled h (b .pre .1) 0 (omega arith)), h .short, ender-at-most _ _ _ (e .ender-at .ensures)) }
 
 -- The line is placed in its box.
 inside : (c : tie.After-place-line) → c .place-line .result .left .0 ≤ c .before .before .args .s .width .0

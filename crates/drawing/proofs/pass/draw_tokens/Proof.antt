@@ -1,0 +1,228 @@
+-- `drawing::pass::draw_tokens` meets its contract (rule 8, rule 9, rule 13).
+-- Assumes nothing.
+use Prim.Native.Nat.{_-_}
+use mathlib.Core.Path.{_≡_, refl, sym, _∙_}
+use native.Mathlib.Omega.{arith}
+use lib.ListN.{length}
+use Rattle.steps.specs.Ready.{Ready}
+use Rattle.steps.specs.Pending.{Pending, pending, none-pending}
+use Rattle.steps.specs.Foreseeing.{ForeseesFrom}
+use Rattle.steps.specs.Running.{none-held}
+use Rattle.blanks.specs.BeyondLaws.{step-foresees}
+use Rattle.drawing.specs.Drawn.{drawnFrom}
+use Rattle.ink.specs.Sheet.{Sheet, sheet, drawnOn}
+use Rattle.drawing.proofs.PassLoop.{Drawing, drawing-first, drawing-strode, waits-ready, drawing-waits, pen-room, drawing-ends, token-ready, drawing-stops, drawing-goes, goal-is}
+use borrow.Author.Needs.{needs}
+use Rattle.drawing.proofs.pass.draw_tokens.Statement.{statement}
+use Rattle.drawing.proofs.pass.draw_tokens.Tie as tie
+
+abbrev Inv-loop : tie.InvT-loop
+Inv-loop text s from known x events₀ k none p₀ at₀ held₀ pen₀ seen₀ events p at held pen seen =
+    Drawing text s (drawnOn (sheet events₀ pen₀) (drawnFrom s p₀ text at₀ (held₀ .chars .0) (held₀ .count .0))) events p at held pen
+    × (length events ≡ length events₀)
+    × ForeseesFrom s p text at held seen
+
+abbrev μ-loop : tie.MeasureT-loop
+μ-loop text s from known x events₀ k none p₀ at₀ held₀ pen₀ seen₀ events p at held pen seen = length text - at
+
+abbrev Strides : Type 0
+Strides = tie.After-draw-unless Inv-loop μ-loop
+
+abbrev around : Strides → tie.At-loop Inv-loop μ-loop
+around c = c .before .before
+
+abbrev begin : Strides → tie.Start Inv-loop μ-loop
+begin c = around c .before .before .before .before
+
+-- The sheet at the end.
+abbrev goal : Strides → Sheet
+goal c =
+    let a = begin c .args in
+    drawnOn (sheet (a .events .now) (record { next = a .k; x = record { 0 = a .x } }))
+    (drawnFrom (a .s) (a .start) (a .text .now) (a .from) (a .rest .chars .0) (a .rest .count .0))
+
+-- Where the strides came to.
+stood : (c : Strides) →
+    let g = c .draw-unless .result in
+    Drawing (begin c .args .text .now) (begin c .args .s) (goal c) (c .draw-unless .last .1 .1 .1 .1 .1 .1 .1 .0) (g .place) (g .at) (around c .loop .held) (g .pen)
+stood c = drawing-strode (around c .loop .inv .0) (c .draw-unless .ensures .0)
+
+kept : (c : Strides) → length (c .draw-unless .last .1 .1 .1 .1 .1 .1 .1 .0) ≡ length (begin c .args .events .now)
+kept c = c .draw-unless .kept .1 .1 .1 .1 .1 .1 .1 .0 ∙ around c .loop .inv .1
+
+-- From the token that was read there back to the strides.
+abbrev strode : tie.After-first-token Inv-loop μ-loop → Strides
+strode c = c .before .before .before .before .before .before .before
+
+pended : (c : tie.After-token Inv-loop μ-loop) →
+    let o = strode (c .before .before) in
+    Pending (begin o .args .text .now) (o .draw-unless .result .at) (around o .loop .held .chars .0) (around o .loop .held .count .0) (c .token .given .0 .0)
+pended c =
+    let n = c .before .before in
+    let o = strode n in
+    pending _ (o .draw-unless .result .at) (around o .loop .held) _ (stood o .ready .pass .rest) (sym (n .first-token .ensures) ∙ c .token .given .1)
+
+nothing-measured-requires : tie.Need-nothing-measured-requires Inv-loop μ-loop
+nothing-measured-requires c κs = search needs
+
+loop-holds : tie.Need-loop-holds Inv-loop μ-loop
+loop-holds c =
+    let s = c .before .before .before in
+    let a = s .args in
+    (drawing-first (a .text .now) (a .s) (a .events .now) (a .start) (a .from) (a .rest) (a .x) (a .k) (s .pre .0), refl, tt)
+
+draw-unless-requires : tie.Need-draw-unless-requires Inv-loop μ-loop
+draw-unless-requires c κs = let i = c .before .loop .inv in (i .0 .ready, i .2)
+
+draw-waiting-requires : tie.Need-draw-waiting-requires Inv-loop μ-loop
+draw-waiting-requires c κs =
+    let i = c .before in
+    let o = i .before .before .before .before in
+    waits-ready (around o .loop .inv .0) (o .draw-unless .ensures .0) (i .if1 .taken)
+
+same-length : tie.Need-same-length Inv-loop μ-loop
+same-length c =
+    let w = c .before .before in
+    w .draw-waiting .kept .1 .1 .1 .0 ∙ kept (w .before .before .before .before .before .before)
+
+returns : tie.Need-returns Inv-loop μ-loop
+returns c =
+    let w = c .before .before in
+    let i = w .before .before in
+    let o = i .before .before .before .before in
+    let a = begin o .args in
+    goal-is (a .s) (a .start) (a .text .now) (a .from) (a .rest .chars .0) (a .rest .count .0) (a .events .now) _ (a .k) (a .x) (w .draw-waiting .result)
+    (drawing-waits (around o .loop .inv .0) (o .draw-unless .ensures .0) (i .if1 .taken) _ (w .draw-waiting .ensures))
+
+first-token-requires : tie.Need-first-token-requires Inv-loop μ-loop
+first-token-requires c κs =
+    let o = c .before .before .before .before .before .before in
+    let r = stood o .ready .pass in
+    (r .short, r .rest, begin o .pre .1)
+
+enum-known-token : tie.Need-enum-known-token Inv-loop μ-loop
+enum-known-token c = search needs
+
+enum-told : tie.Need-enum-told Inv-loop μ-loop
+enum-told c = search needs
+
+same-length-2 : tie.Need-same-length-2 Inv-loop μ-loop
+same-length-2 c = kept (strode (c .before .before))
+
+returns-2 : tie.Need-returns-2 Inv-loop μ-loop
+returns-2 c =
+    let n = c .before .before in
+    let o = strode n in
+    let a = begin o .args in
+    goal-is (a .s) (a .start) (a .text .now) (a .from) (a .rest .chars .0) (a .rest .count .0) (a .events .now) _ (a .k) (a .x) (o .draw-unless .result .pen)
+    (drawing-ends (stood o) (none-pending (o .draw-unless .result .at) _ (sym (n .first-token .ensures) ∙ c .enum-told .given .1)))
+
+-- Its step has what it needs.
+ready : (c : tie.After-known-told Inv-loop μ-loop) →
+    let k = c .before in
+    let o = strode (k .before .before) in
+    let a = begin o .args in
+    let g = o .draw-unless .result in
+    Ready (a .s) (g .place) (a .text .now) (g .at) (k .token .given .0 .0) (around o .before .nothing-measured .result)
+ready c =
+    let k = c .before in
+    let o = strode (k .before .before) in
+    token-ready (stood o) (k .token .given .0 .0) (pended k) _ (around o .before .nothing-measured .ensures)
+
+look-after-requires : tie.Need-look-after-requires Inv-loop μ-loop
+look-after-requires c κs =
+    let k = c .before in
+    let y = pended k in
+    let o = strode (k .before .before) in
+    let r = stood o .ready .pass in
+    record { settings = r .settings; place = r .place; short = r .short; stands = y .stands; sees = rw (y .first) at (o .draw-unless .ensures .1) }
+
+step-token-requires : tie.Need-step-token-requires Inv-loop μ-loop
+step-token-requires c κs = (ready (c .before), c .look-after .ensures)
+
+draw-token-requires : tie.Need-draw-token-requires Inv-loop μ-loop
+draw-token-requires c κs =
+    let f = c .before in
+    let u = f .before in
+    let o = strode (u .before .before .before .before) in
+    (record { ready = ready (u .before); stepped = f .step-token .ensures; pen = pen-room (stood o) }, u .look-after .ensures)
+
+enum-known-stepped : tie.Need-enum-known-stepped Inv-loop μ-loop
+enum-known-stepped c = search needs
+
+enum-told-2 : tie.Need-enum-told-2 Inv-loop μ-loop
+enum-told-2 c = search needs
+
+-- From the token that was drawn back to where it was read.
+abbrev told : tie.After-draw-token Inv-loop μ-loop → tie.After-token Inv-loop μ-loop
+told c = c .before .before .before .before .before
+
+same-length-3 : tie.Need-same-length-3 Inv-loop μ-loop
+same-length-3 c =
+    let w = c .before .before .before .before in
+    w .draw-token .kept .1 .1 .1 .1 .1 .1 .1 .1 .1 .0 ∙ kept (strode (told w .before .before))
+
+returns-3 : tie.Need-returns-3 Inv-loop μ-loop
+returns-3 c =
+    let w = c .before .before .before .before in
+    let k = told w in
+    let o = strode (k .before .before) in
+    let a = begin o .args in
+    goal-is (a .s) (a .start) (a .text .now) (a .from) (a .rest .chars .0) (a .rest .count .0) (a .events .now) _ (a .k) (a .x) (w .draw-token .result)
+    (drawing-stops (stood o) (k .token .given .0 .0) (pended k) _ (around o .before .nothing-measured .ensures) _ (w .draw-token .result) (w .draw-token .ensures)
+    _ (sym (w .before .before .step-token .ensures) ∙ c .enum-told2 .given .1))
+
+cast-at : tie.Need-cast-at Inv-loop μ-loop
+cast-at c = search needs
+
+nothing-left-requires : tie.Need-nothing-left-requires Inv-loop μ-loop
+nothing-left-requires c κs = search needs
+
+loop-less : tie.Need-loop-less Inv-loop μ-loop
+loop-less c =
+    let k = told (c .before .before .before .before .before .before .before) in
+    let y = pended k .stands in
+    omega (arith, y .longer, y .within, strode (k .before .before) .draw-unless .ensures .0 .onward .forward)
+
+loop-again : tie.Need-loop-again Inv-loop μ-loop
+loop-again c =
+    let w = c .before .before .before .before .before .before .before in
+    let d = w .before .before in
+    let u = d .before in
+    let k = told w in
+    let o = strode (k .before .before) in
+    let x = k .token .given .0 .0 in
+    let e = sym (d .step-token .ensures) ∙ c .before .before .before .stepped .given .1 in (
+      drawing-goes (stood o) x (pended k) _ (around o .before .nothing-measured .ensures) _ (w .draw-token .result) (w .draw-token .ensures) _ _ _ e _ (c .nothing-left .ensures),
+      w .draw-token .kept .1 .1 .1 .1 .1 .1 .1 .1 .1 .0 ∙ kept o,
+      rw (none-held _ (x .end .0) _ (c .nothing-left .ensures)) (step-foresees (ready (u .before)) _ _ _ e (u .look-after .result) (u .look-after .ensures)),
+    )
+
+pub draw-tokens-spec : {M : Type 1} → statement M
+draw-tokens-spec =
+    tie.close
+    (tie.spec
+    Inv-loop
+    μ-loop
+    nothing-measured-requires
+    loop-holds
+    draw-unless-requires
+    draw-waiting-requires
+    same-length
+    returns
+    first-token-requires
+    enum-known-token
+    enum-told
+    same-length-2
+    returns-2
+    look-after-requires
+    step-token-requires
+    draw-token-requires
+    enum-known-stepped
+    enum-told-2
+    same-length-3
+    returns-3
+    cast-at
+    nothing-left-requires
+    loop-less
+    loop-again)
