@@ -27,7 +27,8 @@ use Rattle.parser.specs.declared.lexeme.Lexeme.{Lexeme}
 use Rattle.steps.specs.Stepping.{resumedAt, ranFrom}
 use Rattle.steps.specs.Unrolled.{farther, farther-near}
 use Rattle.steps.specs.Ready.{Ready, stepFrom}
-use Rattle.steps.specs.Pending.{Pending, restLexeme}
+use Rattle.steps.specs.Lexed.{chars-within}
+use Rattle.steps.specs.Pending.{RestFits, Pending, restLexeme}
 use Rattle.steps.specs.Running.{PassReady, pass-stops}
 use Rattle.steps.specs.Runs.{CutRun, cutShown}
 use Rattle.steps.specs.RunLaws.{cut-answer, space-cut}
@@ -70,6 +71,10 @@ thin-part cs n k h e f =
 some-times : (n g w : ℕ) → w < n * g → 1 ≤ n
 some-times zero g w h = omega arith
 some-times (suc n) g w h = omega arith
+
+-- A rest has no more characters than its text has bytes.
+pub rest-few : {t : List ℕ} {at : ℕ} {r : Resumed} → RestFits t at r → length t ≤ 65535 → (r .count .0 ≤ 65535) × (r .chars .0 ≤ 65535)
+rest-few {t} {at} f h = omega (arith, f .within, f .counts, length-size (charsFrom t at), chars-within t at)
 
 -- ---- how far was looked
 

@@ -18,9 +18,7 @@ use Rattle.meaning.specs.Line.{unmeasured}
 use Rattle.meaning.specs.declared.settings.Settings.{Settings}
 use Rattle.meaning.specs.declared.cursor.Place.{Place}
 use Rattle.meaning.specs.declared.line.EventKind.the-variants.{Space}
-use Rattle.laws.specs.TokenLaws.{length-size}
 use Rattle.parser.specs.Lexing.{charsFrom}
-use Rattle.steps.specs.Lexed.{chars-within}
 use Rattle.steps.specs.Pending.{Pending, pending, restLexeme}
 use Rattle.steps.specs.Running.{PassReady}
 use Rattle.steps.specs.declared.step.Resumed.{Resumed}
@@ -31,10 +29,6 @@ use Rattle.prints.specs.TokenDrawn.{grownBy, runDrawn}
 use Rattle.prints.specs.TokenEvents.{run-drawn}
 use Rattle.drawing.specs.Drawn.{drawnFrom}
 use Rattle.drawing.specs.PassDrawn.{stop-drawn}
-
--- A rest has no more characters than its text has bytes.
-pub rest-few : {s : Settings} {p : Place} {t : List ℕ} {at : ℕ} {r : Resumed} → PassReady s p t at r unmeasured → (r .count .0 ≤ 65535) × (r .chars .0 ≤ 65535)
-rest-few {t = t} {at = at} h = omega (arith, h .rest .within, h .rest .counts, length-size (charsFrom t at), chars-within t at, h .short)
 
 module _ {s : Settings} {p : Place} {t : List ℕ} {at : ℕ} {r : Resumed} (h : PassReady s p t at r unmeasured) (c : CutRest s p at r) where
   abbrev Fitting : ℕ

@@ -14,10 +14,8 @@ use Rattle.meaning.specs.Line.{unmeasured, startPlace}
 use Rattle.meaning.specs.declared.settings.Settings.{Settings}
 use Rattle.meaning.specs.declared.line.LineEnd.the-variants.{LineBreak}
 use Rattle.meaning.specs.declared.line.Placed.{Placed}
-use Rattle.laws.specs.TokenLaws.{length-size}
 use Rattle.parser.specs.Lexing.{charsFrom}
 use Rattle.moves.specs.FineSteps.{plain-fine}
-use Rattle.steps.specs.Lexed.{chars-within}
 use Rattle.steps.specs.Pending.{Pending, pending, restLexeme}
 use Rattle.steps.specs.Running.{PassReady}
 use Rattle.steps.specs.declared.step.Resumed.{Resumed}
@@ -40,10 +38,6 @@ plain-placed s =
     (λ _. pick-cases P (eqb (s .alignment) 1) (λ _. refl)
     (λ _. pick-cases P (eqb (s .alignment) 2) (λ _. refl)
     (λ _. pick-cases P true (λ _. refl) (λ e. absurd (false≢true (sym e))))))
-
--- A rest has no more characters than its text has bytes.
-pub rest-few : {s : Settings} {t : List ℕ} {at : ℕ} {r : Resumed} → LineReady s t at r → (r .count .0 ≤ 65535) × (r .chars .0 ≤ 65535)
-rest-few {t = t} {at = at} h = omega (arith, h .rest .within, h .rest .counts, length-size (charsFrom t at), chars-within t at, h .short)
 
 module _ {s : Settings} {t : List ℕ} {at : ℕ} {r : Resumed} (h : LineReady s t at r) (c : CutAgain s at r) where
   -- A pass over a line that starts so far from the left.

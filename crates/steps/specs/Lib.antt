@@ -15,3 +15,4 @@ pub mod DrawLaws
 pub mod RunLaws
 pub mod PassLaws
 pub mod WordLaws
+pub mod BreakLaws

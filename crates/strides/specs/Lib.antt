@@ -1,9 +1,11 @@
 pub mod Strides
 pub mod First
 pub mod Next
+pub mod Marks
 pub mod OnwardLaws
 pub mod StrideLaws
 pub mod FirstLaws
 pub mod NextLaws
 pub mod WaitLaws
 pub mod GoesLaws
+pub mod MarkLaws

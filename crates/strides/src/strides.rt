@@ -6,6 +6,9 @@ use crate::first::first_taken;
 use crate::going::Going;
 use crate::going::nothing_waits;
 use crate::going::stands_at;
+use crate::marks::Joined;
+use crate::marks::last_zero;
+use crate::marks::next_joined;
 use crate::next::Next;
 use crate::next::Taken;
 use crate::next::next_pair;
@@ -20,6 +23,7 @@ use steps::look::Foreseen;
 use steps::step::Resumed;
 use steps::words::word_measure;
 ghost use mathlib.Core.Path.{_≡_};
+ghost use mathlib.Core.Bool.{false};
 ghost use Rattle.steps.specs.Unrolled.{nothingResumed};
 ghost use Rattle.steps.specs.Running.{PassReady};
 ghost use Rattle.steps.specs.Foreseeing.{ForeseesFrom};
@@ -59,7 +63,29 @@ fn first_word(text: &[u8], s: Settings, p: Place, at: usize, m: Measure) -> Goin
     }
 }
 
-// Words as far as they fit, each behind one space.
+// A soft hyphen that does not show and the word behind it, or else zero width spaces.
+fn marks_on(text: &[u8], s: Settings, p: Place, at: usize, m: Measure) -> Going
+    requires { ⌜ PassReady s p (now text) at nothingResumed m × (p .empty ≡ false) ⌝ }
+    ensures { λ r. ⌜ Goes s p (now (text .entry)) at nothingResumed m r ⌝ }
+    ensures { λ r. ⌜ r .place .empty ≡ false ⌝ }
+{
+    match next_joined(text, s, p, at) {
+        Joined::None => {
+            let to = last_zero(text, at);
+            stands_at(p, m, to, nothing_waits())
+        }
+        Joined::Word(word, place) => {
+            let glyph = s.glyph;
+            let spaces = p.spaces;
+            let chars = word.chars;
+            let glues = word.weight;
+            let after = word_measure(glyph, spaces, m, chars, glues);
+            stands_at(place, after, word.end.0 as usize, nothing_waits())
+        }
+    }
+}
+
+// Words as far as they fit, each behind one space, and what stands between them and does nothing.
 fn words_on(text: &[u8], s: Settings, p: Place, at: usize, m: Measure) -> Going
     requires { ⌜ PassReady s p (now text) at nothingResumed m ⌝ }
     ensures { λ r. ⌜ Goes s p (now (text .entry)) at nothingResumed m r ⌝ }
@@ -76,7 +102,11 @@ fn words_on(text: &[u8], s: Settings, p: Place, at: usize, m: Measure) -> Going
         let pair = pair_at(text, to);
         match next_pair(text, s, here, to, pair) {
             Next::Nothing => {
-                return g;
+                let far = marks_on(text, s, here, to, sum);
+                if far.at.0 == g.at.0 {
+                    return far;
+                }
+                g = far;
             }
             Next::TooWide(w) => {
                 return stands_at(here, sum, to, w);

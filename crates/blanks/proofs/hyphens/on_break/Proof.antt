@@ -2,7 +2,7 @@
 -- Assumes nothing.
 use mathlib.Core.Path.{sym, _∙_}
 use native.Mathlib.Omega.{arith}
-use Rattle.blanks.specs.HyphenLaws.{break-end, break-alone, break-shows, break-hides}
+use Rattle.steps.specs.BreakLaws.{break-end, break-alone, break-shows, break-hides}
 use borrow.Author.Needs.{needs}
 use Rattle.blanks.proofs.hyphens.on_break.Statement.{statement}
 use Rattle.blanks.proofs.hyphens.on_break.Tie as tie

@@ -2,7 +2,7 @@
 -- Assumes nothing.
 use native.Mathlib.Omega.{arith}
 use borrow.Author.Needs.{needs}
-use Rattle.drawing.proofs.CutRestEvents.{rest-few}
+use Rattle.blanks.specs.CutRests.{rest-few}
 use Rattle.drawing.proofs.PassLoop.{drawing-first, goal-is}
 use Rattle.drawing.proofs.pass.draw_pass.Statement.{statement}
 use Rattle.drawing.proofs.pass.draw_pass.Tie as tie
@@ -10,7 +10,7 @@ use Rattle.drawing.proofs.pass.draw_pass.Tie as tie
 is-cut-rest-requires : tie.Need-is-cut-rest-requires
 is-cut-rest-requires c κs =
     let r = c .before .before .pre .0 .pass in
-    (r .place, rest-few r .0, rest-few r .1, omega (arith, r .inside, r .short))
+    (r .place, rest-few (r .rest) (r .short) .0, rest-few (r .rest) (r .short) .1, omega (arith, r .inside, r .short))
 
 draw-rest-requires : tie.Need-draw-rest-requires
 draw-rest-requires c κs =

@@ -2,7 +2,7 @@
 -- Assumes nothing.
 use mathlib.Core.Path.{sym, ap, _∙_}
 use native.Mathlib.Omega.{arith}
-use Rattle.blanks.specs.HyphenLaws.{break-end}
+use Rattle.steps.specs.BreakLaws.{break-end}
 use Rattle.ink.specs.Sheet.{sheet, drawnOn}
 use Rattle.prints.specs.TokenEvents.{line-drawn, return-drawn, step-grew, grown-narrow, run-events, hyphen-events}
 use borrow.Author.Needs.{needs}

@@ -8,7 +8,7 @@ use Rattle.steps.specs.Knowing.{KnownFits}
 use native.Mathlib.Omega.{arith}
 use mathlib.Core.Path.{refl, sym, subst, _∙_}
 use borrow.Author.Needs.{needs}
-use Rattle.rows.proofs.CutRestLaws.{rest-few}
+use Rattle.blanks.specs.CutRests.{rest-few}
 use Rattle.rows.proofs.line.lay_twice.Statement.{statement}
 use Rattle.rows.proofs.line.lay_twice.Tie as tie
 
@@ -30,7 +30,7 @@ stretch c =
 
 -- A rest that is cut again.
 is-cut-again-requires : tie.Need-is-cut-again-requires
-is-cut-again-requires c κs = let a = c .before in let r = a .pre .0 in (r .settings, rest-few r .0, rest-few r .1, omega (arith, r .inside, r .short))
+is-cut-again-requires c κs = let a = c .before in let r = a .pre .0 in (r .settings, rest-few (r .rest) (r .short) .0, rest-few (r .rest) (r .short) .1, omega (arith, r .inside, r .short))
 
 lay-rest-requires : tie.Need-lay-rest-requires
 lay-rest-requires c κs = (c .before .before .before .pre .0, c .before .is-cut-again .ensures (c .if1 .taken))

@@ -9,7 +9,8 @@ use Rattle.meaning.specs.declared.line.Placed.{Placed}
 use Rattle.meaning.specs.declared.line.LineEnd.the-variants.{LineBreak}
 use Rattle.placing.specs.PlaceLaws.{place-fine}
 use Rattle.steps.proofs.RestLaws.{rest-inside, ender-at-most}
-use Rattle.rows.proofs.CutRestLaws.{rest-few, rest-filled, rest-laid}
+use Rattle.blanks.specs.CutRests.{rest-few}
+use Rattle.rows.proofs.CutRestLaws.{rest-filled, rest-laid}
 use Rattle.rows.proofs.resumed.lay_rest.Statement.{statement}
 use Rattle.rows.proofs.resumed.lay_rest.Tie as tie
 
@@ -62,7 +63,7 @@ cut-again-requires : tie.Need-cut-again-requires
 cut-again-requires c κs =
     let k = c .before in
     let h = placed k .before .before .pre .0 in
-    (omega (arith, h .inside, h .short), few k, omega (arith, c .lesser .ensures), h .rest .counts, omega (arith, c .lesser .ensures, rest-few h))
+    (omega (arith, h .inside, h .short), few k, omega (arith, c .lesser .ensures), h .rest .counts, omega (arith, c .lesser .ensures, rest-few (h .rest) (h .short)))
 
 returns : tie.Need-returns
 returns c =

@@ -79,10 +79,26 @@ next-pair-requires c κs =
 enum-told : tie.Need-enum-told Inv-loop μ-loop
 enum-told c = search needs
 
+marks-on-requires : tie.Need-marks-on-requires Inv-loop μ-loop
+marks-on-requires c κs = let i = around (c .before .before) .loop .inv in (i .0 .onward .ready, i .1)
+
+-- From after the marks back to the turn.
+abbrev turn : tie.After-marks-on Inv-loop μ-loop → tie.At-loop Inv-loop μ-loop
+turn c = around (c .before .before .before)
+
 returns-2 : tie.Need-returns-2 Inv-loop μ-loop
 returns-2 c =
-    let l = around (c .before .before) in
-    goes-on (first l .first-word .ensures .onward) (l .loop .inv .0)
+    let k = c .before .before .before in
+    let l = turn k in
+    goes-on (first l .first-word .ensures .onward) (goes-on (l .loop .inv .0 .onward) (k .marks-on .ensures .0))
+
+loop-less : tie.Need-loop-less Inv-loop μ-loop
+loop-less c = let o = c .before .before .before .marks-on .ensures .0 .onward in omega (arith, o .forward, o .ready .inside, c .if2 .left)
+
+loop-again : tie.Need-loop-again Inv-loop μ-loop
+loop-again c =
+    let k = c .before .before .before in
+    (goes-on (turn k .loop .inv .0 .onward) (k .marks-on .ensures .0), k .marks-on .ensures .1)
 
 enum-known-w : tie.Need-enum-known-w Inv-loop μ-loop
 enum-known-w c = search needs
@@ -137,14 +153,14 @@ gone c =
     (subst (λ (m : Measure). Onward (a .s) (g .place) (a .text .now) (g .at .0) nothingResumed (g .measure) (x .place) (x .word .end .0) m)
     (sym (w .before .before .measure-taken .ensures)) (taken-onward (taking t) (around n .loop .inv .0 .onward .ready)))
 
-loop-less : tie.Need-loop-less Inv-loop μ-loop
-loop-less c =
+loop-less-2 : tie.Need-loop-less-2 Inv-loop μ-loop
+loop-less-2 c =
     let t = found c in
     let r = around (t .before .before) .loop .inv .0 .onward .ready in
     omega (arith, goes-at _ _ _ _ (c .stands-at2 .ensures), taken-numbers (taking t) r, gone c .onward .ready .inside)
 
-loop-again : tie.Need-loop-again Inv-loop μ-loop
-loop-again c =
+loop-again-2 : tie.Need-loop-again-2 Inv-loop μ-loop
+loop-again-2 c =
     let t = found c in
     let i = around (t .before .before) .loop .inv in
     (goes-on (i .0 .onward) (gone c), goes-full _ _ _ _ (c .stands-at2 .ensures) (taken-full (taking t)))
@@ -162,7 +178,10 @@ words-on-spec =
     pair-at-requires
     next-pair-requires
     enum-told
+    marks-on-requires
     returns-2
+    loop-less
+    loop-again
     enum-known-w
     stands-at-requires
     returns-3
@@ -171,5 +190,5 @@ words-on-spec =
     cast-stands-at
     nothing-waits-requires
     stands-at-requires-2
-    loop-less
-    loop-again)
+    loop-less-2
+    loop-again-2)
