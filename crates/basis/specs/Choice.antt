@@ -56,6 +56,10 @@ pub by-either {ℓ} : {P : Type ℓ} (p q : Bool) → p || q ≡ true → (p ≡
 by-either true q e f g = f refl
 by-either false q e f g = g e
 
+pub neither : (p q : Bool) → p || q ≡ false → (p ≡ false) × (q ≡ false)
+neither true q e = absurd (false≢true (sym e))
+neither false q e = (refl, e)
+
 pub either-first : (p q : Bool) → p ≡ true → p || q ≡ true
 either-first true q e = refl
 either-first false q e = absurd (false≢true e)

@@ -8,7 +8,7 @@ use mathlib.Core.List.{List, [], _∷_}
 use lib.Dec.{leb, ltb}
 use lib.ListN.{length, drop}
 use borrow.Author.Tests.{lt-leb, ne-eqb, ltb-true, ltb-false}
-use Rattle.basis.specs.Choice.{pick, pick-true, pick-false, pick-cases, by-test, by-either}
+use Rattle.basis.specs.Choice.{pick, pick-true, pick-false, pick-cases, by-test, by-either, neither}
 use Rattle.meaning.specs.Edit.{moved, meets, keptFrom}
 use Rattle.meaning.specs.declared.edit.Edit.{Edit}
 use Rattle.meaning.specs.declared.line.Rest.{Rest}
@@ -86,10 +86,6 @@ module _ (ed : Edit) (start : ℕ) where
   past-passing (e ∷ es) = by-test (standsBefore ed start (e .start .0)) (λ b. rw b (past-passing es)) (λ b. rw b b)
 
   -- ---- the line that the pointer stands at
-
-  neither : (p q : Bool) → p || q ≡ false → (p ≡ false) × (q ≡ false)
-  neither false q h = (refl, h)
-  neither true q h = absurd (false≢true (sym h))
 
   past-says : (x : ℕ) → standsBefore ed start x ≡ false → (ed .to .0 ≤ x) × (start ≤ moved ed x)
   unfolding standsBefore

@@ -48,7 +48,7 @@ module _ (t : List ℕ) (at : ℕ) where
       let b = x .black in
       let h = b .high in
       let g = black-glue c (b .solid) in
-      record { char = c; is = x .is; word = high-word c (omega arith) (b .shown) g (λ e. omega arith) ∙ rw (b .solid); glue = glue-none c g }
+      record { char = c; is = x .is; word = high-word c (omega arith) (b .shown) g (b .hard) ∙ rw (b .solid); glue = glue-none c g }
 
   glues-char : (c n : ℕ) → decodeAt t at ≡ Char c n → glue c ≡ true → Glues t at n
   glues-char c n d g = record { char = c; is = d; word = glue-word c g .0; glue = glue-some c g }

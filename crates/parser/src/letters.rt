@@ -4,6 +4,7 @@ ghost use lib.ListN.{length};
 ghost use Rattle.parser.specs.Letters.{Letter, GoesOn, Lettered};
 use crate::ascii::is_plain;
 use crate::ascii::plain_at;
+use unicode::long::broad_at;
 use unicode::long::long_len;
 use unicode::long::wide_at;
 
@@ -52,14 +53,14 @@ pub struct Letters {
     pub chars: u32,
 }
 
-// Letters of three bytes that the fewest tests tell are skipped.
+// Letters of three bytes that the fewest tests tell are skipped, and the marks between them.
 fn skip_wide(text: &[u8], from: usize) -> Letters
     requires { ⌜ (length (now text) ≤ 65535) × (from ≤ length (now text)) ⌝ }
     ensures { λ r. ⌜ GoesOn (now (text .entry)) from (r .end) (r .chars) 0 ⌝ }
 {
     let mut end = from;
     let mut chars: u32 = 0;
-    while wide_at(text, end) {
+    while broad_at(text, end) {
         end += 3;
         chars += 1;
     }

@@ -1,9 +1,9 @@
 -- Text that is passed without decoding: bytes below 80, each a character by itself (Table 3-6), and other characters that are told.
 -- Assumes nothing.
-use mathlib.Core.Path.{_≡_}
+use mathlib.Core.Path.{_≡_, subst}
 use mathlib.Core.Bool.{Bool, true, false, _&&_}
 use mathlib.Core.List.{List, [], _∷_}
-use Prim.Native.Nat.{ℕ, suc, _+_, _-_, _≤_, _<_}
+use Prim.Native.Nat.{ℕ, zero, suc, _+_, _-_, _≤_, _<_}
 use native.Mathlib.Omega.{arith}
 use native.Mathlib.Numerals.{add-one}
 use borrow.Author.Tests.{lt-leb, lt-ltb, ltb-true}
@@ -11,6 +11,7 @@ use lib.Dec.{ltb}
 use lib.ListN.{length, getD, drop}
 use lib.Seq.{drop-cons}
 use Rattle.basis.specs.Choice.{pick, pick-cases, and-true}
+use Rattle.basis.specs.Order.{by-lt}
 use Rattle.unicode.specs.Decoding.{seqLen, value, decodeHead, decodeAt, validPrefix}
 use Rattle.unicode.specs.Places.{cont, countChars}
 use Rattle.unicode.specs.Rows.{one-is}
@@ -62,7 +63,20 @@ module _ (t : List ℕ) (from : ℕ) where
         prefix = omega (arith, p .forward, q .forward, p .prefix, q .prefix);
       }
 
--- The same where every byte is below 80, and so a character.
+-- Every byte of a stretch is below 80.
+abbrev pub Below : List ℕ → (from to : ℕ) → Type 0
+Below t from to = (i : ℕ) → from ≤ i → i < to → getD t i 0 < 0x80
+
+-- One byte more of a stretch that is tested byte by byte.
+pub below-tested : (t : List ℕ) (from i : ℕ) (all : Bool) → (all ≡ true → Below t from i) → all && ltb (getD t i 0) 0x80 ≡ true → Below t from (i + 1)
+below-tested t from i all p e k low high =
+    let both = and-true all (ltb (getD t i 0) 0x80) e in
+    by-lt k i (λ h. p (both .0) k low h) (λ h. let q : i ≡ k = omega arith in subst (λ (j : ℕ). getD t j 0 < 0x80) q (ltb-true (getD t i 0) 0x80 (both .1)))
+
+pub below-part : (t : List ℕ) (from to at end : ℕ) → from ≤ at → end ≤ to → Below t from to → Below t at end
+below-part t from to at end h l b i low high = b i (omega arith) (omega arith)
+
+-- The same as a stretch that is passed, where every byte is a character.
 pub record Plain (t : List ℕ) (from to : ℕ) : Type 0 where
   pub passed : Passed t from to
   pub count : countChars (drop from t) ≡ to - from + countChars (drop to t)
@@ -80,11 +94,15 @@ module _ (t : List ℕ) (from : ℕ) where
         count = omega (arith, p .passed .forward, p .count, count-more t i h no);
       }
 
-  -- One byte more of a stretch that is tested byte by byte.
-  pub plain-tested : (i : ℕ) (all : Bool) → i < length t → (all ≡ true → Plain t from i) → all && ltb (getD t i 0) 0x80 ≡ true → Plain t from (i + 1)
-  plain-tested i all h p e =
-      let both = and-true all (ltb (getD t i 0) 0x80) e in
-      plain-one i h (ltb-true (getD t i 0) 0x80 (both .1)) (p (both .0))
+  -- Each byte of a stretch, one after the other.
+  plain-some : (to k : ℕ) → Below t from to → from + k ≤ to → to ≤ length t → Plain t from (from + k)
+  plain-some to zero b h l = let e : from ≡ from + 0 = omega arith in subst (Plain t from) e (plain-none (omega arith))
+  plain-some to (suc k) b h l =
+      let e : from + k + 1 ≡ from + suc k = omega arith in
+      subst (Plain t from) e (plain-one (from + k) (omega arith) (b (from + k) (omega arith) (omega arith)) (plain-some to k b (omega arith) l))
+
+  pub plain-below : (to : ℕ) → from ≤ to → to ≤ length t → Below t from to → Plain t from to
+  plain-below to h l b = let e : from + (to - from) ≡ to = omega arith in subst (Plain t from) e (plain-some to (to - from) b (omega arith) l)
 
   pub plain-on : (i j : ℕ) → Plain t from i → Plain t i j → Plain t from j
   plain-on i j p q =

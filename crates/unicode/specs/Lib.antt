@@ -16,3 +16,4 @@ pub mod Boundaries
 pub mod Members
 pub mod Ascii
 pub mod Long
+pub mod Whole

@@ -3,13 +3,13 @@
 -- Assumes nothing.
 use mathlib.Core.Path.{_≡_, ap, _∙_}
 use mathlib.Core.Logic.{inl, inr}
-use mathlib.Core.Bool.{Bool, true, false, _&&_, _||_}
+use mathlib.Core.Bool.{Bool, true, false, _&&_, _||_, not}
 use mathlib.Core.List.{List, [], _∷_}
 use Prim.Native.Nat.{ℕ, _+_, _≤_, _<_}
 use native.Mathlib.Omega.{arith}
 use native.Mathlib.Numerals.{add-one}
-use borrow.Author.Tests.{le-ltb, lt-ltb, ltb-true, leb-true}
-use lib.Dec.{leb, ltb}
+use borrow.Author.Tests.{le-ltb, lt-ltb, ltb-true, leb-true, eqb-true, eqb-false, not-true}
+use lib.Dec.{leb, ltb, eqb}
 use lib.ListN.{length, getD, take, drop}
 use lib.Seq.{drop-cons}
 use Rattle.basis.specs.Choice.{pick, and-true, by-either}
@@ -22,13 +22,18 @@ use Rattle.unicode.specs.Rows.{Cont, Two, Three, two-is, three-is}
 use Rattle.unicode.specs.RoundTrip.{char-is}
 use Rattle.unicode.specs.declared.sequence.Decoded.the-variants.{Char}
 
--- A number from U+00C0 on that is neither white space nor the zero width space.
+-- A number above U+00A0 that is neither white space nor the soft hyphen nor the zero width space.
 pub record Black (c : ℕ) : Type 0 where
-  pub high : 0xC0 ≤ c
+  pub high : 0xA0 < c
+  pub hard : c ≡ 0x00AD → ⊥
   pub shown : c ≡ 0x200B → ⊥
   pub solid : isWhite c ≡ false
 
--- Three bytes that are such a letter, and such a letter of so many bytes at a position.
+-- Two and three bytes that are such a letter, and such a letter of so many bytes at a position.
+pub record Couple (a b : ℕ) : Type 0 where
+  pub two : Two a b
+  pub black : Black (value2 a b)
+
 pub record Triple (a b c : ℕ) : Type 0 where
   pub three : Three a b c
   pub black : Black (value3 a b c)
@@ -41,17 +46,40 @@ pub record Long (t : List ℕ) (i n : ℕ) : Type 0 where
 -- ---- stretches of numbers without white space
 
 module _ (c : ℕ) where
-  black-low : 0xC0 ≤ c → c < 0x1680 → Black c
-  black-low h l = record { high = h; shown = λ e. omega arith; solid = between-spaces c (omega arith) l }
+  black-low : 0xA0 < c → (c ≡ 0x00AD → ⊥) → c < 0x1680 → Black c
+  black-low h n l = record { high = h; hard = n; shown = λ e. omega arith; solid = between-spaces c h l }
 
   black-mark : 0x200B < c → c < 0x2028 → Black c
-  black-mark h l = record { high = omega arith; shown = λ e. omega arith; solid = between-breaks c (omega arith) l }
+  black-mark h l = record { high = omega arith; hard = λ e. omega arith; shown = λ e. omega arith; solid = between-breaks c (omega arith) l }
 
   black-sign : 0x205F < c → c < 0x3000 → Black c
-  black-sign h l = record { high = omega arith; shown = λ e. omega arith; solid = below-ideographs c h l }
+  black-sign h l = record { high = omega arith; hard = λ e. omega arith; shown = λ e. omega arith; solid = below-ideographs c h l }
 
   black-high : 0x3000 < c → Black c
-  black-high h = record { high = omega arith; shown = λ e. omega arith; solid = above-all c h }
+  black-high h = record { high = omega arith; hard = λ e. omega arith; shown = λ e. omega arith; solid = above-all c h }
+
+-- ---- two bytes
+
+-- The second one behind C2.
+abbrev pub latin : ℕ → Bool
+latin b = leb 0xA1 b && leb b 0xBF && not (eqb b 0xAD)
+
+module _ (a b : ℕ) where
+  pub latin-couple : a ≡ 0xC2 → latin b ≡ true → Couple a b
+  latin-couple e f =
+      let two = and-true (leb 0xA1 b && leb b 0xBF) (not (eqb b 0xAD)) f in
+      let one = and-true (leb 0xA1 b) (leb b 0xBF) (two .0) in
+      let lo = leb-true 0xA1 b (one .0) in
+      let hi = leb-true b 0xBF (one .1) in
+      let n = eqb-false b 0xAD (not-true (eqb b 0xAD) (two .1)) in
+      record {
+        two = record { lead = omega arith; second = omega arith };
+        black = black-low (value2 a b) (omega arith) (λ q. n (omega arith)) (omega arith);
+      }
+
+  pub high-couple : 0xC3 ≤ a → a < 0xE0 → Cont b → Couple a b
+  high-couple lo hi s =
+      record { two = record { lead = omega arith; second = s }; black = black-low (value2 a b) (omega arith) (λ q. omega arith) (omega arith) }
 
 -- ---- three bytes
 
@@ -113,6 +141,24 @@ module _ (a b c : ℕ) (e : wide a b c ≡ true) where
   pub wide-triple : Triple a b c
   wide-triple = let r = wide-range in high-triple a b c (omega arith) (omega arith) (omega arith) (omega arith) (omega arith) (inl (omega arith))
 
+-- Above U+3000 in its block.
+abbrev pub mark : ℕ → ℕ → ℕ → Bool
+mark a b c = eqb a 0xE3 && eqb b 0x80 && leb 0x81 c && leb c 0xBF
+
+pub ideographic-triple : (a b c : ℕ) → mark a b c ≡ true → Triple a b c
+ideographic-triple a b c e =
+    let p = eqb a 0xE3 in
+    let q = eqb b 0x80 in
+    let r = leb 0x81 c in
+    let three = and-true (p && q && r) (leb c 0xBF) e in
+    let two = and-true (p && q) r (three .0) in
+    let one = and-true p q (two .0) in
+    let x = eqb-true a 0xE3 (one .0) in
+    let y = eqb-true b 0x80 (one .1) in
+    let lo = leb-true 0x81 c (two .1) in
+    let hi = leb-true c 0xBF (three .1) in
+    high-triple a b c (omega arith) (omega arith) (omega arith) (omega arith) (omega arith) (inl (omega arith))
+
 -- ---- at a position
 
 module _ (t : List ℕ) (i : ℕ) where
@@ -136,15 +182,8 @@ module _ (t : List ℕ) (i : ℕ) where
       let l = x .lead in
       rw (two-bytes h, le-ltb a 0x80 (omega arith), le-ltb a 0xC0 (omega arith), lt-ltb a 0xE0 (omega arith)) (char-is (a ∷ b ∷ []) (two-is a b x))
 
-  pub long-two : i + 2 ≤ length t → 0xC3 ≤ getD t i 0 → getD t i 0 < 0xE0 → Cont (getD t (i + 1) 0) → Long t i 2
-  long-two h lo hi s =
-      let a = getD t i 0 in
-      let b = getD t (i + 1) 0 in
-      record {
-        char = value2 a b;
-        is = decode-two h (record { lead = omega arith; second = s });
-        black = black-low (value2 a b) (omega arith) (omega arith);
-      }
+  pub long-two : i + 2 ≤ length t → Couple (getD t i 0) (getD t (i + 1) 0) → Long t i 2
+  long-two h x = record { char = value2 (getD t i 0) (getD t (i + 1) 0); is = decode-two h (x .two); black = x .black }
 
   pub decode-three : i + 3 ≤ length t → Three (getD t i 0) (getD t (i + 1) 0) (getD t (i + 2) 0)
       → decodeAt t i ≡ Char (value3 (getD t i 0) (getD t (i + 1) 0) (getD t (i + 2) 0)) 3

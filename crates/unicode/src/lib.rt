@@ -3,3 +3,4 @@ pub mod long;
 pub mod sequence;
 pub mod text;
 pub mod white_space;
+mod whole;

@@ -2,8 +2,8 @@
 // Refusal 4, rule 2.
 ghost use mathlib.Core.Path.{_≡_};
 ghost use mathlib.Core.Bool.{true};
-ghost use Prim.Native.Nat.{_<_};
-ghost use Rattle.unicode.specs.Long.{wide, Triple, Long};
+ghost use Prim.Native.Nat.{_≤_, _<_};
+ghost use Rattle.unicode.specs.Long.{wide, mark, latin, Couple, Triple, Long};
 use crate::sequence::is_cont;
 
 // What most of what is written in Chinese and Japanese is made of, in the fewest tests.
@@ -24,6 +24,29 @@ pub fn wide_at(text: &[u8], at: usize) -> bool
         return false;
     }
     is_wide(text[at], text[at + 1], text[at + 2])
+}
+
+// Above U+3000 in its block: what ends and parts sentences there.
+fn is_mark(a: u8, b: u8, c: u8) -> bool
+    ensures { λ r. ⌜ r ≡ mark a b c ⌝ }
+{
+    (a == 0xE3) & (b == 0x80) & (0x81 <= c) & (c <= 0xBF)
+}
+
+// Do these, or one of the marks between them.
+pub fn broad_at(text: &[u8], at: usize) -> bool
+    ensures { λ r. ⌜ (r ≡ true → Long (now (text .entry)) at 3) ⌝ }
+{
+    if wide_at(text, at) {
+        return true;
+    }
+    if text.len() < 3 {
+        return false;
+    }
+    if text.len() - 3 < at {
+        return false;
+    }
+    is_mark(text[at], text[at + 1], text[at + 2])
 }
 
 // Behind the lead E2: U+2010 to U+2027, which are dashes, quotes and dots, and from U+2080 on signs of all kinds.
@@ -73,6 +96,24 @@ fn is_triple(a: u8, b: u8, c: u8) -> bool
     is_high(a, b, c)
 }
 
+fn is_latin(b: u8) -> bool
+    ensures { λ r. ⌜ r ≡ latin b ⌝ }
+{
+    (0xA1 <= b) & (b <= 0xBF) & (b != 0xAD)
+}
+
+// Behind the lead C2: U+00A1 to U+00BF but the soft hyphen. Behind a higher lead of two bytes: all.
+fn is_pair(a: u8, b: u8) -> bool
+    requires { ⌜ 0xC2 ≤ a ⌝ }
+    requires { ⌜ a < 0xE0 ⌝ }
+    ensures { λ r. ⌜ (r ≡ true → Couple a b) ⌝ }
+{
+    if a == 0xC2 {
+        return is_latin(b);
+    }
+    is_cont(b)
+}
+
 // How many bytes the letter has that stands at a position, these and others, where it is told so. 0: it is not told.
 pub fn long_len(text: &[u8], at: usize) -> usize
     ensures { λ r. ⌜ (0 < r → Long (now (text .entry)) at r) ⌝ }
@@ -81,7 +122,7 @@ pub fn long_len(text: &[u8], at: usize) -> usize
         return 0;
     }
     let a = text[at];
-    if a < 0xC3 {
+    if a < 0xC2 {
         return 0;
     }
     let left = text.len() - at;
@@ -90,7 +131,7 @@ pub fn long_len(text: &[u8], at: usize) -> usize
     }
     let b = text[at + 1];
     if a < 0xE0 {
-        if is_cont(b) {
+        if is_pair(a, b) {
             return 2;
         }
         return 0;

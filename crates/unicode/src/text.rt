@@ -5,17 +5,18 @@ ghost use mathlib.Core.Bool.{true};
 ghost use lib.ListN.{length};
 ghost use Rattle.unicode.specs.Decoding.{validPrefix};
 ghost use Rattle.unicode.specs.Places.{boundaryAt, countChars};
-ghost use Rattle.unicode.specs.Ascii.{Passed, Plain};
+ghost use Rattle.unicode.specs.Ascii.{Passed, Below, Plain};
 use crate::long::long_len;
 use crate::long::wide_at;
 use crate::sequence::Decoded;
 use crate::sequence::decode;
 use crate::sequence::is_cont;
+use crate::whole::all_told;
 
 // Is every byte of a stretch below 80, a character by itself. All are looked at, with no branch, so that it is done many bytes at a time.
 fn all_ascii(text: &[u8], from: usize, to: usize) -> bool
     requires { ⌜ (from ≤ to) × (to ≤ length (now text)) ⌝ }
-    ensures { λ r. ⌜ (r ≡ true → Plain (now (text .entry)) from to) ⌝ }
+    ensures { λ r. ⌜ (r ≡ true → Below (now (text .entry)) from to) ⌝ }
 {
     let mut all = true;
     let mut i = from;
@@ -44,6 +45,21 @@ fn skip_blocks(text: &[u8], from: usize, block: usize) -> usize
         at = next;
     }
     at
+}
+
+// Are all bytes from a position on below 80, by one look at the text's last bytes.
+fn ends_ascii(text: &[u8], from: usize) -> bool
+    requires { ⌜ from ≤ length (now text) ⌝ }
+    ensures { λ r. ⌜ (r ≡ true → Passed (now (text .entry)) from (length (now (text .entry)))) ⌝ }
+{
+    if text.len() < 32 {
+        return false;
+    }
+    let last = text.len() - 32;
+    if from < last {
+        return false;
+    }
+    all_ascii(text, last, last + 32)
 }
 
 // Bytes below 80 are skipped, to the first that is none of them.
@@ -104,11 +120,26 @@ fn skip_common(text: &[u8], from: usize) -> usize
     }
 }
 
+// Is all that follows a position UTF-8, as far as that is told many bytes at a time.
+fn ends_told(text: &[u8], from: usize) -> bool
+    requires { ⌜ from ≤ length (now text) ⌝ }
+    ensures { λ r. ⌜ (r ≡ true → Passed (now (text .entry)) from (length (now (text .entry)))) ⌝ }
+{
+    if ends_ascii(text, from) {
+        return true;
+    }
+    all_told(text, from)
+}
+
 // How many bytes the longest prefix has that is UTF-8.
 pub fn valid_prefix(text: &[u8]) -> usize
     ensures { λ r. ⌜ r ≡ validPrefix (now (text .entry)) ⌝ }
 {
-    let mut at = skip_common(text, 0);
+    let ascii = skip_blocks(text, 0, 32);
+    if ends_told(text, ascii) {
+        return text.len();
+    }
+    let mut at = skip_common(text, ascii);
     loop {
         match decode(text, at) {
             Decoded::Char { cp: _, len } => {

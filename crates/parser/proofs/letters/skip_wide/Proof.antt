@@ -19,7 +19,7 @@ abbrev μ-loop : tie.MeasureT-loop
 
 -- The letter that was told, and that its bytes lie in the text.
 told : (c : tie.Then1 Inv-loop μ-loop) → Long (c .before .before .before .before .args .text .now) (c .before .before .loop .end) 3
-told c = c .before .wide-at .ensures (c .if1 .taken)
+told c = c .before .broad-at .ensures (c .if1 .taken)
 
 room : (c : tie.Then1 Inv-loop μ-loop) → c .before .before .loop .end + 3 ≤ length (c .before .before .before .before .args .text .now)
 room c = let w = told c in decode-at-within _ _ (w .char) 3 (w .is) .1
@@ -27,8 +27,8 @@ room c = let w = told c in decode-at-within _ _ (w .char) 3 (w .is) .1
 loop-holds : tie.Need-loop-holds Inv-loop μ-loop
 loop-holds c = (goes-none _ _ (omega arith), omega arith, omega arith)
 
-wide-at-requires : tie.Need-wide-at-requires Inv-loop μ-loop
-wide-at-requires c κs = search needs
+broad-at-requires : tie.Need-broad-at-requires Inv-loop μ-loop
+broad-at-requires c κs = search needs
 
 add-end : tie.Need-add-end Inv-loop μ-loop
 add-end c = omega (arith, room c)
@@ -47,4 +47,4 @@ returns c = c .before .before .loop .inv .0
 
 pub skip-wide-spec : {M : Type 1} → statement M
 skip-wide-spec =
-    tie.close (tie.spec Inv-loop μ-loop loop-holds wide-at-requires add-end add-chars loop-less loop-again returns)
+    tie.close (tie.spec Inv-loop μ-loop loop-holds broad-at-requires add-end add-chars loop-less loop-again returns)

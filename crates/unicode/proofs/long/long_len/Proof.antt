@@ -1,9 +1,7 @@
 -- `unicode::long::long_len` meets its contract (refusal 4, rule 2).
 -- Assumes nothing.
-use mathlib.Core.Path.{_≡_, sym, _∙_}
 use native.Mathlib.Omega.{arith}
 use borrow.Author.Needs.{needs}
-use Rattle.basis.specs.Order.{within-true}
 use Rattle.unicode.specs.Long.{long-two, long-three}
 use Rattle.unicode.proofs.long.long_len.Statement.{statement}
 use Rattle.unicode.proofs.long.long_len.Tie as tie
@@ -29,12 +27,12 @@ add-b c = search needs
 shared-slice-read-b : tie.Need-shared-slice-read-b
 shared-slice-read-b c = search needs
 
-is-cont-requires : tie.Need-is-cont-requires
-is-cont-requires c κs = search needs
+is-pair-requires : tie.Need-is-pair-requires
+is-pair-requires c κs = (omega arith, omega arith)
 
 -- Two bytes.
 returns-4 : tie.Need-returns-4
-returns-4 c = λ _. long-two _ _ (omega arith) (omega arith) (omega arith) (within-true 0x80 0xBF _ (sym (c .before .is-cont .ensures) ∙ c .if5 .taken))
+returns-4 c = λ _. long-two _ _ (omega arith) (c .before .is-pair .ensures (c .if5 .taken))
 
 returns-5 : tie.Need-returns-5
 returns-5 c = λ h. absurd (omega arith)
@@ -69,7 +67,7 @@ long-len-spec =
     returns-3
     add-b
     shared-slice-read-b
-    is-cont-requires
+    is-pair-requires
     returns-4
     returns-5
     returns-6

@@ -4,19 +4,19 @@ use Prim.Native.Nat.{_-_, _≤_}
 use mathlib.Core.Path.{_≡_}
 use mathlib.Core.Bool.{true}
 use native.Mathlib.Omega.{arith}
+use Rattle.unicode.specs.Ascii.{Below, below-tested}
 use borrow.Author.Needs.{needs}
-use Rattle.unicode.specs.Ascii.{Plain, plain-none, plain-tested}
 use Rattle.unicode.proofs.text.all_ascii.Statement.{statement}
 use Rattle.unicode.proofs.text.all_ascii.Tie as tie
 
 abbrev Inv-loop : tie.InvT-loop
-Inv-loop text from to all₀ i₀ all i = (all ≡ true → Plain text from i) × (i ≤ to)
+Inv-loop text from to all₀ i₀ all i = (all ≡ true → Below text from i) × (i ≤ to)
 
 abbrev μ-loop : tie.MeasureT-loop
 μ-loop text from to all₀ i₀ all i = to - i
 
 loop-holds : tie.Need-loop-holds Inv-loop μ-loop
-loop-holds c = (λ e. plain-none _ _ (omega arith), search needs)
+loop-holds c = (λ e i low high. absurd (omega arith), search needs)
 
 shared-slice-read-all : tie.Need-shared-slice-read-all Inv-loop μ-loop
 shared-slice-read-all c = search needs
@@ -31,7 +31,7 @@ loop-again : tie.Need-loop-again Inv-loop μ-loop
 loop-again c =
     let l = c .before .before in
     let a = l .before .args in
-    (plain-tested (a .text .now) (a .from) (l .loop .i) (l .loop .all) (omega arith) (l .loop .inv .0), search needs)
+    (below-tested (a .text .now) (a .from) (l .loop .i) (l .loop .all) (l .loop .inv .0), search needs)
 
 returns : tie.Need-returns Inv-loop μ-loop
 returns c =
@@ -40,6 +40,4 @@ returns c =
     rw q (l .loop .inv .0)
 
 pub all-ascii-spec : {M : Type 1} → statement M
-all-ascii-spec =
-    tie.close
-    (tie.spec Inv-loop μ-loop loop-holds shared-slice-read-all add-i loop-less loop-again returns)
+all-ascii-spec = tie.close (tie.spec Inv-loop μ-loop loop-holds shared-slice-read-all add-i loop-less loop-again returns)

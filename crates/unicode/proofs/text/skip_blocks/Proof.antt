@@ -5,7 +5,7 @@ use native.Mathlib.Omega.{arith}
 use lib.ListN.{length}
 use borrow.Author.Needs.{needs}
 use borrow.Author.Tests.{not-false}
-use Rattle.unicode.specs.Ascii.{Plain, plain-none, plain-on}
+use Rattle.unicode.specs.Ascii.{Plain, plain-none, plain-below, plain-on}
 use Rattle.unicode.proofs.text.skip_blocks.Statement.{statement}
 use Rattle.unicode.proofs.text.skip_blocks.Tie as tie
 
@@ -40,7 +40,7 @@ loop-again : tie.Need-loop-again Inv-loop μ-loop
 loop-again c =
     let s = c .before in
     let l = s .before .before in
-    (plain-on _ _ _ _ (l .loop .inv .0) (s .all-ascii .ensures (not-false _ (c .if2 .left))), omega arith)
+    (plain-on _ _ _ _ (l .loop .inv .0) (plain-below _ _ _ (omega arith) (omega arith) (s .all-ascii .ensures (not-false _ (c .if2 .left)))), omega arith)
 
 returns-3 : tie.Need-returns-3 Inv-loop μ-loop
 returns-3 c = c .before .loop .inv .0

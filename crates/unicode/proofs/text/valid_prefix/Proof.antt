@@ -5,26 +5,45 @@ use mathlib.Core.Path.{_≡_, sym, ap, _∙_}
 use mathlib.Core.List.{List}
 use Prim.Native.Nat.{ℕ, _+_, _-_, _≤_}
 use native.Mathlib.Omega.{arith}
-use lib.ListN.{length, drop}
+use lib.ListN.{length, drop, length-drop}
 use borrow.Author.Needs.{needs}
 use Rattle.unicode.specs.Decoding.{decodeAt, validPrefix}
 use Rattle.unicode.specs.Walk.{isChar, decode-at-within}
-use Rattle.unicode.specs.Prefix.{prefix-at-more, prefix-at-none}
+use Rattle.unicode.specs.Prefix.{prefix-at-more, prefix-at-none, prefix-within}
+use Rattle.unicode.specs.Ascii.{pass-on}
 use Rattle.unicode.specs.declared.sequence.Decoded.the-variants.{Char}
 use Rattle.unicode.proofs.text.valid_prefix.Statement.{statement}
 use Rattle.unicode.proofs.text.valid_prefix.Tie as tie
 
 abbrev Inv-loop : tie.InvT-loop
-Inv-loop text at₀ at = (validPrefix text ≡ at + validPrefix (drop at text)) × (at ≤ length text)
+Inv-loop text ascii at₀ at = (validPrefix text ≡ at + validPrefix (drop at text)) × (at ≤ length text)
 
 abbrev μ-loop : tie.MeasureT-loop
-μ-loop text at₀ at = length text - at
+μ-loop text ascii at₀ at = length text - at
+
+skip-blocks-requires : tie.Need-skip-blocks-requires Inv-loop μ-loop
+skip-blocks-requires c κs = (omega arith, omega arith)
+
+ends-told-requires : tie.Need-ends-told-requires Inv-loop μ-loop
+ends-told-requires c κs = c .skip-blocks .ensures .passed .inside
+
+-- All is told.
+returns : tie.Need-returns Inv-loop μ-loop
+returns c =
+    let e = c .before in
+    let f = e .before .skip-blocks .ensures .passed in
+    let p = pass-on _ _ _ _ f (e .ends-told .ensures (c .if1 .taken)) in
+    let t = e .before .before .before .args .text .now in
+    omega (arith, p .prefix, prefix-within (drop (length t) t), length-drop (length t) t)
 
 skip-common-requires : tie.Need-skip-common-requires Inv-loop μ-loop
-skip-common-requires c κs = search needs
+skip-common-requires c κs = c .before .before .skip-blocks .ensures .passed .inside
 
 loop-holds : tie.Need-loop-holds Inv-loop μ-loop
-loop-holds c = let p = c .skip-common .ensures in (omega (arith, p .prefix), p .inside)
+loop-holds c =
+    let f = c .before .before .before .skip-blocks .ensures .passed in
+    let p = pass-on _ _ _ _ f (c .skip-common .ensures) in
+    (omega (arith, p .prefix), p .inside)
 
 decode-requires : tie.Need-decode-requires Inv-loop μ-loop
 decode-requires c κs = search needs
@@ -37,7 +56,7 @@ abbrev Read : Type 0
 Read = tie.After-known-told Inv-loop μ-loop
 
 abbrev S : Read → List ℕ
-S c = c .before .before .before .before .before .before .before .args .text .now
+S c = c .before .before .before .before .before .before .before .before .before .before .args .text .now
 
 abbrev I : Read → ℕ
 I c = c .before .before .before .before .loop .at
@@ -72,18 +91,18 @@ loop-again c =
 enum-told : tie.Need-enum-told Inv-loop μ-loop
 enum-told c = search needs
 
-returns : tie.Need-returns Inv-loop μ-loop
-returns c =
+returns-2 : tie.Need-returns-2 Inv-loop μ-loop
+returns-2 c =
     let d = c .before .before in
-    omega (arith, prefix-at-none (d .before .before .before .before .args .text .now) (d .before .loop .at) (ap isChar (sym (d .decode .ensures) ∙ c .enum-told .given .1)))
+    omega (arith, prefix-at-none (d .before .before .before .before .before .before .before .args .text .now) (d .before .loop .at) (ap isChar (sym (d .decode .ensures) ∙ c .enum-told .given .1)))
 
 enum-told-2 : tie.Need-enum-told-2 Inv-loop μ-loop
 enum-told-2 c = search needs
 
-returns-2 : tie.Need-returns-2 Inv-loop μ-loop
-returns-2 c =
+returns-3 : tie.Need-returns-3 Inv-loop μ-loop
+returns-3 c =
     let d = c .before .before in
-    omega (arith, prefix-at-none (d .before .before .before .before .args .text .now) (d .before .loop .at) (ap isChar (sym (d .decode .ensures) ∙ c .enum-told2 .given .1)))
+    omega (arith, prefix-at-none (d .before .before .before .before .before .before .before .args .text .now) (d .before .loop .at) (ap isChar (sym (d .decode .ensures) ∙ c .enum-told2 .given .1)))
 
 pub valid-prefix-spec : {M : Type 1} → statement M
 valid-prefix-spec =
@@ -91,6 +110,9 @@ valid-prefix-spec =
     (tie.spec
     Inv-loop
     μ-loop
+    skip-blocks-requires
+    ends-told-requires
+    returns
     skip-common-requires
     loop-holds
     decode-requires
@@ -101,6 +123,6 @@ valid-prefix-spec =
     loop-less
     loop-again
     enum-told
-    returns
+    returns-2
     enum-told-2
-    returns-2)
+    returns-3)
