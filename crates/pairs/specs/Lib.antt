@@ -10,3 +10,4 @@ pub mod StretchLaws
 pub mod StretchedWords
 pub mod PlainLineLaws
 pub mod NextPlainLaws
+pub mod Told

@@ -2,5 +2,6 @@
 pub mod pair;
 pub mod plain_line;
 pub mod stretch;
+pub mod told;
 pub mod within;
 pub mod word_end;

@@ -109,14 +109,14 @@ pub fn pair_at(text: &[u8], at: usize) -> Pair
     }
 }
 
-// The same, where a plain word is looked for first.
-pub fn next_pair(text: &[u8], at: usize) -> Pair
+// The same of a plain word, in the fewest tests. No start: there is none.
+pub fn plain_pair(text: &[u8], at: usize) -> Pair
     requires { ⌜ length (now text) ≤ 65535 ⌝ }
     ensures { λ r. ⌜ (0 < r .from .0 → PairAt (now (text .entry)) at (r .from .0) (r .looked .0) (wordOf (r .word))) ⌝ }
 {
     let end = stride_end(text, at);
     if end == 0 {
-        return pair_at(text, at);
+        return no_pair();
     }
     let from = at + 1;
     let n = (end - from) as u32;

@@ -9,6 +9,7 @@ use parser::lexeme::Lexeme;
 use parser::scan::Scanned;
 use parser::scan::none_scanned;
 use parser::scan::scanned_at;
+use unicode::long::long_len;
 ghost use Prim.Native.Nat.{_+_, _-_, _≤_, _<_, min};
 ghost use mathlib.Core.Path.{_≡_};
 ghost use mathlib.Core.Bool.{true};
@@ -71,22 +72,27 @@ fn skip_upto(text: &[u8], from: usize, most: u32) -> Scanned
     let mut end = from;
     let mut chars: u32 = 0;
     let mut glues: u32 = 0;
-    while chars < most {
-        let letter = first_len(text, end);
-        if letter != 0 {
-            end += letter;
-            chars += 1;
-        } else {
-            let glue = glue_len(text, end);
-            if glue == 0 {
-                return scanned_at(end, chars, glues, 1);
-            }
-            end += glue;
-            chars += 1;
-            glues += 1;
+    loop {
+        let limit = limit_at(text, end, most - chars);
+        let plain = skip_plain(text, end, limit);
+        chars += (plain - end) as u32;
+        if chars == most {
+            return scanned_at(plain, chars, glues, 1);
         }
+        let letter = long_len(text, plain);
+        if letter != 0 {
+            end = plain + letter;
+            chars += 1;
+            continue;
+        }
+        let glue = glue_len(text, plain);
+        if glue == 0 {
+            return scanned_at(plain, chars, glues, 1);
+        }
+        end = plain + glue;
+        chars += 1;
+        glues += 1;
     }
-    scanned_at(end, chars, glues, 1)
 }
 
 // How many bytes the character has that ends a word at a position, where it is told so. The text's end is as one byte. 0: it is

@@ -17,17 +17,12 @@ use Rattle.parser.specs.declared.scan.Scanned.{Scanned}
 use Rattle.steps.specs.Unrolled.{nothingResumed}
 use Rattle.placing.specs.Laying.{LineReady}
 use Rattle.strides.specs.Strides.{waitingAt}
-use Rattle.placing.specs.Quick.{Counts, countedAt, CountedWords}
+use Rattle.placing.specs.Quick.{Counting, countedAt, CountedWords}
 use Rattle.strides.specs.declared.going.Waiting.{Waiting}
 use Rattle.placing.specs.declared.quick.Counted.{Counted}
 use Rattle.steps.specs.WordLaws.{word-at}
 use Rattle.strides.specs.OnwardLaws.{read-pending}
 use Rattle.placing.proofs.CountLaws.{counts-first, counts-more}
-
--- Words that are counted while no more than so many characters fit.
-pub record Counting (t : List ℕ) (at most to columns spaces : ℕ) : Type 0 where
-  pub counts : (s : Settings) → LineReady s t at nothingResumed → most ≡ s .width .0 / s .glyph .0 → Counts s t at to columns spaces
-  pub fits : columns ≤ most
 
 pub most-within : (width glyph most columns : ℕ) → most ≡ width / glyph → columns ≤ most → columns * glyph ≤ width
 most-within width glyph most columns is h =

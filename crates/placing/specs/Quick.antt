@@ -3,7 +3,7 @@
 use mathlib.Core.Path.{_≡_}
 use mathlib.Core.Bool.{false}
 use mathlib.Core.List.{List}
-use Prim.Native.Nat.{ℕ, _+_, _*_, _≤_}
+use Prim.Native.Nat.{ℕ, _+_, _*_, _/_, _≤_}
 use Rattle.meaning.specs.Alignment.{plainSpaces}
 use Rattle.meaning.specs.Line.{unmeasured, startPlace}
 use Rattle.meaning.specs.declared.settings.Settings.{Settings}
@@ -14,7 +14,7 @@ use Rattle.laws.specs.Measuring.{printedAt}
 use Rattle.moves.specs.Fine.{FineSpaces}
 use Rattle.steps.specs.Unrolled.{nothingResumed}
 use Rattle.placing.specs.Taken.{Taken}
-use Rattle.placing.specs.Laying.{passedFrom, plainly, placedBy}
+use Rattle.placing.specs.Laying.{LineReady, passedFrom, plainly, placedBy}
 use Rattle.pairs.specs.PlainWords.{Found}
 use Rattle.strides.specs.Strides.{Onward, Waits}
 use Rattle.steps.specs.declared.step.Ended.{Ended}
@@ -58,6 +58,11 @@ pub record Counts (s : Settings) (t : List ℕ) (at to columns spaces : ℕ) : T
   pub taken : Taken t at to columns
   pub plain : Onward s (startPlace s 0 (plainSpaces s)) t at nothingResumed unmeasured (plainPlace s (columns * s .glyph .0)) to (printedAt (columns * s .glyph .0) spaces)
   pub placed : (p : Placed) → Fair s p letters gaps → Stood s p t at letters gaps to
+
+-- Words that are counted while no more than so many characters fit.
+pub record Counting (t : List ℕ) (at most to columns spaces : ℕ) : Type 0 where
+  pub counts : (s : Settings) → LineReady s t at nothingResumed → most ≡ s .width .0 / s .glyph .0 → Counts s t at to columns spaces
+  pub fits : columns ≤ most
 
 unfoldable pub countedAt : (end columns spaces : ℕ) → Waiting → Counted
 countedAt end columns spaces waits = record { end = record { 0 = end }; columns = record { 0 = columns }; spaces = record { 0 = spaces }; waits = waits }

@@ -1,5 +1,6 @@
 // A line of words with one space between any two, counted in characters: it is drawn as it was measured (rule 8, rule 10).
 use crate::alignment::plain_spaces;
+use crate::counting::count_on;
 use meaning::counts::Chars;
 use meaning::counts::Offset;
 use meaning::counts::Pixels;
@@ -8,7 +9,7 @@ use meaning::settings::Settings;
 use meaning::tokens::TokenKind;
 use moves::measure::printed_at;
 use moves::place::start_place;
-use pairs::pair::next_pair;
+use pairs::pair::plain_pair;
 use pairs::within::first_within;
 use pairs::within::kept_within;
 use parser::ascii::feed_at;
@@ -49,7 +50,7 @@ pub enum Quick {
     Line(Ended, Chars),
 }
 
-fn counted_at(end: u32, columns: u32, spaces: u32, waits: Waiting) -> Counted
+pub fn counted_at(end: u32, columns: u32, spaces: u32, waits: Waiting) -> Counted
     ensures { λ r. ⌜ r ≡ countedAt end columns spaces waits ⌝ }
 {
     Counted {
@@ -77,7 +78,7 @@ fn first_known(text: &[u8], at: usize, most: u32, known: Known) -> Scanned
     first_within(text, at, most)
 }
 
-// The words of a line as far as they fit.
+// The words of a line as far as they fit: plain ones first, and the others from the first that is none of these on.
 fn count_words(text: &[u8], s: Settings, at: usize, known: Known) -> Counted
     requires { ⌜ LineReady s (now text) at nothingResumed × KnownFits (now text) known ⌝ }
     ensures { λ r. ⌜ (0 < r .columns .0 → CountedWords s (now (text .entry)) at r) ⌝ }
@@ -91,10 +92,10 @@ fn count_words(text: &[u8], s: Settings, at: usize, known: Known) -> Counted
         return counted_at(end, 0, spaces, nothing_waits());
     }
     loop {
-        let pair = next_pair(text, end as usize);
+        let pair = plain_pair(text, end as usize);
         let next = pair.from;
         if next.0 == 0 {
-            return counted_at(end, columns, spaces, nothing_waits());
+            return count_on(text, s, at, most, end, columns, spaces);
         }
         let n = pair.word.chars.0;
         if most - columns <= n {

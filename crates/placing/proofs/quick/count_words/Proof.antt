@@ -8,16 +8,16 @@ use lib.ListN.{length}
 use borrow.Author.Needs.{needs}
 use Rattle.parser.specs.Scanning.{wordOf}
 use Rattle.pairs.specs.Pairs.{PairAt}
-use Rattle.placing.specs.Quick.{Counts}
-use Rattle.placing.proofs.CountingLaws.{Counting, counting-first, pair-within, counting-more, counted-none, counting-ends, counting-waits}
+use Rattle.placing.specs.Quick.{Counts, Counting}
+use Rattle.placing.proofs.CountingLaws.{counting-first, pair-within, counting-more, counted-none, counting-waits}
 use Rattle.placing.proofs.quick.count_words.Statement.{statement}
 use Rattle.placing.proofs.quick.count_words.Tie as tie
 
 abbrev Inv-loop : tie.InvT-loop
-Inv-loop text at most end₀ columns₀ spaces₀ end columns spaces = Counting text at most end columns spaces
+Inv-loop text s at most end₀ columns₀ spaces₀ end columns spaces = Counting text at most end columns spaces
 
 abbrev μ-loop : tie.MeasureT-loop
-μ-loop text at most end₀ columns₀ spaces₀ end columns spaces = length text - end
+μ-loop text s at most end₀ columns₀ spaces₀ end columns spaces = length text - end
 
 abbrev begin : tie.At-loop Inv-loop μ-loop → tie.Start Inv-loop μ-loop
 begin c = c .before .before .before .before .before
@@ -36,9 +36,9 @@ few c =
 -- The pair that was found.
 found : (c : tie.Else2 Inv-loop μ-loop) →
     let n = c .before .before .before in
-    let r = n .next-pair .result in
+    let r = n .plain-pair .result in
     PairAt (begin (n .before) .args .text .now) (n .before .loop .end) (r .from .0) (r .looked .0) (wordOf (r .word))
-found c = c .before .before .before .next-pair .ensures (omega (arith, c .if2 .left))
+found c = c .before .before .before .plain-pair .ensures (omega (arith, c .if2 .left))
 
 div-most : tie.Need-div-most Inv-loop μ-loop
 div-most c = search needs
@@ -61,39 +61,36 @@ returns c = counted-none _ _ _ _ (c .counted-at .ensures)
 loop-holds : tie.Need-loop-holds Inv-loop μ-loop
 loop-holds c = counting-first _ (c .before .first-known .ensures (omega (arith, c .if1 .left)))
 
-cast-next-pair : tie.Need-cast-next-pair Inv-loop μ-loop
-cast-next-pair c =
+cast-plain-pair : tie.Need-cast-plain-pair Inv-loop μ-loop
+cast-plain-pair c =
     let r = so-far c .plain .ready in
     record { fits = omega (arith, r .inside, begin c .pre .0 .short) }
 
-next-pair-requires : tie.Need-next-pair-requires Inv-loop μ-loop
-next-pair-requires c κs = begin c .pre .0 .short
+plain-pair-requires : tie.Need-plain-pair-requires Inv-loop μ-loop
+plain-pair-requires c κs = begin c .pre .0 .short
 
-nothing-waits-requires-2 : tie.Need-nothing-waits-requires-2 Inv-loop μ-loop
-nothing-waits-requires-2 c κs = search needs
-
-counted-at-requires-2 : tie.Need-counted-at-requires-2 Inv-loop μ-loop
-counted-at-requires-2 c κs = search needs
+-- The rest of the line.
+count-on-requires : tie.Need-count-on-requires Inv-loop μ-loop
+count-on-requires c κs =
+    let l = c .before .before .before .before in
+    (begin l .pre .0, refl, l .loop .inv)
 
 returns-2 : tie.Need-returns-2 Inv-loop μ-loop
-returns-2 c =
-    let w = c .before in
-    let l = w .before .before .before .before .before in
-    λ _. counting-ends (begin l .pre .0) refl (l .loop .inv) _ _ (w .nothing-waits2 .ensures) (c .counted-at2 .ensures)
+returns-2 c = λ _. c .count-on .ensures
 
 sub-if3 : tie.Need-sub-if3 Inv-loop μ-loop
 sub-if3 c = c .before .before .before .before .loop .inv .fits
 
-counted-at-requires-3 : tie.Need-counted-at-requires-3 Inv-loop μ-loop
-counted-at-requires-3 c κs = search needs
+counted-at-requires-2 : tie.Need-counted-at-requires-2 Inv-loop μ-loop
+counted-at-requires-2 c κs = search needs
 
 returns-3 : tie.Need-returns-3 Inv-loop μ-loop
 returns-3 c =
     let i = c .before .before .before in
     let e = i .before in
     let l = e .before .before .before .before in
-    let w = e .before .before .before .next-pair .result .word in
-    λ _. counting-waits (begin l .pre .0) refl (l .loop .inv) _ _ w (found e) (omega (arith, i .if3 .taken)) _ (c .counted-at3 .ensures)
+    let w = e .before .before .before .plain-pair .result .word in
+    λ _. counting-waits (begin l .pre .0) refl (l .loop .inv) _ _ w (found e) (omega (arith, i .if3 .taken)) _ (c .counted-at2 .ensures)
 
 add-columns : tie.Need-add-columns Inv-loop μ-loop
 add-columns c =
@@ -125,7 +122,7 @@ loop-again : tie.Need-loop-again Inv-loop μ-loop
 loop-again c =
     let e = c .before in
     let n = e .before .before .before in
-    counting-more (n .next-pair .result .word) (found e) (n .before .loop .inv) (omega (arith, c .if3 .left))
+    counting-more (n .plain-pair .result .word) (found e) (n .before .loop .inv) (omega (arith, c .if3 .left))
 
 pub count-words-spec : {M : Type 1} → statement M
 count-words-spec =
@@ -139,13 +136,12 @@ count-words-spec =
     counted-at-requires
     returns
     loop-holds
-    cast-next-pair
-    next-pair-requires
-    nothing-waits-requires-2
-    counted-at-requires-2
+    cast-plain-pair
+    plain-pair-requires
+    count-on-requires
     returns-2
     sub-if3
-    counted-at-requires-3
+    counted-at-requires-2
     returns-3
     add-columns
     add-columns-2
