@@ -47,6 +47,14 @@ fn skip_blocks(text: &[u8], from: usize, block: usize) -> usize
     at
 }
 
+// Large blocks of bytes below 80 at a text's front are skipped.
+fn skip_front(text: &[u8]) -> usize
+    ensures { λ r. ⌜ Plain (now (text .entry)) 0 r ⌝ }
+{
+    let large = skip_blocks(text, 0, 64);
+    skip_blocks(text, large, 32)
+}
+
 // Are all bytes from a position on below 80, by one look at the text's last bytes.
 fn ends_ascii(text: &[u8], from: usize) -> bool
     requires { ⌜ from ≤ length (now text) ⌝ }
@@ -135,7 +143,7 @@ fn ends_told(text: &[u8], from: usize) -> bool
 pub fn valid_prefix(text: &[u8]) -> usize
     ensures { λ r. ⌜ r ≡ validPrefix (now (text .entry)) ⌝ }
 {
-    let ascii = skip_blocks(text, 0, 32);
+    let ascii = skip_front(text);
     if ends_told(text, ascii) {
         return text.len();
     }

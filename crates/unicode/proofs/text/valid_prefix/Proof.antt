@@ -21,27 +21,27 @@ Inv-loop text ascii at₀ at = (validPrefix text ≡ at + validPrefix (drop at t
 abbrev μ-loop : tie.MeasureT-loop
 μ-loop text ascii at₀ at = length text - at
 
-skip-blocks-requires : tie.Need-skip-blocks-requires Inv-loop μ-loop
-skip-blocks-requires c κs = (omega arith, omega arith)
+skip-front-requires : tie.Need-skip-front-requires Inv-loop μ-loop
+skip-front-requires c κs = search needs
 
 ends-told-requires : tie.Need-ends-told-requires Inv-loop μ-loop
-ends-told-requires c κs = c .skip-blocks .ensures .passed .inside
+ends-told-requires c κs = c .skip-front .ensures .passed .inside
 
 -- All is told.
 returns : tie.Need-returns Inv-loop μ-loop
 returns c =
     let e = c .before in
-    let f = e .before .skip-blocks .ensures .passed in
+    let f = e .before .skip-front .ensures .passed in
     let p = pass-on _ _ _ _ f (e .ends-told .ensures (c .if1 .taken)) in
     let t = e .before .before .before .args .text .now in
     omega (arith, p .prefix, prefix-within (drop (length t) t), length-drop (length t) t)
 
 skip-common-requires : tie.Need-skip-common-requires Inv-loop μ-loop
-skip-common-requires c κs = c .before .before .skip-blocks .ensures .passed .inside
+skip-common-requires c κs = c .before .before .skip-front .ensures .passed .inside
 
 loop-holds : tie.Need-loop-holds Inv-loop μ-loop
 loop-holds c =
-    let f = c .before .before .before .skip-blocks .ensures .passed in
+    let f = c .before .before .before .skip-front .ensures .passed in
     let p = pass-on _ _ _ _ f (c .skip-common .ensures) in
     (omega (arith, p .prefix), p .inside)
 
@@ -110,7 +110,7 @@ valid-prefix-spec =
     (tie.spec
     Inv-loop
     μ-loop
-    skip-blocks-requires
+    skip-front-requires
     ends-told-requires
     returns
     skip-common-requires
