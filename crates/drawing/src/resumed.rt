@@ -20,6 +20,9 @@ pub fn is_cut_rest(s: Settings, p: Place, at: usize, rest: Resumed) -> bool
     requires { ⌜ FinePlace p × (rest .count .0 ≤ 65535) × (rest .chars .0 ≤ 65535) × (at ≤ 65535) ⌝ }
     ensures { λ r. ⌜ (r ≡ true → CutRest s p at rest) ⌝ }
 {
+    if rest.chars.0 == 0 {
+        return false;
+    }
     let cursor = p.cursor;
     if rest.count.0 * p.spaces.width.0 <= room(cursor) {
         return false;
