@@ -1,6 +1,5 @@
 // The events of a line, drawn into a lent buffer (rule 13).
 mod inked;
-mod marks;
 pub mod pass;
 pub mod plain;
 mod resumed;

@@ -3,7 +3,6 @@
 // Rule 8, rule 13.
 use crate::inked::Inked;
 use crate::inked::inked_at;
-use crate::marks::draw_marks;
 use crate::taken::draw_taken;
 use ink::pen::Pen;
 use ink::pen::put_one;
@@ -102,11 +101,7 @@ fn draw_words(text: &[u8], s: Settings, p: Place, at: usize, pen: Pen, events: &
         let pair = pair_at(text, to);
         match next_pair(text, s, there, to, pair) {
             Next::Nothing => {
-                let on = draw_marks(text, s, there, to, before, events);
-                if on.at == to {
-                    return on;
-                }
-                g = on;
+                return far;
             }
             Next::TooWide(waits) => {
                 return Inked {

@@ -1,6 +1,5 @@
-// Soft hyphens that do not show, each with the word behind it, and zero width spaces, in a line that is not empty: decided once for
-// measuring and for drawing. It stands for rule 7 and rule 8 of their tokens (`MarkLaws.joined-onward`, `MarkLaws.zeros-onward`),
-// and saves their steps and looks ahead.
+// Soft hyphens that do not show, each with the word behind it, and zero width spaces, in a line that is not empty. It stands for rule 7
+// and rule 8 of their tokens (`MarkLaws.joined-onward`, `MarkLaws.zeros-onward`), and saves their steps and looks ahead.
 use meaning::cursor::Place;
 use meaning::settings::Settings;
 use moves::cursor::room;

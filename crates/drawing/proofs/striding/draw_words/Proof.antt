@@ -104,34 +104,11 @@ next-pair-requires c κs =
 enum-told : tie.Need-enum-told Inv-loop μ-loop
 enum-told c = search needs
 
-draw-marks-requires : tie.Need-draw-marks-requires Inv-loop μ-loop
-draw-marks-requires c κs = let o = far (c .before .before .before) .draw-strides .ensures in (o .0 .onward .ready, o .1)
-
--- From after the marks back to the strides.
-abbrev strode : tie.After-draw-marks Inv-loop μ-loop → Strides
-strode c = far (c .before .before .before .before)
-
 same-length-3 : tie.Need-same-length-3 Inv-loop μ-loop
-same-length-3 c = let k = c .before .before .before .before in k .draw-marks .kept .1 .1 .1 .1 .1 .0 ∙ kept (strode k)
+same-length-3 c = kept (far (c .before .before))
 
 returns-3 : tie.Need-returns-3 Inv-loop μ-loop
-returns-3 c = let k = c .before .before .before .before in strode-on (whole (strode k) .onward) (k .draw-marks .ensures .0)
-
-loop-less : tie.Need-loop-less Inv-loop μ-loop
-loop-less c =
-    let k = c .before .before .before .before in
-    let o = k .draw-marks .ensures .0 .onward in
-    omega (arith, o .forward, o .ready .pass .inside, strode k .draw-strides .ensures .0 .onward .forward, c .if3 .left)
-
-loop-again : tie.Need-loop-again Inv-loop μ-loop
-loop-again c =
-    let k = c .before .before .before .before in
-    let o = strode k in
-    let i = around o .loop .inv in (
-      drew-on (i .0) (drew-on (o .draw-strides .ensures .0 .onward) (k .draw-marks .ensures .0 .onward)),
-      k .draw-marks .ensures .1,
-      k .draw-marks .kept .1 .1 .1 .1 .1 .0 ∙ o .draw-strides .kept .1 .1 .1 .1 .1 .0 ∙ i .2,
-    )
+returns-3 c = whole (far (c .before .before))
 
 enum-known-waits : tie.Need-enum-known-waits Inv-loop μ-loop
 enum-known-waits c = search needs
@@ -163,15 +140,15 @@ drew c = c .before .before .before .before
 abbrev found : tie.After-draw-taken Inv-loop μ-loop → tie.After-t Inv-loop μ-loop
 found c = c .before .before .before .before
 
-loop-less-2 : tie.Need-loop-less-2 Inv-loop μ-loop
-loop-less-2 c =
+loop-less : tie.Need-loop-less Inv-loop μ-loop
+loop-less c =
     let d = drew c in
     let t = found d in
     let o = far (t .before .before) .draw-strides .ensures .0 .onward in
     omega (arith, strode-at _ _ _ (c .inked-at .ensures), taken-numbers (taking t) (o .ready .pass), d .draw-taken .ensures .ready .pass .inside, o .forward)
 
-loop-again-2 : tie.Need-loop-again-2 Inv-loop μ-loop
-loop-again-2 c =
+loop-again : tie.Need-loop-again Inv-loop μ-loop
+loop-again c =
     let d = drew c in
     let t = found d in
     let o = far (t .before .before) in
@@ -197,11 +174,8 @@ draw-words-spec =
     pair-at-requires
     next-pair-requires
     enum-told
-    draw-marks-requires
     same-length-3
     returns-3
-    loop-less
-    loop-again
     enum-known-waits
     same-length-4
     returns-4
@@ -209,5 +183,5 @@ draw-words-spec =
     draw-taken-requires
     cast-inked-at
     inked-at-requires
-    loop-less-2
-    loop-again-2)
+    loop-less
+    loop-again)
