@@ -1,16 +1,17 @@
 -- The word that stands at a position, from a later character on: it ends where it ended.
 -- Assumes nothing.
-use mathlib.Core.Path.{_≡_, refl, sym, ap, _∙_}
+use mathlib.Core.Path.{_≡_, refl, sym, ap, subst, _∙_}
 use mathlib.Core.Bool.{true}
 use mathlib.Core.List.{List, [], _∷_}
-use Prim.Native.Nat.{ℕ, suc, _+_, _-_, _≤_, _<_}
+use Prim.Native.Nat.{ℕ, zero, suc, _+_, _-_, _≤_, _<_}
 use native.Mathlib.Omega.{arith}
-use lib.ListN.{length}
+use lib.ListN.{length, take}
 use Rattle.basis.specs.Choice.{by-test}
 use Rattle.unicode.specs.Encoding.{bytes, size}
 use Rattle.unicode.specs.Decoding.{decodeAt}
-use Rattle.unicode.specs.Walk.{decode-at-bytes}
-use Rattle.unicode.specs.declared.sequence.Decoded.the-variants.{Char}
+use Rattle.unicode.specs.Walk.{isChar, decode-at-bytes}
+use Rattle.unicode.specs.declared.sequence.Decoded.{Decoded}
+use Rattle.unicode.specs.declared.sequence.Decoded.the-variants.{Char, Bad, End}
 use Rattle.meaning.specs.Characters.{Class, lf, cr, ht, shy, zwsp, blank, letter, classOf, inWord}
 use Rattle.meaning.specs.Tokens.{Tok, word, run, after, ender, first, tokens, charsOf, sizeOf, enderOf, needOf, kindOf}
 use Rattle.meaning.specs.Words.{glues}
@@ -19,10 +20,10 @@ use Rattle.laws.specs.Runs.{run-more, after-more, run-none}
 use Rattle.laws.specs.TokenLaws.{tokens-step}
 use Rattle.parser.specs.Lexing.{charsFrom, lexemeAt, lexedAt}
 use Rattle.parser.specs.Scanning.{glueOf}
-use Rattle.parser.specs.Shorter.{shorter, less}
+use Rattle.parser.specs.Shorter.{shorter, less, Between}
 use Rattle.parser.specs.declared.lexeme.Lexeme.{Lexeme}
 use Rattle.parser.specs.declared.lexeme.Lexed.the-variants.{Token}
-use Rattle.parser.specs.ScanLaws.{chars-more}
+use Rattle.parser.specs.ScanLaws.{chars-more, chars-none}
 use Rattle.parser.specs.CharacterLaws.{letter-of}
 use Rattle.parser.proofs.PartLaws.{glues-more}
 
@@ -143,3 +144,43 @@ less-more t at x n g c k m w l d q e =
       glued = omega (arith, l .glued, s .glued);
       stands = s .stands ∙ ap Token (less-one x n g (glueOf c)) ∙ ap (λ (h : ℕ). Token (less x (n + 1) h)) (sym q);
     }
+
+-- Many more, where none of the word glues.
+module _ (t : List ℕ) (x : Lexeme) (w : x .kind ≡ Word) (z : x .glues .0 ≡ 0) where
+  less-glueless : (at n g : ℕ) → Less t at x n g → Less t at x n 0
+  less-glueless at n g l = let e : g ≡ 0 = omega (arith, l .glued) in subst (Less t at x n) e l
+
+  abbrev LessFar : (k at n : ℕ) → Type 0
+  LessFar k at n = Less t at x n 0 → k ≤ length (charsFrom t at) → at + size (take k (charsFrom t at)) < x .end .0
+      → Less t (at + size (take k (charsFrom t at))) x (n + k) 0
+
+  less-char : (k at n : ℕ) (d : Decoded) → decodeAt t at ≡ d → ((m : ℕ) → LessFar k (at + m) (n + 1)) → LessFar (suc k) at n
+  unfolding size
+  less-char k at n (Char c m) e rest l few h =
+      let b = decode-at-bytes t at c m e in
+      let cs = charsFrom t (at + m) in
+      let is = chars-more t at c m e in
+      let short : suc k ≤ suc (length cs) = rw is at few in
+      let near : at + (bytes c + size (take k cs)) < x .end .0 = rw is at h in
+      let one = less-glueless (at + m) (n + 1) (0 + glueOf c) (less-more t at x n 0 c m (0 + glueOf c) w l e refl (omega arith)) in
+      let p : at + m + size (take k cs) ≡ at + (bytes c + size (take k cs)) = omega arith in
+      let q : n + 1 + k ≡ n + suc k = omega arith in
+      let far = rest m one (omega arith) (omega arith) in
+      rw is (subst (λ (i : ℕ). Less t i x (n + suc k) 0) p (subst (λ (j : ℕ). Less t (at + m + size (take k cs)) x j 0) q far))
+  less-char k at n Bad e rest l few h = absurd (omega (arith, few, ap length (chars-none t at (ap isChar e))))
+  less-char k at n End e rest l few h = absurd (omega (arith, few, ap length (chars-none t at (ap isChar e))))
+
+  pub less-far : (k at n : ℕ) → LessFar k at n
+  unfolding size
+  less-far zero at n l few h =
+      let p : at ≡ at + 0 = omega arith in
+      let q : n ≡ n + 0 = omega arith in
+      subst (λ (i : ℕ). Less t i x (n + 0) 0) p (subst (λ (j : ℕ). Less t at x j 0) q l)
+  less-far (suc k) at n l few h = less-char k at n (decodeAt t at) refl (λ m. less-far k (at + m) (n + 1)) l few h
+
+  -- So many characters after its start.
+  pub less-between : (from at n : ℕ) → lexedAt from (tokens (charsFrom t from)) ≡ Token x → Between t from at n → at < x .end .0 → Less t at x n 0
+  less-between from at n s b h =
+      let p = b .ends in
+      let q : 0 + n ≡ n = omega arith in
+      subst (λ (j : ℕ). Less t at x j 0) q (rw p (less-far n from 0 (less-starts t from x s) (b .all) (rw p at h)))

@@ -1,6 +1,11 @@
 -- A word without its first character, and without its first characters.
 -- Assumes nothing.
-use Prim.Native.Nat.{ℕ, _-_}
+use mathlib.Core.Path.{_≡_}
+use mathlib.Core.List.{List}
+use Prim.Native.Nat.{ℕ, _+_, _-_, _≤_}
+use lib.ListN.{length, take}
+use Rattle.unicode.specs.Encoding.{size}
+use Rattle.parser.specs.Lexing.{charsFrom}
 use Rattle.parser.specs.declared.lexeme.Lexeme.{Lexeme}
 
 -- That character is one of those that glue, or none.
@@ -26,3 +31,8 @@ less x n g =
       glues = record { 0 = x .glues .0 - g };
       reach = x .reach;
     }
+
+-- From one offset of a text up to another stand so many characters.
+pub record Between (t : List ℕ) (from at chars : ℕ) : Type 0 where
+  pub all : chars ≤ length (charsFrom t from)
+  pub ends : at ≡ from + size (take chars (charsFrom t from))

@@ -55,22 +55,39 @@ pub fn ends_at(text: &[u8], at: usize) -> bool
     true
 }
 
-// Does a byte stand at a position that is not of ASCII. A guess at what is there, which nothing rests on.
-pub fn far_at(text: &[u8], at: usize) -> bool {
+// Does a byte stand at a position that leads a character from U+3000 on: where no spaces are between words, they are long. A guess at
+// what is there, which nothing rests on.
+fn far_at(text: &[u8], at: usize) -> bool {
     if at < text.len() {
-        return 0x80 <= text[at];
+        return 0xE3 <= text[at];
+    }
+    false
+}
+
+// Does a text begin with C2, which leads what glues: such a word is read and not told. A guess like `far_at`.
+fn may_glue(text: &[u8]) -> bool {
+    if 0 < text.len() {
+        return text[0] == 0xC2;
     }
     false
 }
 
 // May a word go on at a position: the byte before it is of words or not of ASCII. A guess like `far_at`.
-pub fn may_go_on(text: &[u8], at: usize) -> bool {
+fn may_go_on(text: &[u8], at: usize) -> bool {
     if at == 0 {
-        return false;
+        return may_glue(text);
     }
     let last = at - 1;
     if last < text.len() {
         return 0x20 < text[last];
     }
     false
+}
+
+// Is the token at a position worth to be known before anything reads it: a word may go on there, or be long.
+pub fn worth_knowing(text: &[u8], at: usize) -> bool {
+    if may_go_on(text, at) {
+        return true;
+    }
+    far_at(text, at)
 }

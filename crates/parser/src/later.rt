@@ -5,7 +5,7 @@ ghost use lib.ListN.{length};
 ghost use Rattle.meaning.specs.Tokens.{tokens};
 ghost use Rattle.meaning.specs.declared.tokens.TokenKind.the-variants.{Word};
 ghost use Rattle.parser.specs.Lexing.{charsFrom, lexedAt};
-ghost use Rattle.parser.specs.Shorter.{less};
+ghost use Rattle.parser.specs.Shorter.{less, Between};
 ghost use Rattle.parser.specs.declared.lexeme.Lexed.the-variants.{Token};
 use crate::glue::glue_of;
 use crate::letters::letter_len;
@@ -66,4 +66,19 @@ pub fn token_after(text: &[u8], from: usize, x: Lexeme, at: usize) -> Lexed
         return Lexed::Token(without(x, chars, glues));
     }
     token_at(text, at)
+}
+
+// The same where it is known how many characters lie between. Where none of the word glues, they are not looked at.
+pub fn token_left(text: &[u8], from: usize, x: Lexeme, at: usize, chars: u32) -> Lexed
+    requires { ⌜ (length (now text) ≤ 65535) × (lexedAt from (tokens (charsFrom (now text) from)) ≡ Token x) × (x .kind ≡ Word) ⌝ }
+    requires { ⌜ Between (now text) from at chars ⌝ }
+    ensures { λ r. ⌜ r ≡ lexedAt at (tokens (charsFrom (now (text .entry)) at)) ⌝ }
+{
+    if x.end.0 as usize <= at {
+        return token_at(text, at);
+    }
+    if x.glues.0 != 0 {
+        return token_after(text, from, x, at);
+    }
+    Lexed::Token(without(x, chars, 0))
 }

@@ -28,6 +28,7 @@ use Rattle.laws.specs.LineTokens.{line-tokens-cover, line-tokens-sound}
 use Rattle.laws.specs.PassBounds.{size-take}
 use Rattle.laws.specs.LineBounds.{line-chars, line-held, line-rest, line-takes, line-reach-high}
 use Rattle.laws.specs.Measuring.{measured-behind}
+use Rattle.parser.specs.Shorter.{Between}
 use Rattle.parser.specs.Lexing.{charsFrom}
 use Rattle.parser.specs.NextLaws.{chars-after}
 use Rattle.moves.specs.Fine.{FineSettings, FineSpaces}
@@ -93,6 +94,11 @@ module _ (s : Settings) (t : List ℕ) (at before : ℕ) (r : Resumed) where
         let k = layLine s (heldIn r) cs .chars in
         let all = line-chars s (heldIn r) cs (f .within) (f .counts) in
         omega (arith, length-take-le k cs (omega arith), length-size (take k cs))
+
+    -- So many of them lie between.
+    pub next-between : Between t at (lineFrom s t at before r .next .0) (lineFrom s t at before r .chars .0)
+    unfolding lineFrom lineAtOf
+    next-between = record { all = omega (arith, line-chars s (heldIn r) (charsFrom t at) (f .within) (f .counts)); ends = refl }
 
     -- Further on, unless the line ends the text.
     pub next-further : (lineFrom s t at before r .ended ≡ EndOfText → ⊥) → at < lineFrom s t at before r .next .0

@@ -11,10 +11,11 @@ use Rattle.meaning.specs.declared.settings.Settings.{Settings}
 use Rattle.meaning.specs.declared.counts.Offset.{Offset}
 use Rattle.meaning.specs.declared.line.LineEnd.{LineEnd}
 use Rattle.meaning.specs.declared.line.LineEnd.the-variants.{NewLine, CarriageReturn, EndOfText, LineBreak}
+use Rattle.parser.specs.Shorter.{Between}
 use Rattle.steps.specs.Knowing.{KnownFits}
 use Rattle.placing.specs.Laying.{LineReady}
 use Rattle.placing.specs.LineFrom.{LineAt, lineFrom}
-use Rattle.placing.specs.LineLaws.{next-within, next-fewer, next-further, next-rest}
+use Rattle.placing.specs.LineLaws.{next-within, next-fewer, next-between, next-further, next-rest}
 use Rattle.steps.specs.declared.step.Resumed.{Resumed}
 use Rattle.rows.specs.declared.stand.Stand.{Stand}
 use Rattle.rows.specs.declared.line.LaidRow.{LaidRow}
@@ -77,6 +78,7 @@ pub record NextReady (t : List ℕ) (p : Stand) (x : LaidRow) : Type 0 where
   pub inside : x .next .0 ≤ length t
   pub few : p .before .0 + x .chars .0 ≤ x .next .0 + textLimit
   pub known : KnownFits t (p .known)
+  pub between : Between t (p .at .0) (x .next .0) (x .chars .0)
 
 module _ (s : Settings) (t : List ℕ) (p : Stand) (c : StandReady s t p) (x : LaidRow) (is : x ≡ laidRow s t p) where
   pub ends : x .last ≡ true → lineAt s t p .ended ≡ EndOfText
@@ -119,7 +121,14 @@ module _ (s : Settings) (t : List ℕ) (p : Stand) (c : StandReady s t p) (x : L
       omega (arith, c .few, chars-is, next, next-fewer s t (p .at .0) (p .before .0) (p .rest) (c .line .rest))
 
   pub next-ready : NextReady t p x
-  next-ready = record { short = c .line .short; inside = rw next-is (ready-after .inside); few = few-after; known = c .known }
+  next-ready =
+      record {
+        short = c .line .short;
+        inside = rw next-is (ready-after .inside);
+        few = few-after;
+        known = c .known;
+        between = rw (next-is, chars-is) (next-between s t (p .at .0) (p .before .0) (p .rest) (c .line .rest));
+      }
 
   -- A stand on the next line.
   module _ (q : Stand) (n : StandsAt t (x .next) (p .before .0 + x .chars .0) (x .rest) q) where

@@ -13,6 +13,7 @@ ghost use Prim.Native.Nat.{_+_, _≤_};
 ghost use mathlib.Core.Path.{_≡_};
 ghost use lib.ListN.{length};
 ghost use Rattle.meaning.specs.Checks.{textLimit};
+ghost use Rattle.parser.specs.Shorter.{Between};
 ghost use Rattle.steps.specs.Knowing.{KnownFits};
 ghost use Rattle.steps.specs.Unrolled.{nothingResumed};
 ghost use Rattle.rows.specs.Standing.{textFront, StandsAt, StandReady, laidRow, NextReady};
@@ -25,12 +26,22 @@ pub struct Stand {
     pub known: Known,
 }
 
-// Before the line at an offset, behind so many characters, which resumes a rest, where a word may be known from the line before.
-fn stand_at(text: &[u8], at: Offset, before: Chars, rest: Resumed, word: Known) -> Stand
+// Before the line at an offset, behind so many characters, which resumes a rest, where a word may be known from the line before, and that
+// took so many characters.
+fn stand_at(
+    text: &[u8],
+    at: Offset,
+    before: Chars,
+    rest: Resumed,
+    word: Known,
+    from: Offset,
+    chars: Chars,
+) -> Stand
     requires { ⌜ (length (now text) ≤ textLimit) × (at .0 ≤ length (now text)) × KnownFits (now text) word ⌝ }
+    requires { ⌜ Between (now text) (from .0) (at .0) (chars .0) ⌝ }
     ensures { λ r. ⌜ StandsAt (now (text .entry)) at (before .0) rest r ⌝ }
 {
-    let known = known_from(text, at.0 as usize, rest, word);
+    let known = known_from(text, at.0 as usize, rest, word, from.0 as usize, chars.0);
     Stand {
         at,
         before,
@@ -44,7 +55,7 @@ pub fn at_offset(text: &[u8], at: Offset, before: Chars, rest: Resumed) -> Stand
     requires { ⌜ (length (now text) ≤ textLimit) × (at .0 ≤ length (now text)) ⌝ }
     ensures { λ r. ⌜ StandsAt (now (text .entry)) at (before .0) rest r ⌝ }
 {
-    stand_at(text, at, before, rest, nothing_known())
+    stand_at(text, at, before, rest, nothing_known(), at, Chars(0))
 }
 
 // At a text's front.
@@ -84,5 +95,7 @@ pub fn next_stand(text: &[u8], stand: Stand, row: LaidRow) -> Stand
     let before = stand.before.0 + row.chars.0;
     let rest = row.rest;
     let known = stand.known;
-    stand_at(text, next, Chars(before), rest, known)
+    let from = stand.at;
+    let chars = row.chars;
+    stand_at(text, next, Chars(before), rest, known, from, chars)
 }

@@ -1,11 +1,14 @@
 -- A word that is known at an offset of a text, for the lines that go on with it.
 -- Assumes nothing.
 use Prim.Native.Nat.{ℕ}
+use native.Mathlib.Omega.{arith}
 use mathlib.Core.Path.{_≡_, sym, ap, _∙_}
 use mathlib.Core.List.{List}
+use Rattle.unicode.specs.Encoding.{size}
 use Rattle.meaning.specs.Tokens.{tokens}
 use Rattle.meaning.specs.declared.tokens.TokenKind.the-variants.{Word}
 use Rattle.parser.specs.Lexing.{charsFrom, lexedAt}
+use Rattle.parser.specs.Shorter.{Between}
 use Rattle.parser.specs.declared.lexeme.Lexeme.{Lexeme}
 use Rattle.parser.specs.declared.lexeme.Lexed.{Lexed}
 use Rattle.parser.specs.declared.lexeme.Lexed.the-variants.{End, Token}
@@ -30,3 +33,8 @@ nothing-fits t k e x q w = let z : End ≡ Token x = sym (ap (λ (j : Known). j 
 
 pub known-fits : (t : List ℕ) (at : ℕ) (l : Lexed) (k : Known) → l ≡ lexedAt at (tokens (charsFrom t at)) → k ≡ knownAt at l → KnownFits t k
 known-fits t at l k e q x f w = rw q (sym e ∙ sym (ap (λ (j : Known). j .first) q) ∙ f)
+
+-- Nothing lies between an offset and itself.
+pub between-none : (t : List ℕ) (at : ℕ) → Between t at at 0
+unfolding size
+between-none t at = record { all = omega arith; ends = omega arith }

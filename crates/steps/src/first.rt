@@ -5,9 +5,8 @@ use crate::step::Resumed;
 use meaning::counts::Chars;
 use meaning::counts::Offset;
 use meaning::tokens::TokenKind;
-use parser::ascii::far_at;
-use parser::ascii::may_go_on;
-use parser::later::token_after;
+use parser::ascii::worth_knowing;
+use parser::later::token_left;
 use parser::lexeme::Lexed;
 use parser::lexeme::Lexeme;
 use parser::lexer::token_at;
@@ -18,6 +17,7 @@ ghost use lib.ListN.{length};
 ghost use Rattle.meaning.specs.Tokens.{tokens};
 ghost use Rattle.meaning.specs.Line.{heldTokens};
 ghost use Rattle.parser.specs.Lexing.{charsFrom, lexedAt};
+ghost use Rattle.parser.specs.Shorter.{Between};
 ghost use Rattle.steps.specs.Pending.{RestFits, restLexeme};
 ghost use Rattle.steps.specs.Knowing.{KnownFits, nothingKnown, knownAt};
 
@@ -47,21 +47,21 @@ pub fn known_at(at: usize, first: Lexed) -> Known
     }
 }
 
-// The token at an offset: of a known word that goes on there, what is left of it.
-fn known_token(text: &[u8], at: usize, known: Known) -> Lexed
-    requires { ⌜ (length (now text) ≤ 65535) × KnownFits (now text) known ⌝ }
+// The token at an offset: of a word that is known at an offset before, what is left of it after so many characters.
+fn known_token(text: &[u8], at: usize, known: Known, from: usize, chars: u32) -> Lexed
+    requires { ⌜ (length (now text) ≤ 65535) × KnownFits (now text) known × Between (now text) from at chars ⌝ }
     ensures { λ r. ⌜ r ≡ lexedAt at (tokens (charsFrom (now (text .entry)) at)) ⌝ }
 {
+    if known.at.0 as usize != from {
+        return token_at(text, at);
+    }
     let first = known.first;
     let Lexed::Token(x) = first else {
         return token_at(text, at);
     };
-    if x.end.0 as usize <= at {
-        return token_at(text, at);
-    }
     let kind = x.kind;
     match kind {
-        TokenKind::Word => token_after(text, known.at.0 as usize, x, at),
+        TokenKind::Word => token_left(text, from, x, at, chars),
         _ => token_at(text, at),
     }
 }
@@ -90,23 +90,30 @@ pub fn first_token(text: &[u8], at: usize, rest: Resumed, known: Known) -> Lexed
     ensures { λ r. ⌜ r ≡ lexedAt at (heldTokens (rest .chars .0) (rest .count .0) (charsFrom (now (text .entry)) at)) ⌝ }
 {
     if rest.chars.0 == 0 {
-        return known_token(text, at, known);
+        return known_token(text, at, known, at, 0);
     }
     Lexed::Token(rest_lexeme(rest, ender_at(text, rest.end.0 as usize)))
 }
 
-// What is known for a line at an offset, from what was known for the line before it. A line that resumes a rest begins with no word.
-// A word that may be one that the line before cut is looked for, and one that starts with a letter not of ASCII: it is looked through
-// once for all that read it.
-pub fn known_from(text: &[u8], at: usize, rest: Resumed, known: Known) -> Known
-    requires { ⌜ (length (now text) ≤ 65535) × (at ≤ length (now text)) × KnownFits (now text) known ⌝ }
+// What is known for a line at an offset, from what was known for the line before it, which took so many characters. A line that resumes
+// a rest begins with no word. A word that may be one that the line before cut is looked for, and one that may be long: it is looked
+// through once for all that read it.
+pub fn known_from(
+    text: &[u8],
+    at: usize,
+    rest: Resumed,
+    known: Known,
+    from: usize,
+    chars: u32,
+) -> Known
+    requires { ⌜ (length (now text) ≤ 65535) × (at ≤ length (now text)) × KnownFits (now text) known × Between (now text) from at chars ⌝ }
     ensures { λ r. ⌜ KnownFits (now (text .entry)) r ⌝ }
 {
     if rest.chars.0 != 0 {
         return nothing_known();
     }
-    if may_go_on(text, at) | far_at(text, at) {
-        return known_at(at, known_token(text, at, known));
+    if worth_knowing(text, at) {
+        return known_at(at, known_token(text, at, known, from, chars));
     }
     nothing_known()
 }

@@ -1,6 +1,6 @@
 -- `rows::stand::at_offset` meets its contract (rule 10).
 -- Assumes nothing.
-use Rattle.steps.specs.Knowing.{nothing-fits}
+use Rattle.steps.specs.Knowing.{nothing-fits, between-none}
 use borrow.Author.Needs.{needs}
 use Rattle.rows.proofs.stand.at_offset.Statement.{statement}
 use Rattle.rows.proofs.stand.at_offset.Tie as tie
@@ -9,7 +9,9 @@ nothing-known-requires : tie.Need-nothing-known-requires
 nothing-known-requires c κs = search needs
 
 stand-at-requires : tie.Need-stand-at-requires
-stand-at-requires c κs = let p = c .before .before .pre in (p .0, p .1, nothing-fits _ _ (c .nothing-known .ensures))
+stand-at-requires c κs =
+    let s = c .before .before in
+    ((s .pre .0, s .pre .1, nothing-fits _ _ (c .nothing-known .ensures)), between-none _ (s .args .at .0))
 
 returns : tie.Need-returns
 returns c = c .stand-at .ensures

@@ -4,12 +4,15 @@ use mathlib.Core.Path.{ap, _∙_}
 use native.Mathlib.Omega.{arith}
 use borrow.Author.Needs.{needs}
 use Rattle.parser.specs.declared.lexeme.Lexed.the-variants as lexed
+use Rattle.steps.specs.Knowing.{between-none}
 use Rattle.steps.proofs.RestLaws.{rest-inside, rest-read, ender-at-most, none-read}
 use Rattle.steps.proofs.first.first_token.Statement.{statement}
 use Rattle.steps.proofs.first.first_token.Tie as tie
 
 known-token-requires : tie.Need-known-token-requires
-known-token-requires c κs = search needs
+known-token-requires c κs =
+    let s = c .before .before .before in
+    (s .pre .0, s .pre .2, between-none _ (s .args .at))
 
 returns : tie.Need-returns
 returns c =

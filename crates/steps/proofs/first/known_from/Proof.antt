@@ -11,11 +11,8 @@ nothing-known-requires c κs = search needs
 returns : tie.Need-returns
 returns c = nothing-fits _ _ (c .nothing-known .ensures)
 
-may-go-on-requires : tie.Need-may-go-on-requires
-may-go-on-requires c κs = search needs
-
-far-at-requires : tie.Need-far-at-requires
-far-at-requires c κs = search needs
+worth-knowing-requires : tie.Need-worth-knowing-requires
+worth-knowing-requires c κs = search needs
 
 known-token-requires : tie.Need-known-token-requires
 known-token-requires c κs = search needs
@@ -38,8 +35,7 @@ known-from-spec =
     (tie.spec
     nothing-known-requires
     returns
-    may-go-on-requires
-    far-at-requires
+    worth-knowing-requires
     known-token-requires
     known-at-requires
     returns-2
