@@ -39,10 +39,10 @@ use Rattle.placing.specs.Taken.{Taken, token-taken, taken-on}
 use Rattle.placing.specs.Laying.{LineReady, restIn, placedBy, laidAt}
 use Rattle.placing.specs.LayLaws.{laid-alike}
 use Rattle.strides.specs.Strides.{Waits}
-use Rattle.placing.specs.Quick.{plainPlace, Counts, countedAt, CountedWords}
+use Rattle.placing.specs.Quick.{plainPlace, Counts, Counting, countedAt, CountedWords}
 use Rattle.placing.specs.Plain.{leftOf, plainEntry, plainLineAt, PlainRow}
 use Rattle.placing.specs.declared.quick.Counted.{Counted}
-use Rattle.placing.proofs.CountingLaws.{Counting, most-within, most-over, counting-first, counting-more, counting-waits}
+use Rattle.placing.proofs.CountingLaws.{most-within, most-over, counting-first, counting-more, counting-waits}
 use Rattle.placing.proofs.QuickLaws.{WaitEnd, wait-ends, Measured, space-measured, waits-alike}
 
 -- ---- the entry
