@@ -1,5 +1,6 @@
 pub mod StrideEvents
 pub mod OnwardEvents
+pub mod MarkEvents
 pub mod TakenEvents
 pub mod PassLoop
 pub mod PlainEvents

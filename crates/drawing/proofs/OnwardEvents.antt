@@ -86,7 +86,7 @@ module _ {s : Settings} {t : List ℕ} {r : Resumed} {ev : List ℕ} {p : Place}
 -- ---- things that are drawn at once
 
 module _ {s : Settings} {p : Place} {t : List ℕ} {at : ℕ} {o : Pen} (h : PenReady s p t at nothingResumed o) (ev u : List ℕ) (v : Pen) where
-  drew-things : (ds : List Drawn) (q : Place) (to : ℕ) (m : Measure) → drawnFrom s p t at 0 0 ≡ ds ++ drawnFrom s q t to 0 0
+  pub drew-things : (ds : List Drawn) (q : Place) (to : ℕ) (m : Measure) → drawnFrom s p t at 0 0 ≡ ds ++ drawnFrom s q t to 0 0
       → PassReady s q t to nothingResumed m → sheet u v ≡ drawnOn (sheet ev o) ds → at + length ds ≤ to → widths ds + 8192 * at ≤ 8192 * to
       → Drew s t nothingResumed ev p at o u q to v
   drew-things ds q to m law ready e few narrow =

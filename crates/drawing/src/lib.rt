@@ -1,5 +1,6 @@
 // The events of a line, drawn into a lent buffer (rule 13).
 mod inked;
+mod marks;
 pub mod pass;
 pub mod plain;
 mod resumed;

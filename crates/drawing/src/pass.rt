@@ -1,4 +1,5 @@
 // The events of a line: the running pass again, token by token or in strides, each drawn (rule 7, rule 8, rule 9 and rule 13).
+use crate::marks::draw_past;
 use crate::resumed::draw_rest;
 use crate::resumed::is_cut_rest;
 use crate::striding::draw_unless;
@@ -57,9 +58,16 @@ fn draw_tokens(
             let last = draw_waiting(text, s, g, events);
             return last.next;
         }
-        let here = g.place;
-        let to = g.at;
-        let drawn = g.pen;
+        let on = draw_past(text, s, g.place, g.at, held, g.pen, seen, events);
+        let here = on.place;
+        let to = on.at;
+        let drawn = on.pen;
+        if to != g.at {
+            p = here;
+            at = to;
+            pen = drawn;
+            continue;
+        }
         let token = first_token(text, to, held, known);
         let Lexed::Token(t) = token else {
             return drawn.next;

@@ -22,7 +22,7 @@ ghost use Rattle.strides.specs.Next.{Taking};
 ghost use Rattle.drawing.specs.DrawingOn.{PenReady, Drew};
 
 // A word that fits: one print, unless there are gluing characters in it.
-fn draw_scanned(
+pub fn draw_scanned(
     text: &[u8],
     from: usize,
     word: Scanned,

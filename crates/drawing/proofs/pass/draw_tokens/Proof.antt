@@ -42,25 +42,43 @@ goal c =
     (drawnFrom (a .s) (a .start) (a .text .now) (a .from) (a .rest .chars .0) (a .rest .count .0))
 
 -- Where the strides came to.
-stood : (c : Strides) →
+strode-to : (c : Strides) →
     let g = c .draw-unless .result in
     Drawing (begin c .args .text .now) (begin c .args .s) (goal c) (c .draw-unless .last .1 .1 .1 .1 .1 .1 .1 .0) (g .place) (g .at) (around c .loop .held) (g .pen)
-stood c = drawing-strode (around c .loop .inv .0) (c .draw-unless .ensures .0)
+strode-to c = drawing-strode (around c .loop .inv .0) (c .draw-unless .ensures .0)
 
-kept : (c : Strides) → length (c .draw-unless .last .1 .1 .1 .1 .1 .1 .1 .0) ≡ length (begin c .args .events .now)
-kept c = c .draw-unless .kept .1 .1 .1 .1 .1 .1 .1 .0 ∙ around c .loop .inv .1
+strode-kept : (c : Strides) → length (c .draw-unless .last .1 .1 .1 .1 .1 .1 .1 .0) ≡ length (begin c .args .events .now)
+strode-kept c = c .draw-unless .kept .1 .1 .1 .1 .1 .1 .1 .0 ∙ around c .loop .inv .1
 
--- From the token that was read there back to the strides.
-abbrev strode : tie.After-first-token Inv-loop μ-loop → Strides
-strode c = c .before .before .before .before .before .before .before
+abbrev Past : Type 0
+Past = tie.After-draw-past Inv-loop μ-loop
+
+-- From after the marks back to the strides.
+abbrev strode : Past → Strides
+strode c = c .before .before .before .before .before .before
+
+-- Where the marks came to.
+stood : (c : Past) →
+    let o = strode c in
+    let g = c .draw-past .result in
+    Drawing (begin o .args .text .now) (begin o .args .s) (goal o) (c .draw-past .last .1 .1 .1 .1 .1 .1 .1 .0) (g .place) (g .at) (around o .loop .held) (g .pen)
+stood c = drawing-strode (strode-to (strode c)) (c .draw-past .ensures .0)
+
+kept : (c : Past) → length (c .draw-past .last .1 .1 .1 .1 .1 .1 .1 .0) ≡ length (begin (strode c) .args .events .now)
+kept c = c .draw-past .kept .1 .1 .1 .1 .1 .1 .1 .0 ∙ strode-kept (strode c)
+
+-- From the token that was read there back to the marks.
+abbrev past : tie.After-first-token Inv-loop μ-loop → Past
+past c = c .before .before .before .before .before .before .before
 
 pended : (c : tie.After-token Inv-loop μ-loop) →
-    let o = strode (c .before .before) in
-    Pending (begin o .args .text .now) (o .draw-unless .result .at) (around o .loop .held .chars .0) (around o .loop .held .count .0) (c .token .given .0 .0)
+    let q = past (c .before .before) in
+    let o = strode q in
+    Pending (begin o .args .text .now) (q .draw-past .result .at) (around o .loop .held .chars .0) (around o .loop .held .count .0) (c .token .given .0 .0)
 pended c =
     let n = c .before .before in
-    let o = strode n in
-    pending _ (o .draw-unless .result .at) (around o .loop .held) _ (stood o .ready .pass .rest) (sym (n .first-token .ensures) ∙ c .token .given .1)
+    let q = past n in
+    pending _ (q .draw-past .result .at) (around (strode q) .loop .held) _ (stood q .ready .pass .rest) (sym (n .first-token .ensures) ∙ c .token .given .1)
 
 nothing-measured-requires : tie.Need-nothing-measured-requires Inv-loop μ-loop
 nothing-measured-requires c κs = search needs
@@ -83,7 +101,7 @@ draw-waiting-requires c κs =
 same-length : tie.Need-same-length Inv-loop μ-loop
 same-length c =
     let w = c .before .before in
-    w .draw-waiting .kept .1 .1 .1 .0 ∙ kept (w .before .before .before .before .before .before)
+    w .draw-waiting .kept .1 .1 .1 .0 ∙ strode-kept (w .before .before .before .before .before .before)
 
 returns : tie.Need-returns Inv-loop μ-loop
 returns c =
@@ -94,11 +112,27 @@ returns c =
     goal-is (a .s) (a .start) (a .text .now) (a .from) (a .rest .chars .0) (a .rest .count .0) (a .events .now) _ (a .k) (a .x) (w .draw-waiting .result)
     (drawing-waits (around o .loop .inv .0) (o .draw-unless .ensures .0) (i .if1 .taken) _ (w .draw-waiting .ensures))
 
+draw-past-requires : tie.Need-draw-past-requires Inv-loop μ-loop
+draw-past-requires c κs =
+    let o = c .before .before .before .before .before in
+    (strode-to o .ready, o .draw-unless .ensures .1)
+
+loop-less : tie.Need-loop-less Inv-loop μ-loop
+loop-less c =
+    let q = c .before .before .before .before .before .before in
+    let on = q .draw-past .ensures .0 .onward in
+    omega (arith, c .if2 .taken, on .forward, on .ready .pass .inside, strode q .draw-unless .ensures .0 .onward .forward)
+
+loop-again : tie.Need-loop-again Inv-loop μ-loop
+loop-again c =
+    let q = c .before .before .before .before .before .before in
+    (stood q, kept q, q .draw-past .ensures .1)
+
 first-token-requires : tie.Need-first-token-requires Inv-loop μ-loop
 first-token-requires c κs =
-    let o = c .before .before .before .before .before .before in
-    let r = stood o .ready .pass in
-    (r .short, r .rest, begin o .pre .1)
+    let q = c .before .before .before .before .before .before in
+    let r = stood q .ready .pass in
+    (r .short, r .rest, begin (strode q) .pre .1)
 
 enum-known-token : tie.Need-enum-known-token Inv-loop μ-loop
 enum-known-token c = search needs
@@ -107,35 +141,36 @@ enum-told : tie.Need-enum-told Inv-loop μ-loop
 enum-told c = search needs
 
 same-length-2 : tie.Need-same-length-2 Inv-loop μ-loop
-same-length-2 c = kept (strode (c .before .before))
+same-length-2 c = kept (past (c .before .before))
 
 returns-2 : tie.Need-returns-2 Inv-loop μ-loop
 returns-2 c =
     let n = c .before .before in
-    let o = strode n in
-    let a = begin o .args in
-    goal-is (a .s) (a .start) (a .text .now) (a .from) (a .rest .chars .0) (a .rest .count .0) (a .events .now) _ (a .k) (a .x) (o .draw-unless .result .pen)
-    (drawing-ends (stood o) (none-pending (o .draw-unless .result .at) _ (sym (n .first-token .ensures) ∙ c .enum-told .given .1)))
+    let q = past n in
+    let a = begin (strode q) .args in
+    goal-is (a .s) (a .start) (a .text .now) (a .from) (a .rest .chars .0) (a .rest .count .0) (a .events .now) _ (a .k) (a .x) (q .draw-past .result .pen)
+    (drawing-ends (stood q) (none-pending (q .draw-past .result .at) _ (sym (n .first-token .ensures) ∙ c .enum-told .given .1)))
 
 -- Its step has what it needs.
 ready : (c : tie.After-known-told Inv-loop μ-loop) →
     let k = c .before in
-    let o = strode (k .before .before) in
+    let q = past (k .before .before) in
+    let o = strode q in
     let a = begin o .args in
-    let g = o .draw-unless .result in
+    let g = q .draw-past .result in
     Ready (a .s) (g .place) (a .text .now) (g .at) (k .token .given .0 .0) (around o .before .nothing-measured .result)
 ready c =
     let k = c .before in
-    let o = strode (k .before .before) in
-    token-ready (stood o) (k .token .given .0 .0) (pended k) _ (around o .before .nothing-measured .ensures)
+    let q = past (k .before .before) in
+    token-ready (stood q) (k .token .given .0 .0) (pended k) _ (around (strode q) .before .nothing-measured .ensures)
 
 look-after-requires : tie.Need-look-after-requires Inv-loop μ-loop
 look-after-requires c κs =
     let k = c .before in
     let y = pended k in
-    let o = strode (k .before .before) in
-    let r = stood o .ready .pass in
-    record { settings = r .settings; place = r .place; short = r .short; stands = y .stands; sees = rw (y .first) at (o .draw-unless .ensures .1) }
+    let q = past (k .before .before) in
+    let r = stood q .ready .pass in
+    record { settings = r .settings; place = r .place; short = r .short; stands = y .stands; sees = rw (y .first) at (q .draw-past .ensures .1) }
 
 step-token-requires : tie.Need-step-token-requires Inv-loop μ-loop
 step-token-requires c κs = (ready (c .before), c .look-after .ensures)
@@ -144,8 +179,8 @@ draw-token-requires : tie.Need-draw-token-requires Inv-loop μ-loop
 draw-token-requires c κs =
     let f = c .before in
     let u = f .before in
-    let o = strode (u .before .before .before .before) in
-    (record { ready = ready (u .before); stepped = f .step-token .ensures; pen = pen-room (stood o) }, u .look-after .ensures)
+    let q = past (u .before .before .before .before) in
+    (record { ready = ready (u .before); stepped = f .step-token .ensures; pen = pen-room (stood q) }, u .look-after .ensures)
 
 enum-known-stepped : tie.Need-enum-known-stepped Inv-loop μ-loop
 enum-known-stepped c = search needs
@@ -160,16 +195,17 @@ told c = c .before .before .before .before .before
 same-length-3 : tie.Need-same-length-3 Inv-loop μ-loop
 same-length-3 c =
     let w = c .before .before .before .before in
-    w .draw-token .kept .1 .1 .1 .1 .1 .1 .1 .1 .1 .0 ∙ kept (strode (told w .before .before))
+    w .draw-token .kept .1 .1 .1 .1 .1 .1 .1 .1 .1 .0 ∙ kept (past (told w .before .before))
 
 returns-3 : tie.Need-returns-3 Inv-loop μ-loop
 returns-3 c =
     let w = c .before .before .before .before in
     let k = told w in
-    let o = strode (k .before .before) in
+    let q = past (k .before .before) in
+    let o = strode q in
     let a = begin o .args in
     goal-is (a .s) (a .start) (a .text .now) (a .from) (a .rest .chars .0) (a .rest .count .0) (a .events .now) _ (a .k) (a .x) (w .draw-token .result)
-    (drawing-stops (stood o) (k .token .given .0 .0) (pended k) _ (around o .before .nothing-measured .ensures) _ (w .draw-token .result) (w .draw-token .ensures)
+    (drawing-stops (stood q) (k .token .given .0 .0) (pended k) _ (around o .before .nothing-measured .ensures) _ (w .draw-token .result) (w .draw-token .ensures)
     _ (sym (w .before .before .step-token .ensures) ∙ c .enum-told2 .given .1))
 
 cast-at : tie.Need-cast-at Inv-loop μ-loop
@@ -178,23 +214,25 @@ cast-at c = search needs
 nothing-left-requires : tie.Need-nothing-left-requires Inv-loop μ-loop
 nothing-left-requires c κs = search needs
 
-loop-less : tie.Need-loop-less Inv-loop μ-loop
-loop-less c =
+loop-less-2 : tie.Need-loop-less-2 Inv-loop μ-loop
+loop-less-2 c =
     let k = told (c .before .before .before .before .before .before .before) in
     let y = pended k .stands in
-    omega (arith, y .longer, y .within, strode (k .before .before) .draw-unless .ensures .0 .onward .forward)
+    let q = past (k .before .before) in
+    omega (arith, y .longer, y .within, q .draw-past .ensures .0 .onward .forward, strode q .draw-unless .ensures .0 .onward .forward)
 
-loop-again : tie.Need-loop-again Inv-loop μ-loop
-loop-again c =
+loop-again-2 : tie.Need-loop-again-2 Inv-loop μ-loop
+loop-again-2 c =
     let w = c .before .before .before .before .before .before .before in
     let d = w .before .before in
     let u = d .before in
     let k = told w in
-    let o = strode (k .before .before) in
+    let q = past (k .before .before) in
+    let o = strode q in
     let x = k .token .given .0 .0 in
     let e = sym (d .step-token .ensures) ∙ c .before .before .before .stepped .given .1 in (
-      drawing-goes (stood o) x (pended k) _ (around o .before .nothing-measured .ensures) _ (w .draw-token .result) (w .draw-token .ensures) _ _ _ e _ (c .nothing-left .ensures),
-      w .draw-token .kept .1 .1 .1 .1 .1 .1 .1 .1 .1 .0 ∙ kept o,
+      drawing-goes (stood q) x (pended k) _ (around o .before .nothing-measured .ensures) _ (w .draw-token .result) (w .draw-token .ensures) _ _ _ e _ (c .nothing-left .ensures),
+      w .draw-token .kept .1 .1 .1 .1 .1 .1 .1 .1 .1 .0 ∙ kept q,
       rw (none-held _ (x .end .0) _ (c .nothing-left .ensures)) (step-foresees (ready (u .before)) _ _ _ e (u .look-after .result) (u .look-after .ensures)),
     )
 
@@ -210,6 +248,9 @@ draw-tokens-spec =
     draw-waiting-requires
     same-length
     returns
+    draw-past-requires
+    loop-less
+    loop-again
     first-token-requires
     enum-known-token
     enum-told
@@ -224,5 +265,5 @@ draw-tokens-spec =
     returns-3
     cast-at
     nothing-left-requires
-    loop-less
-    loop-again)
+    loop-less-2
+    loop-again-2)
