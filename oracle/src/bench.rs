@@ -41,6 +41,15 @@ fn filled(first: &str, then: &str, bytes: usize) -> String {
     first.to_owned() + &then.repeat((bytes - first.len()) / then.len())
 }
 
+/// Sentences of so many bytes in which a part takes the place of what stands there, each so many bytes.
+fn parted(text: &str, part: &str, each: usize) -> String {
+    let mut bytes = text.as_bytes().to_vec();
+    for at in (each..bytes.len()).step_by(each) {
+        bytes[at - part.len()..at].copy_from_slice(part.as_bytes());
+    }
+    String::from_utf8(bytes).expect("the sentences are ASCII")
+}
+
 /// The texts of a workload: several clues, or one text of so many bytes.
 fn texts(name: &str, bytes: usize) -> Option<Vec<String>> {
     let clues = |from: &[&str]| from.iter().map(|&text| text.to_owned()).collect();
@@ -49,6 +58,10 @@ fn texts(name: &str, bytes: usize) -> Option<Vec<String>> {
         "french" => clues(&FRENCH),
         "japanese" => clues(&JAPANESE),
         "prose" => vec![repeated(ENGLISH.lines(), bytes)],
+        "paragraphs" => vec![parted(&repeated(ENGLISH.lines(), bytes), "s\n", 60)],
+        "spaced" => vec![parted(&repeated(ENGLISH.lines(), bytes), "s \n", 60)],
+        "tabbed" => vec![parted(&repeated(ENGLISH.lines(), bytes), "\t", 40)],
+        "tabbed-spaced" => vec![parted(&parted(&repeated(ENGLISH.lines(), bytes), "\t", 40), "s \n", 60)],
         "word" => vec![filled("", "a", bytes)],
         "tabs" => vec![filled("a", "\t", bytes)],
         "zero-width" => vec![filled("a", "\u{200b}", bytes)],
@@ -139,7 +152,15 @@ fn one_line(settings: &Settings, text: &str, place: &str, alone: bool, lines: u6
     lent.len() as u64
 }
 
-/// Does a piece of work so many times and tells its size: bytes and lines; of edits, also the lines laid; of one line, the bytes lent.
+/// A width is planned for so many lines. Answers it, one more than the widest box if there is none.
+fn planned(settings: &Settings, text: &str, lines: u32, times: u32) -> u64 {
+    (0..times).fold(0, |_, _| {
+        black_box(sys::columns_plan(settings, text.as_bytes(), lines)).expect("a good text").map_or(4_097, u64::from)
+    })
+}
+
+/// Does a piece of work so many times and tells its size: bytes and lines; of edits, also the lines laid; of one line, the bytes lent; of a
+/// plan, for so many lines as there are glyphs otherwise, the width.
 pub fn run(work: &str, name: &str, bytes: usize, glyphs: u32, alignment: u32, times: u32) -> Option<bool> {
     let texts = texts(name, bytes)?;
     let settings = settings_for(name, glyphs, alignment);
@@ -155,6 +176,7 @@ pub fn run(work: &str, name: &str, bytes: usize, glyphs: u32, alignment: u32, ti
         "affected" => (0..times).for_each(|_| {
             black_box(sys::first_affected(&room.table, lines, Edit { a: 0, b: 0, inserted: 1 })).expect("a good edit");
         }),
+        "plan" => laid = planned(&settings, &texts[0], glyphs, times),
         "front" | "middle" | "end" => laid = typed(&settings, &texts[0], work, times, &mut room),
         _ => {
             let (how, place) = work.split_once('-')?;
