@@ -2,7 +2,7 @@
 -- and a wider box is filled no sooner (rule 4, rule 8).
 -- Assumes nothing.
 use Prim.Native.Nat.{ℕ, _+_, _*_, _/_, _≤_, _<_, min}
-use mathlib.Core.Path.{_≡_, refl, sym, subst, _∙_}
+use mathlib.Core.Path.{_≡_, refl, sym, _∙_}
 use mathlib.Core.Bool.{Bool, true, false, false≢true}
 use mathlib.Core.List.{List, [], _∷_, _++_}
 use native.Mathlib.Nat.{div-mul-le-self, le-div-iff-mul-le, mul-le-mul-right}
@@ -11,23 +11,11 @@ use borrow.Author.Tests.{leb-true, leb-false, eq-eqb, ne-eqb, eqb-false}
 use lib.Dec.{leb, eqb}
 use Rattle.basis.specs.Choice.{pick, pick-cases}
 use Rattle.basis.specs.Order.{by-lt, by-eq}
+use Rattle.laws.specs.LineParts.{breaks}
 use Rattle.moves.specs.FineLaws.{next-stop}
 use Rattle.columns.specs.declared.filling.Fill.{Fill}
 
 -- ---- what a character does, told by a test of those that words are made of
-
--- What passes a test is another than what does not.
-pub other-than : (f : ℕ → Bool) (c d : ℕ) → f c ≡ true → f d ≡ false → c ≡ d → ⊥
-other-than f c d h e is = false≢true (sym e ∙ subst (λ (x : ℕ). f x ≡ true) is h)
-
--- LF or CR: as a character, and as a byte.
-unfoldable pub breaks : ℕ → Bool
-breaks c = pick (eqb c 0x000A) true (eqb c 0x000D)
-
--- A test that neither passes tells of none.
-pub others-break : (f : ℕ → Bool) → f 0x000A ≡ false → f 0x000D ≡ false → (c : ℕ) → f c ≡ true → breaks c ≡ false
-unfolding breaks pick
-others-break f a b c h = rw (ne-eqb c 0x000A (λ e. other-than f c 0x000A h a e), ne-eqb c 0x000D (λ e. other-than f c 0x000D h b e)) refl
 
 -- The first multiple of the tab width above a place, which stays where it is if that width is 0.
 unfoldable pub nextStop : (tab at : ℕ) → ℕ

@@ -2,6 +2,7 @@ pub mod FitTurns
 pub mod ColumnChecks
 pub mod OtherWidths
 pub mod Tabs
+pub mod PartBytes
 pub mod Skipping
 pub mod WidthTurns
 pub mod Filling

@@ -7,32 +7,31 @@ use mathlib.Core.Bool.{Bool, true, false, _&&_, not}
 use mathlib.Core.List.{List}
 use native.Mathlib.Nat.{one-mul, add-mul, mul-le-mul, mul-le-mul-right, div-one, le-div-iff-mul-le, div-lt-iff-lt-mul, add-div-right}
 use native.Mathlib.Omega.{arith}
-use borrow.Author.Tests.{eq-eqb, ne-eqb, eqb-true, not-true}
+use borrow.Author.Tests.{eq-eqb, ne-eqb, le-leb, lt-leb, leb-true, not-true}
 use lib.Dec.{eqb, leb}
-use lib.ListN.{length}
 use Rattle.basis.specs.Choice.{pick, pick-cases, pick-true, pick-false, and-true}
 use Rattle.unicode.specs.Decoding.{decodeAll}
 use Rattle.meaning.specs.Checks.{textLimit}
 use Rattle.meaning.specs.Columns.{fitsWhole, withWidth, widestBox}
 use Rattle.meaning.specs.declared.settings.Settings.{Settings}
 use Rattle.laws.specs.TabFree.{hasTab}
-use Rattle.laws.specs.TokenLaws.{length-size}
+use Rattle.laws.specs.LineParts.{longestPart}
+use Rattle.laws.specs.GlyphPlaces.{askedGlyphs, asked-most}
 use Rattle.laws.specs.WidthSteps.{fits-by-steps}
-use Rattle.laws.specs.WideEnough.{fits-wide-enough}
-use Rattle.parser.specs.Lexing.{charsFrom}
-use Rattle.steps.specs.Lexed.{chars-within}
+use Rattle.laws.specs.WideEnough.{enoughFor, fits-wide-enough}
 use Rattle.rows.specs.RowsFrom.{TextReady}
 use Rattle.columns.specs.Tabs.{no-tab-read}
+use Rattle.columns.specs.PartBytes.{part-read}
 use Rattle.columns.specs.declared.skipping.Skips.{Skips}
 
 -- ---- what is passed over
 
--- Left aligned and without tabs, a width counts by its glyphs.
+-- Without tabs, and not justified, a width counts by its glyphs.
 unfoldable pub byGlyphs : Settings → (bytes : List ℕ) → Bool
-byGlyphs s t = eqb (s .alignment) 0 && not (hasTab t)
+byGlyphs s t = leb (s .alignment) 2 && not (hasTab t)
 
 unfoldable pub skipsOf : Settings → (bytes : List ℕ) → Skips
-skipsOf s t = pick (byGlyphs s t) (record { step = s .glyph .0; enough = length t * s .glyph .0 }) (record { step = 1; enough = widestBox })
+skipsOf s t = pick (byGlyphs s t) (record { step = s .glyph .0; enough = enoughFor s t }) (record { step = 1; enough = widestBox })
 
 -- The width to try after one in which the text did not fit.
 unfoldable pub nextWidth : Skips → (w : ℕ) → ℕ
@@ -47,15 +46,15 @@ abbrev pub Whole : Skips → ℕ → Type 0
 Whole k w = w / k .step * k .step ≡ w
 
 module _ (s : Settings) (t : List ℕ) where
-  pub aligned-otherwise : (s .alignment ≡ 0 → ⊥) → false ≡ byGlyphs s t
+  pub aligned-otherwise : 2 < s .alignment → false ≡ byGlyphs s t
   unfolding byGlyphs
-  aligned-otherwise d = rw (ne-eqb (s .alignment) 0 d)
+  aligned-otherwise d = rw (lt-leb (s .alignment) 2 d)
 
-  pub aligned-left : s .alignment ≡ 0 → (tab : Bool) → tab ≡ hasTab t → not tab ≡ byGlyphs s t
+  pub aligned-so : s .alignment ≤ 2 → (tab : Bool) → tab ≡ hasTab t → not tab ≡ byGlyphs s t
   unfolding byGlyphs
-  aligned-left e tab is = rw (eq-eqb (s .alignment) 0 e, is)
+  aligned-so e tab is = rw (le-leb (s .alignment) 2 e, is)
 
-  pub skips-glyphs : byGlyphs s t ≡ true → (k : Skips) → k .step ≡ s .glyph .0 → k .enough ≡ length t * s .glyph .0 → k ≡ skipsOf s t
+  pub skips-glyphs : byGlyphs s t ≡ true → (k : Skips) → k .step ≡ s .glyph .0 → k .enough ≡ enoughFor s t → k ≡ skipsOf s t
   unfolding skipsOf
   skips-glyphs e k step enough = (λ i. record { step = step i; enough = enough i }) ∙ sym (pick-true (byGlyphs s t) _ _ e)
 
@@ -63,8 +62,21 @@ module _ (s : Settings) (t : List ℕ) where
   unfolding skipsOf
   skips-none e = sym (pick-false (byGlyphs s t) _ _ e)
 
+-- Twice as many glyphs are asked for where lines are centred, and no more.
+pub asked-centred : (alignment n r : ℕ) → alignment ≡ 1 → r ≡ n + n → r ≡ askedGlyphs alignment n
+unfolding askedGlyphs
+asked-centred alignment n r e is = is ∙ sym (pick-true (eqb alignment 1) _ _ (eq-eqb alignment 1 e))
+
+pub asked-otherwise : (alignment n : ℕ) → (alignment ≡ 1 → ⊥) → n ≡ askedGlyphs alignment n
+unfolding askedGlyphs
+asked-otherwise alignment n d = sym (pick-false (eqb alignment 1) _ _ (ne-eqb alignment 1 d))
+
+pub asked-bound : (alignment n : ℕ) → askedGlyphs alignment n ≤ n + n
+unfolding askedGlyphs
+asked-bound alignment n = pick-cases (λ k. k ≤ n + n) (eqb alignment 1) (λ _. omega arith) (λ _. omega arith)
+
 -- No glyphs side by side are too wide for a number.
-pub glyphs-small : (n glyph : ℕ) → n ≤ textLimit → glyph ≤ 64 → n * glyph ≤ textLimit * 64
+pub glyphs-small : (n glyph : ℕ) → n ≤ textLimit + textLimit → glyph ≤ 64 → n * glyph ≤ (textLimit + textLimit) * 64
 glyphs-small n glyph h small = mul-le-mul h small
 
 -- It is a wider one.
@@ -84,23 +96,21 @@ module _ (s : Settings) (t : List ℕ) (r : TextReady s t) where
   abbrev cs : List ℕ
   cs = decodeAll t
 
-  -- There are no more characters than bytes.
-  few : length cs ≤ length t
-  unfolding charsFrom
-  few = omega (arith, length-size cs, chars-within t 0)
+  -- Characters ask for no more than bytes.
+  fewer : enoughFor s cs ≤ enoughFor s t
+  fewer = mul-le-mul-right (s .glyph .0) (asked-most (s .alignment) (longestPart cs) (longestPart t) (part-read t))
 
-  glyphs-fair : byGlyphs s t ≡ true → SkipsFairly s cs (record { step = s .glyph .0; enough = length t * s .glyph .0 })
+  glyphs-fair : byGlyphs s t ≡ true → SkipsFairly s cs (record { step = s .glyph .0; enough = enoughFor s t })
   unfolding byGlyphs
   glyphs-fair e =
-      let both = and-true (eqb (s .alignment) 0) (not (hasTab t)) e in
-      let left = eqb-true (s .alignment) 0 (both .0) in
+      let both = and-true (leb (s .alignment) 2) (not (hasTab t)) e in
+      let aligned = leb-true (s .alignment) 2 (both .0) in
       let free = no-tab-read t (not-true (hasTab t) (both .1)) in
       let some = r .settings .0 in
-      let enough : length cs * s .glyph .0 ≤ length t * s .glyph .0 = mul-le-mul-right (s .glyph .0) few in
       record {
         small = (some, r .settings .1);
-        within = λ w v h. fits-by-steps s cs left some free w v h;
-        beyond = λ w v h a b c. fits-wide-enough s cs left some free w v h (omega arith) (omega arith);
+        within = λ w v h. fits-by-steps s cs aligned some free w v h;
+        beyond = λ w v h a b c. fits-wide-enough s cs some free aligned w v h (omega (arith, fewer)) (omega (arith, fewer));
       }
 
   each-fair : SkipsFairly s cs (record { step = 1; enough = widestBox })

@@ -5,7 +5,8 @@ ghost use mathlib.Core.Path.{_≡_};
 ghost use lib.ListN.{length};
 ghost use Rattle.basis.specs.Choice.{pick};
 ghost use Rattle.meaning.specs.Checks.{textLimit};
-ghost use Rattle.columns.specs.Filling.{breaks, nextStop, fillWord, fillTo, fillOther, fillBlank, fillBy};
+ghost use Rattle.laws.specs.LineParts.{breaks};
+ghost use Rattle.columns.specs.Filling.{nextStop, fillWord, fillTo, fillOther, fillBlank, fillBy};
 ghost use Rattle.columns.specs.LeadBytes.{leads};
 ghost use Rattle.columns.specs.FillTurns.{FineFill, linesFilled};
 
@@ -39,7 +40,7 @@ fn begins_word(b: u8) -> bool
 }
 
 // LF or CR.
-fn breaks_line(b: u8) -> bool
+pub fn breaks_line(b: u8) -> bool
     ensures { λ r. ⌜ r ≡ breaks b ⌝ }
 {
     if b == 10 {

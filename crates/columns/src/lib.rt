@@ -2,6 +2,7 @@
 mod checked;
 mod filling;
 pub mod fitting;
+mod parts;
 pub mod planning;
 mod skipping;
 mod starting;

@@ -1,45 +1,89 @@
--- Left aligned and without tabs, a text has the same layout in two boxes that the glyphs of its characters do not tell apart: those from
--- whose left edges the same count of glyphs fits, or in both of which as many glyphs fit as there are characters (rule 10).
+-- Without tabs, and not justified, a text has the same lines, but for where they begin, in two boxes that the glyphs of its longest part do
+-- not tell apart: those that hold the same count of glyphs, or in both of which as many fit as the part has characters. Left aligned the
+-- lines are the same (rule 10).
 -- Assumes nothing.
-use Prim.Native.Nat.{ℕ, zero, suc, _+_, _/_, _≤_, min}
-use mathlib.Core.Path.{_≡_, refl, ap, sym, _∙_}
+use Prim.Native.Nat.{ℕ, zero, suc, _+_, _-_, _≤_}
+use mathlib.Core.Path.{_≡_, refl, ap, sym, subst, _∙_}
 use mathlib.Core.Bool.{false}
-use mathlib.Core.List.{List, _∷_, map}
+use mathlib.Core.List.{List, [], _∷_, map}
 use native.Mathlib.Nat.{zero-mul}
 use native.Mathlib.Omega.{arith}
-use borrow.Author.Tests.{eq-eqb}
-use lib.Dec.{eqb}
-use lib.ListN.{length, take, drop, length-drop}
-use Rattle.basis.specs.Choice.{pick-true}
+use lib.ListN.{length, take, drop}
+use Rattle.basis.specs.Choice.{pick}
 use Rattle.unicode.specs.Encoding.{size}
 use Rattle.meaning.specs.Tokens.{Tok}
-use Rattle.meaning.specs.Alignment.{plainSpaces, placedLeft, place}
+use Rattle.meaning.specs.Cursor.{roomOf}
+use Rattle.meaning.specs.Alignment.{plainSpaces, placedLeft}
 use Rattle.meaning.specs.LineIter.{Held, nothingHeld, Ran, process}
-use Rattle.meaning.specs.Line.{unmeasured, measured, lineTokens, startPlace, Line, drawnLine, measuring, placing, lineOf, layLine}
-use Rattle.meaning.specs.Layout.{rowAt, unlessEnded, rowsBy, mostLines, rows, entryOfRow, layout}
+use Rattle.meaning.specs.Line.{unmeasured, measured, lineTokens, startPlace, Line, drawnLine, measuring, placing, lineOf, layLine, entryAt}
+use Rattle.meaning.specs.Layout.{Row, rowAt, unlessEnded, rowsBy, mostLines, rows, entryOfRow, layout}
 use Rattle.meaning.specs.Columns.{withWidth}
 use Rattle.meaning.specs.declared.settings.Settings.{Settings}
+use Rattle.meaning.specs.declared.line.LineEnd.{LineEnd}
+use Rattle.meaning.specs.declared.line.LineEnd.the-variants.{NewLine, CarriageReturn, EndOfText, LineBreak}
 use Rattle.meaning.specs.declared.line.Placed.{Placed}
-use Rattle.laws.specs.LineTokens.{line-tokens-cover, line-tokens-sound}
-use Rattle.laws.specs.LineBounds.{line-held, line-rest}
-use Rattle.laws.specs.RowInduction.{FitsIn}
+use Rattle.meaning.specs.declared.line.Entry.{Entry}
+use Rattle.laws.specs.LineTokens.{line-tokens-cover}
+use Rattle.laws.specs.LineWidths.{plain-spaces, line-width}
+use Rattle.laws.specs.RowInduction.{Each, each-line}
 use Rattle.laws.specs.TabFree.{hasTab, TabFree, free-rest, free-line}
-use Rattle.laws.specs.GlyphLooks.{mostGlyphs, glyphs-chars}
+use Rattle.laws.specs.LineParts.{firstPart, longestPart, first-longest, longest-within, longest-rest}
+use Rattle.laws.specs.PartTokens.{line-in-parts, HeldFirst, first-sound, line-held-first}
+use Rattle.laws.specs.GlyphLooks.{mostGlyphs, glyphs-part}
 use Rattle.laws.specs.GlyphSteps.{pass-alike}
+use Rattle.laws.specs.WholeGlyphs.{Whole, measured-whole}
+use Rattle.laws.specs.GlyphPlaces.{leftOf, placed-plain, SameGlyphs, fewer-same, askedGlyphs, asked-least, asked-most, left-alike, rooms-alike}
 
--- A line that is drawn as it was measured: from the box's left, with plain spaces.
-abbrev asMeasured : Settings → Ran → Line
-asMeasured s r = drawnLine (placedLeft 0 (plainSpaces s)) (measured unmeasured (r .drawn) .width .0) (r .reach) r
+-- ---- but for where they begin
 
-left-line : (s : Settings) (ts : List Tok) → s .alignment ≡ 0 → lineOf s ts ≡ asMeasured s (measuring s ts)
-unfolding lineOf measuring placing place
-left-line s ts e =
+abbrev unplacedLine : Line → Line
+unplacedLine l =
+    record {
+      ended = l .ended;
+      placed = placedLeft 0 (l .placed .spaces);
+      width = l .width;
+      drawn = l .drawn;
+      chars = l .chars;
+      held = l .held;
+      dropped = l .dropped;
+      reach = l .reach;
+    }
+
+-- An entry with no left: all else that it says of its line.
+abbrev pub unplaced : Entry → Entry
+unplaced e =
+    record {
+      start = e .start;
+      rest = e .rest;
+      ending = e .ending;
+      left = record { 0 = 0 };
+      space = e .space;
+      extra = e .extra;
+      width = e .width;
+      dropped = e .dropped;
+      reach = e .reach;
+      before = e .before;
+    }
+
+-- ---- one line
+
+abbrev measuredWidth : Ran → ℕ
+measuredWidth r = measured unmeasured (r .drawn) .width .0
+
+-- The line that is drawn where such a measure places it, with plain spaces.
+abbrev drawnAfter : Settings → List Tok → Ran → Line
+drawnAfter s ts r =
+    let left = leftOf (s .alignment) (s .width .0 - measuredWidth r) in
+    drawnLine (placedLeft left (plainSpaces s)) (measuredWidth r) (r .reach) (process s (startPlace s left (plainSpaces s)) 0 ts)
+
+plain-line : (s : Settings) (ts : List Tok) → s .alignment ≤ 2 → lineOf s ts ≡ drawnAfter s ts (measuring s ts)
+unfolding lineOf placing
+plain-line s ts h =
     let r = measuring s ts in
-    ap
-    (λ (p : Placed). drawnLine p (measured unmeasured (r .drawn) .width .0) (r .reach) (process s (startPlace s (p .left .0) (p .spaces)) 0 ts))
-    (pick-true (eqb (s .alignment) 0) _ _ (eq-eqb (s .alignment) 0 e))
+    ap (λ (p : Placed). drawnLine p (measuredWidth r) (r .reach) (process s (startPlace s (p .left .0) (p .spaces)) 0 ts))
+    (placed-plain s (r .ended) (measuredWidth r) (measured unmeasured (r .drawn) .count .0) h)
 
-module _ (s : Settings) (w v : ℕ) (left : s .alignment ≡ 0) (some : 1 ≤ s .glyph .0) where
+module _ (s : Settings) (w v : ℕ) (aligned : s .alignment ≤ 2) (some : 1 ≤ s .glyph .0) where
   abbrev g : ℕ
   g = s .glyph .0
 
@@ -49,57 +93,137 @@ module _ (s : Settings) (w v : ℕ) (left : s .alignment ≡ 0) (some : 1 ≤ s 
   abbrev b : Settings
   b = withWidth s v
 
-  -- Up to n glyphs do not tell the two boxes apart.
-  abbrev pub SameGlyphs : ℕ → Type 0
-  SameGlyphs n = min (w / g) n ≡ min (v / g) n
-
-  fewer : (m n : ℕ) → m ≤ n → SameGlyphs n → SameGlyphs m
-  fewer m n h e = omega arith
-
-  measured-alike : (ts : List Tok) → TabFree ts → SameGlyphs (mostGlyphs ts) → measuring a ts ≡ measuring b ts
-  unfolding measuring startPlace plainSpaces withWidth
-  measured-alike ts free e =
-      pass-alike s w v some ts (startPlace a 0 (plainSpaces a)) (startPlace b 0 (plainSpaces b) .cursor) 0 free (record { width = refl; extra = refl })
+  -- Passes from two places behind which the same count of glyphs has room.
+  starts-alike : (i j n : ℕ) (ts : List Tok) → TabFree ts → mostGlyphs ts ≤ n → SameGlyphs g (w - i) (v - j) n
+      → process a (startPlace a i (plainSpaces a)) 0 ts ≡ process b (startPlace b j (plainSpaces b)) 0 ts
+  unfolding startPlace plainSpaces withWidth roomOf
+  starts-alike i j n ts free few e =
+      pass-alike s w v some ts (startPlace a i (plainSpaces a)) (startPlace b j (plainSpaces b) .cursor) 0 free (plain-spaces s)
       (record {
         glyphs = 0;
-        here = sym (zero-mul g);
-        there = sym (zero-mul g);
-        box-here = refl;
-        box-there = refl;
-        start = refl;
-        alike = omega (arith, e);
+        here = omega (arith, zero-mul g);
+        there = omega (arith, zero-mul g);
+        alike = fewer-same g (w - i) (v - j) (mostGlyphs ts) n few e;
       })
 
-  tokens-alike : (ts : List Tok) → TabFree ts → SameGlyphs (mostGlyphs ts) → lineOf a ts ≡ lineOf b ts
-  unfolding plainSpaces withWidth
-  tokens-alike ts free e = left-line a ts left ∙ ap (asMeasured a) (measured-alike ts free e) ∙ sym (left-line b ts left)
+  -- What glyphs of a line with so many at most do not tell apart.
+  abbrev Same : ℕ → Type 0
+  Same n = SameGlyphs g w v (askedGlyphs (s .alignment) n)
 
-  line-alike : (h : Held) (cs : List ℕ) → FitsIn cs h → hasTab cs ≡ false → SameGlyphs (length cs) → layLine a h cs ≡ layLine b h cs
-  unfolding layLine
+  module _ (ts : List Tok) (n : ℕ) (free : TabFree ts) (few : mostGlyphs ts ≤ n) (e : Same n) where
+    measured-alike : measuring a ts ≡ measuring b ts
+    unfolding measuring
+    measured-alike =
+        starts-alike 0 0 n ts free few
+        (left-alike g w v n some (fewer-same g w v n (askedGlyphs (s .alignment) n) (asked-least (s .alignment) n) e))
+
+    measured-in-glyphs : Whole g (measuredWidth (measuring a ts))
+    unfolding measuring withWidth startPlace plainSpaces
+    measured-in-glyphs = measured-whole a ts (startPlace a 0 (plainSpaces a)) 0 free (plain-spaces a)
+
+    -- The second passes, after the same measure.
+    draws-alike : (m : ℕ) → Whole g m → m ≤ w → m ≤ v →
+        let i = leftOf (s .alignment) (w - m) in
+        let j = leftOf (s .alignment) (v - m) in
+        process a (startPlace a i (plainSpaces a)) 0 ts ≡ process b (startPlace b j (plainSpaces b)) 0 ts
+    draws-alike m whole x y =
+        starts-alike (leftOf (s .alignment) (w - m)) (leftOf (s .alignment) (v - m)) n ts free few (rooms-alike g w v n some (s .alignment) m whole x y e)
+
+    tokens-alike : measuredWidth (measuring a ts) ≤ w → measuredWidth (measuring b ts) ≤ v → unplacedLine (lineOf a ts) ≡ unplacedLine (lineOf b ts)
+    unfolding withWidth plainSpaces
+    tokens-alike x y =
+        let r = measuring a ts in
+        let m = measuredWidth r in
+        let z : m ≤ v = subst (λ (q : Ran). measuredWidth q ≤ v) (sym measured-alike) y in
+        ap unplacedLine (plain-line a ts aligned)
+        ∙ ap (λ (q : Ran). unplacedLine (drawnLine (placedLeft 0 (plainSpaces s)) m (r .reach) q)) (draws-alike m measured-in-glyphs x z)
+        ∙ ap (λ (q : Ran). unplacedLine (drawnAfter b ts q)) measured-alike
+        ∙ ap unplacedLine (sym (plain-line b ts aligned))
+
+  line-alike : (h : Held) (cs : List ℕ) → HeldFirst h cs → hasTab cs ≡ false → Same (firstPart cs)
+      → unplacedLine (layLine a h cs) ≡ unplacedLine (layLine b h cs)
+  unfolding layLine lineOf withWidth
   line-alike h cs f free e =
       let ts = lineTokens h cs in
-      let few : mostGlyphs ts ≤ length cs = omega (arith, glyphs-chars ts (line-tokens-sound h cs (f .0) (f .1)), ap length (line-tokens-cover h cs)) in
-      tokens-alike ts (free-line h cs free) (fewer (mostGlyphs ts) (length cs) few e)
+      let few : mostGlyphs ts ≤ firstPart cs =
+      subst (λ (c : List ℕ). mostGlyphs ts ≤ firstPart c) (line-tokens-cover h cs) (glyphs-part ts (first-sound s h cs f) (line-in-parts h cs (f .0))) in
+      tokens-alike ts (firstPart cs) (free-line h cs free) few e (line-width a h cs) (line-width b h cs)
 
-  rows-alike : (n start before : ℕ) (h : Held) (cs : List ℕ) → FitsIn cs h → hasTab cs ≡ false → SameGlyphs (length cs)
-      → rowsBy n a start before h cs ≡ rowsBy n b start before h cs
-  unfolding rowsBy
+  -- ---- the lines of a text
+
+  abbrev seen : List Row → List Entry
+  seen rs = map unplaced (map entryOfRow rs)
+
+  unless-seen : (e : LineEnd) (rs qs : List Row) → seen rs ≡ seen qs → seen (unlessEnded e rs) ≡ seen (unlessEnded e qs)
+  unfolding unlessEnded
+  unless-seen EndOfText rs qs d = refl
+  unless-seen NewLine rs qs d = d
+  unless-seen CarriageReturn rs qs d = d
+  unless-seen LineBreak rs qs d = d
+
+  less-same : (m n : ℕ) → m ≤ n → Same n → Same m
+  less-same m n h e = fewer-same g w v (askedGlyphs (s .alignment) m) (askedGlyphs (s .alignment) n) (asked-most (s .alignment) m n h) e
+
+  rows-alike : (n start before : ℕ) (h : Held) (cs : List ℕ) → HeldFirst h cs → hasTab cs ≡ false → Same (longestPart cs)
+      → seen (rowsBy n a start before h cs) ≡ seen (rowsBy n b start before h cs)
+  unfolding rowsBy rowAt entryAt
   rows-alike zero start before h cs f free e = refl
   rows-alike (suc n) start before h cs f free e =
       let l = layLine a h cs in
-      let same = line-alike h cs f free e in
+      let same = line-alike h cs f free (less-same (firstPart cs) (longestPart cs) (first-longest cs) e) in
       let rest = drop (l .chars) cs in
       let next = start + size (take (l .chars) cs) in
       let more =
-      rows-alike n next (before + l .chars) (l .held) rest (line-rest a h cs (f .0) (f .1), line-held a h cs (f .0) (f .1)) (free-rest (l .chars) cs free)
-      (fewer (length rest) (length cs) (omega (arith, length-drop (l .chars) cs)) e) in
-      ap (λ rs. rowAt start before h cs l ∷ unlessEnded (l .ended) rs) more
+      rows-alike n next (before + l .chars) (l .held) rest (line-held-first a h cs f) (free-rest (l .chars) cs free)
+      (less-same (longestPart rest) (longestPart cs) (longest-rest (l .chars) cs) e) in
+      ap (λ (es : List Entry). unplaced (entryAt start before h cs l) ∷ es) (unless-seen (l .ended) _ _ more)
       ∙ ap
       (λ (m : Line).
-      rowAt start before h cs m ∷ unlessEnded (m .ended) (rowsBy n b (start + size (take (m .chars) cs)) (before + m .chars) (m .held) (drop (m .chars) cs)))
+      unplaced (entryAt start before h cs m)
+      ∷ seen (unlessEnded (m .ended) (rowsBy n b (start + size (take (m .chars) cs)) (before + m .chars) (m .held) (drop (m .chars) cs))))
       same
 
-  pub glyphs-tell : (cs : List ℕ) → hasTab cs ≡ false → SameGlyphs (length cs) → layout a cs ≡ layout b cs
+  pub lines-tell : (cs : List ℕ) → hasTab cs ≡ false → SameGlyphs g w v (askedGlyphs (s .alignment) (longestPart cs))
+      → map unplaced (layout a cs) ≡ map unplaced (layout b cs)
   unfolding layout rows
+  lines-tell cs free e = rows-alike (mostLines cs) 0 0 nothingHeld cs (omega arith, omega arith) free e
+
+-- ---- left aligned
+
+all-unplaced : (es : List Entry) → Each (λ (e : Entry). unplaced e ≡ e) es → map unplaced es ≡ es
+all-unplaced [] f = refl
+all-unplaced (e ∷ es) f = λ i. f .0 i ∷ all-unplaced es (f .1) i
+
+-- Every line begins at the box's left.
+left-unplaced : (s : Settings) (cs : List ℕ) → s .alignment ≡ 0 → map unplaced (layout s cs) ≡ layout s cs
+unfolding layLine leftOf pick entryAt
+left-unplaced s cs left =
+    all-unplaced (layout s cs)
+    (each-line s (λ (e : Entry). unplaced e ≡ e)
+    (λ start before h cs.
+    let here : 0 ≡ lineOf s (lineTokens h cs) .placed .left .0 = sym (ap (λ (l : Line). l .placed .left .0) (plain-line s (lineTokens h cs) (omega arith)) ∙ rw left) in
+    let e = entryAt start before h cs (layLine s h cs) in
+    λ i.
+    record {
+      start = e .start;
+      rest = e .rest;
+      ending = e .ending;
+      left = record { 0 = here i };
+      space = e .space;
+      extra = e .extra;
+      width = e .width;
+      dropped = e .dropped;
+      reach = e .reach;
+      before = e .before;
+    })
+    cs)
+
+module _ (s : Settings) (w v : ℕ) (left : s .alignment ≡ 0) (some : 1 ≤ s .glyph .0) where
+  pub glyphs-tell : (cs : List ℕ) → hasTab cs ≡ false → SameGlyphs (s .glyph .0) w v (length cs)
+      → layout (withWidth s w) cs ≡ layout (withWidth s v) cs
+  unfolding askedGlyphs pick withWidth
   glyphs-tell cs free e =
-      ap (map entryOfRow) (rows-alike (mostLines cs) 0 0 nothingHeld cs (omega arith, omega arith) free e)
+      let same = fewer-same (s .glyph .0) w v (longestPart cs) (length cs) (longest-within cs) e in
+      sym (left-unplaced (withWidth s w) cs left)
+      ∙ lines-tell s w v (omega arith) some cs free (rw left same)
+      ∙ left-unplaced (withWidth s v) cs left

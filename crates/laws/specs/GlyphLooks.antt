@@ -6,7 +6,8 @@ use mathlib.Core.Path.{_≡_, refl, sym, subst}
 use mathlib.Core.List.{List, [], _∷_}
 use native.Mathlib.Nat.{add-mul, one-mul}
 use native.Mathlib.Omega.{arith}
-use lib.ListN.{length, length-append}
+use lib.ListN.{length}
+use Rattle.basis.specs.Choice.{pick}
 use Rattle.meaning.specs.Tokens.{Tok, newLine, carriageReturn, tab, softHyphen, space, word, sizeOf, needOf}
 use Rattle.meaning.specs.Cursor.{advance}
 use Rattle.meaning.specs.SpaceConfig.{spacesWidth, spacesAfter}
@@ -18,25 +19,24 @@ use Rattle.meaning.specs.declared.cursor.NextWord.the-variants.{Nothing, Width}
 use Rattle.laws.specs.Spell.{spell, Sound}
 use Rattle.laws.specs.Pens.{Plain, plain-after}
 use Rattle.laws.specs.TabFree.{TabFree}
+use Rattle.laws.specs.LineParts.{breaks, firstPart, part-on, part-joined}
+use Rattle.laws.specs.PartTokens.{InParts}
 use Rattle.laws.specs.GlyphRoom.{Near, fits-alike, one-alike, fits-spaces, near-spaces}
 
--- How many glyphs a token moves the cursor by at most, and how many these tokens do. A tab is none of them.
-abbrev pub glyphsOf : Tok → ℕ
-glyphsOf newLine = 0
-glyphsOf carriageReturn = 0
-glyphsOf tab = 0
-glyphsOf softHyphen = 1
-glyphsOf (space cs n e) = n
-glyphsOf (word cs e) = length cs
-
+-- How many glyphs these tokens move the cursor by at most, up to the first that ends a line. A tab moves it by none of them.
 unfoldable pub mostGlyphs : List Tok → ℕ
 mostGlyphs [] = 0
-mostGlyphs (t ∷ ts) = glyphsOf t + mostGlyphs ts
+mostGlyphs (newLine ∷ ts) = 0
+mostGlyphs (carriageReturn ∷ ts) = 0
+mostGlyphs (tab ∷ ts) = mostGlyphs ts
+mostGlyphs (softHyphen ∷ ts) = 1 + mostGlyphs ts
+mostGlyphs (space cs n e ∷ ts) = n + mostGlyphs ts
+mostGlyphs (word cs e ∷ ts) = length cs + mostGlyphs ts
 
-module _ (g w v : ℕ) (some : 1 ≤ g) where
+module _ (g : ℕ) (some : 1 ≤ g) where
   -- ---- whether the next word fits
 
-  pub next-alike : (ts : List Tok) (x y : LineCursor) (sp : Spaces) (at : ℕ) → TabFree ts → Plain g sp → Near g w v (mostGlyphs ts) x y
+  pub next-alike : (ts : List Tok) (x y : LineCursor) (sp : Spaces) (at : ℕ) → TabFree ts → Plain g sp → Near g (mostGlyphs ts) x y
       → nextFits g x sp at ts ≡ nextFits g y sp at ts
   unfolding nextFits mostGlyphs
   next-alike [] x y sp at free plain m = refl
@@ -44,17 +44,17 @@ module _ (g w v : ℕ) (some : 1 ≤ g) where
   next-alike (carriageReturn ∷ ts) x y sp at free plain m = refl
   next-alike (tab ∷ ts) x y sp at free plain m = absurd free
   next-alike (softHyphen ∷ ts) x y sp at free plain m =
-      let fits = one-alike g w v some (mostGlyphs ts) x y m in
+      let fits = one-alike g some (mostGlyphs ts) x y m in
       λ i. record { fits = fits i; reach = at + needOf softHyphen }
   next-alike (word cs e ∷ ts) x y sp at free plain m =
-      let fits = fits-alike g w v some (length cs + mostGlyphs ts) x y (length cs) m (omega arith) in
+      let fits = fits-alike g some (length cs + mostGlyphs ts) x y (length cs) m (omega arith) in
       λ i. record { fits = fits i; reach = at + needOf (word cs e) }
   next-alike (space cs n e ∷ ts) x y sp at free plain m =
       let t = space cs n e in
-      let fits = fits-spaces g w v some sp plain (n + mostGlyphs ts) x y n m (omega arith) in
+      let fits = fits-spaces g some sp plain (n + mostGlyphs ts) x y n m (omega arith) in
       let more =
       next-alike ts (advance x (spacesWidth sp n)) (advance y (spacesWidth sp n)) (spacesAfter sp n) (at + sizeOf t) free (plain-after g sp n plain)
-      (near-spaces g w v some sp plain (mostGlyphs ts) x y n m) in
+      (near-spaces g some sp plain (mostGlyphs ts) x y n m) in
       λ i. goesOn (fits i) (at + needOf t) (more i)
 
 -- ---- how wide the next word is
@@ -83,9 +83,9 @@ added-glyphs g n k (Width u) h =
 pub ahead-glyphs : (g : ℕ) (ts : List Tok) (n at : ℕ) (u : NextWord) → InGlyphs g n u → InGlyphs g (n + mostGlyphs ts) (nextWidth g u at ts .width)
 unfolding nextWidth mostGlyphs
 ahead-glyphs g [] n at u h = more-glyphs g n 0 u h
-ahead-glyphs g (newLine ∷ ts) n at u h = more-glyphs g n (0 + mostGlyphs ts) u h
-ahead-glyphs g (carriageReturn ∷ ts) n at u h = more-glyphs g n (0 + mostGlyphs ts) u h
-ahead-glyphs g (tab ∷ ts) n at u h = more-glyphs g n (0 + mostGlyphs ts) u h
+ahead-glyphs g (newLine ∷ ts) n at u h = more-glyphs g n 0 u h
+ahead-glyphs g (carriageReturn ∷ ts) n at u h = more-glyphs g n 0 u h
+ahead-glyphs g (tab ∷ ts) n at u h = more-glyphs g n (mostGlyphs ts) u h
 ahead-glyphs g (space cs k e ∷ ts) n at u h = more-glyphs g n (k + mostGlyphs ts) u h
 ahead-glyphs g (softHyphen ∷ ts) n at u h =
     let one = subst (λ (k : ℕ). InGlyphs g (n + 1) (added u k)) (one-mul g) (added-glyphs g n 1 u h) in
@@ -100,13 +100,13 @@ ahead-glyphs g (word cs e ∷ ts) n at u h =
 
 -- ---- how many there are
 
--- No more than characters.
-pub glyphs-chars : (ts : List Tok) → Sound ts → mostGlyphs ts ≤ length (spell ts)
-unfolding mostGlyphs spell
-glyphs-chars [] h = omega arith
-glyphs-chars (newLine ∷ ts) h = omega (arith, glyphs-chars ts (h .1))
-glyphs-chars (carriageReturn ∷ ts) h = omega (arith, glyphs-chars ts (h .1))
-glyphs-chars (tab ∷ ts) h = omega (arith, glyphs-chars ts (h .1))
-glyphs-chars (softHyphen ∷ ts) h = omega (arith, glyphs-chars ts (h .1))
-glyphs-chars (space cs n e ∷ ts) h = rw (length-append cs (spell ts)) (omega (arith, glyphs-chars ts (h .1), h .0 .1))
-glyphs-chars (word cs e ∷ ts) h = rw (length-append cs (spell ts)) (omega (arith, glyphs-chars ts (h .1)))
+-- No more than characters of the text's first part.
+pub glyphs-part : (ts : List Tok) → Sound ts → InParts ts → mostGlyphs ts ≤ firstPart (spell ts)
+unfolding mostGlyphs spell breaks pick
+glyphs-part [] h f = omega arith
+glyphs-part (newLine ∷ ts) h f = omega arith
+glyphs-part (carriageReturn ∷ ts) h f = omega arith
+glyphs-part (tab ∷ ts) h f = omega (arith, part-on 0x0009 (spell ts) refl, glyphs-part ts (h .1) f)
+glyphs-part (softHyphen ∷ ts) h f = omega (arith, part-on 0x00AD (spell ts) refl, glyphs-part ts (h .1) f)
+glyphs-part (space cs n e ∷ ts) h f = omega (arith, part-joined cs (spell ts) (f .0), glyphs-part ts (h .1) (f .1), h .0 .1)
+glyphs-part (word cs e ∷ ts) h f = omega (arith, part-joined cs (spell ts) (f .0), glyphs-part ts (h .1) (f .1))

@@ -1,15 +1,15 @@
--- The room of a line in glyphs. Two boxes from whose left edges the same count of glyphs fits, or at least as many as are asked for, are
--- told apart by nothing that takes whole glyphs (rule 4, rule 8).
+-- The room of a line in glyphs. Two places in two boxes behind which the same count of glyphs fits, or at least as many as are asked for,
+-- are told apart by nothing that takes whole glyphs (rule 4, rule 8).
 -- Assumes nothing.
 use Prim.Native.Nat.{ℕ, _+_, _-_, _*_, _/_, _≤_, _<_, min}
 use mathlib.Core.Path.{_≡_, sym, ap, subst, _∙_}
-use mathlib.Core.Bool.{false, not}
+use mathlib.Core.Bool.{false}
 use native.Mathlib.Nat.{add-mul, one-mul, zero-div, add-mul-div-right, div-lt-iff-lt-mul, le-div-iff-mul-le}
 use native.Mathlib.Omega.{arith}
-use borrow.Author.Tests.{leb-true, leb-false, le-leb}
+use borrow.Author.Tests.{leb-true, leb-false, le-leb, eq-eqb, ne-eqb}
 use lib.Dec.{leb, eqb}
 use Rattle.basis.specs.Choice.{by-test}
-use Rattle.basis.specs.Order.{by-le}
+use Rattle.basis.specs.Order.{by-le, by-eq}
 use Rattle.meaning.specs.Cursor.{roomOf, fitsIn, advance, hasMoved}
 use Rattle.meaning.specs.SpaceConfig.{spacesWidth}
 use Rattle.meaning.specs.declared.cursor.LineCursor.{LineCursor}
@@ -39,86 +39,77 @@ leb-alike m n x y f g =
 
 -- ---- two cursors
 
--- Two cursors after the same count of glyphs, in boxes of the widths w and v, that c glyphs more do not tell apart.
-pub record Near (g w v c : ℕ) (x y : LineCursor) : Type 0 where
+-- Two cursors that have gone by the same count of glyphs from their starting places, and that c glyphs more do not tell apart.
+pub record Near (g c : ℕ) (x y : LineCursor) : Type 0 where
   pub glyphs : ℕ
-  pub here : x .position .0 ≡ glyphs * g
-  pub there : y .position .0 ≡ glyphs * g
-  pub box-here : x .width .0 ≡ w
-  pub box-there : y .width .0 ≡ v
-  pub start : x .start .0 ≡ y .start .0
-  pub alike : min (w / g) (glyphs + c) ≡ min (v / g) (glyphs + c)
+  pub here : x .position .0 ≡ x .start .0 + glyphs * g
+  pub there : y .position .0 ≡ y .start .0 + glyphs * g
+  pub alike : min (roomOf x / g) c ≡ min (roomOf y / g) c
 
-module _ (g w v : ℕ) (some : 1 ≤ g) where
-  room-here : (c : ℕ) (x y : LineCursor) (m : Near g w v c x y) → roomOf x / g ≡ w / g - m .glyphs
-  unfolding roomOf
-  room-here c x y m = rw (m .box-here, m .here) (glyphs-left g w (m .glyphs) some)
+-- A place that is no further on is the starting place.
+stands-at : (start further : ℕ) → eqb (start + further) start ≡ eqb further 0
+stands-at start further =
+    by-eq further 0 (λ e. eq-eqb (start + further) start (omega arith) ∙ sym (eq-eqb further 0 e))
+    (λ d. ne-eqb (start + further) start (λ e. d (omega arith)) ∙ sym (ne-eqb further 0 d))
 
-  room-there : (c : ℕ) (x y : LineCursor) (m : Near g w v c x y) → roomOf y / g ≡ v / g - m .glyphs
-  unfolding roomOf
-  room-there c x y m = rw (m .box-there, m .there) (glyphs-left g v (m .glyphs) some)
+module _ (g : ℕ) (some : 1 ≤ g) where
+  -- Behind n glyphs so many fewer are left.
+  room-moved : (x : LineCursor) (n : ℕ) → roomOf (advance x (n * g)) / g ≡ roomOf x / g - n
+  unfolding roomOf advance
+  room-moved x n =
+      let e : x .width .0 - (x .position .0 + n * g) ≡ x .width .0 - x .position .0 - n * g = omega arith in
+      ap (λ (k : ℕ). k / g) e ∙ glyphs-left g (x .width .0 - x .position .0) n some
 
   -- So many glyphs fit in the one line exactly if they do in the other.
-  pub fits-alike : (c : ℕ) (x y : LineCursor) (n : ℕ) → Near g w v c x y → n ≤ c → fitsIn x (n * g) ≡ fitsIn y (n * g)
+  pub fits-alike : (c : ℕ) (x y : LineCursor) (n : ℕ) → Near g c x y → n ≤ c → fitsIn x (n * g) ≡ fitsIn y (n * g)
   unfolding fitsIn
   fits-alike c x y n m h =
       leb-alike (n * g) (roomOf x) (n * g) (roomOf y)
-      (λ f. le-div-iff-mul-le some .0 (omega (arith, le-div-iff-mul-le {k = g} {x = n} {y = roomOf x} some .1 f, room-here c x y m, room-there c x y m, m .alike)))
-      (λ f. le-div-iff-mul-le some .0 (omega (arith, le-div-iff-mul-le {k = g} {x = n} {y = roomOf y} some .1 f, room-here c x y m, room-there c x y m, m .alike)))
+      (λ f. le-div-iff-mul-le some .0 (omega (arith, le-div-iff-mul-le {k = g} {x = n} {y = roomOf x} some .1 f, m .alike)))
+      (λ f. le-div-iff-mul-le some .0 (omega (arith, le-div-iff-mul-le {k = g} {x = n} {y = roomOf y} some .1 f, m .alike)))
 
   -- Where they do not, the same count of glyphs is left.
-  pub room-alike : (c : ℕ) (x y : LineCursor) (n : ℕ) → Near g w v c x y → n ≤ c → fitsIn x (n * g) ≡ false → roomOf x / g ≡ roomOf y / g
+  pub room-alike : (c : ℕ) (x y : LineCursor) (n : ℕ) → Near g c x y → n ≤ c → fitsIn x (n * g) ≡ false → roomOf x / g ≡ roomOf y / g
   room-alike c x y n m h e =
       let less : roomOf x / g < n = div-lt-iff-lt-mul some .1 (too-wide x (n * g) e) in
-      omega (arith, less, room-here c x y m, room-there c x y m, m .alike)
+      omega (arith, less, m .alike)
 
   -- Both go on by so many glyphs, or by none.
-  pub near-moved : (c : ℕ) (x y : LineCursor) (n : ℕ) → Near g w v (n + c) x y → Near g w v c (advance x (n * g)) (advance y (n * g))
+  pub near-moved : (c : ℕ) (x y : LineCursor) (n : ℕ) → Near g (n + c) x y → Near g c (advance x (n * g)) (advance y (n * g))
   unfolding advance
   near-moved c x y n m =
+      let on = add-mul (m .glyphs) n g in
       record {
         glyphs = m .glyphs + n;
-        here = rw (m .here) (sym (add-mul (m .glyphs) n g));
-        there = rw (m .there) (sym (add-mul (m .glyphs) n g));
-        box-here = m .box-here;
-        box-there = m .box-there;
-        start = m .start;
-        alike = omega (arith, m .alike);
+        here = omega (arith, m .here, on);
+        there = omega (arith, m .there, on);
+        alike = omega (arith, m .alike, room-moved x n, room-moved y n);
       }
 
-  pub near-still : (c n : ℕ) (x y : LineCursor) → Near g w v (n + c) x y → Near g w v c x y
-  near-still c n x y m =
-      record {
-        glyphs = m .glyphs;
-        here = m .here;
-        there = m .there;
-        box-here = m .box-here;
-        box-there = m .box-there;
-        start = m .start;
-        alike = omega (arith, m .alike);
-      }
+  pub near-still : (c n : ℕ) (x y : LineCursor) → Near g (n + c) x y → Near g c x y
+  near-still c n x y m = record { glyphs = m .glyphs; here = m .here; there = m .there; alike = omega (arith, m .alike) }
 
   -- Neither has left its starting place, or both have.
-  pub moved-alike : (c : ℕ) (x y : LineCursor) → Near g w v c x y → hasMoved x ≡ hasMoved y
+  pub moved-alike : (c : ℕ) (x y : LineCursor) → Near g c x y → hasMoved x ≡ hasMoved y
   unfolding hasMoved
   moved-alike c x y m =
-      let position : x .position .0 ≡ y .position .0 = m .here ∙ sym (m .there) in
-      λ i. not (eqb (position i) (m .start i))
+      let further = m .glyphs * g in
+      rw (m .here, m .there, stands-at (x .start .0) further, stands-at (y .start .0) further)
 
   -- One glyph.
-  pub one-alike : (c : ℕ) (x y : LineCursor) → Near g w v (1 + c) x y → fitsIn x g ≡ fitsIn y g
+  pub one-alike : (c : ℕ) (x y : LineCursor) → Near g (1 + c) x y → fitsIn x g ≡ fitsIn y g
   one-alike c x y m = subst (λ (k : ℕ). fitsIn x k ≡ fitsIn y k) (one-mul g) (fits-alike (1 + c) x y 1 m (omega arith))
 
-  pub near-one : (c : ℕ) (x y : LineCursor) → Near g w v (1 + c) x y → Near g w v c (advance x g) (advance y g)
-  near-one c x y m = subst (λ (k : ℕ). Near g w v c (advance x k) (advance y k)) (one-mul g) (near-moved c x y 1 m)
+  pub near-one : (c : ℕ) (x y : LineCursor) → Near g (1 + c) x y → Near g c (advance x g) (advance y g)
+  near-one c x y m = subst (λ (k : ℕ). Near g c (advance x k) (advance y k)) (one-mul g) (near-moved c x y 1 m)
 
   -- ---- spaces
 
   module _ (sp : Spaces) (plain : Plain g sp) (c : ℕ) (x y : LineCursor) (n : ℕ) where
-    pub fits-spaces : Near g w v c x y → n ≤ c → fitsIn x (spacesWidth sp n) ≡ fitsIn y (spacesWidth sp n)
+    pub fits-spaces : Near g c x y → n ≤ c → fitsIn x (spacesWidth sp n) ≡ fitsIn y (spacesWidth sp n)
     fits-spaces m h =
         let e = plain-width g sp n plain in
         ap (fitsIn x) e ∙ fits-alike c x y n m h ∙ sym (ap (fitsIn y) e)
 
-    pub near-spaces : Near g w v (n + c) x y → Near g w v c (advance x (spacesWidth sp n)) (advance y (spacesWidth sp n))
-    near-spaces m = subst (λ (k : ℕ). Near g w v c (advance x k) (advance y k)) (sym (plain-width g sp n plain)) (near-moved c x y n m)
+    pub near-spaces : Near g (n + c) x y → Near g c (advance x (spacesWidth sp n)) (advance y (spacesWidth sp n))
+    near-spaces m = subst (λ (k : ℕ). Near g c (advance x k) (advance y k)) (sym (plain-width g sp n plain)) (near-moved c x y n m)

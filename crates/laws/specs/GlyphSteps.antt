@@ -29,10 +29,10 @@ use Rattle.laws.specs.Pens.{Plain, plain-after, plain-width}
 use Rattle.laws.specs.Steps.{too-wide, some-spaces}
 use Rattle.laws.specs.TabFree.{TabFree, free-next}
 use Rattle.laws.specs.GlyphRoom.{Near, fits-alike, room-alike, near-moved, near-still, moved-alike, one-alike, near-one, fits-spaces, near-spaces}
-use Rattle.laws.specs.GlyphLooks.{glyphsOf, mostGlyphs, next-alike, InGlyphs, ahead-glyphs}
+use Rattle.laws.specs.GlyphLooks.{mostGlyphs, next-alike, InGlyphs, ahead-glyphs}
 
 -- Two choices by tests that go alike.
-both-picked {ℓ} : {X : Type ℓ} (R : X → X → Type 0) (t u : Bool) {x x′ y y′ : X} → t ≡ u → (t ≡ true → R x x′) → (t ≡ false → R y y′)
+pub both-picked {ℓ} : {X : Type ℓ} (R : X → X → Type 0) (t u : Bool) {x x′ y y′ : X} → t ≡ u → (t ≡ true → R x x′) → (t ≡ false → R y y′)
     → R (pick t x y) (pick u x′ y′)
 unfolding pick
 both-picked R true true e f g = f refl
@@ -45,17 +45,17 @@ abbrev pub atCursor : Place → LineCursor → Place
 atCursor p y = record { cursor = y; spaces = p .spaces; empty = p .empty }
 
 -- The second place is the first with a cursor that c glyphs more do not tell apart.
-record Beside (g w v c : ℕ) (p q : Place) : Type 0 where
+record Beside (g c : ℕ) (p q : Place) : Type 0 where
   same : q ≡ atCursor p (q .cursor)
-  near : Near g w v c (p .cursor) (q .cursor)
+  near : Near g c (p .cursor) (q .cursor)
   plain : Plain g (p .spaces)
 
 -- Both steps go on, from places side by side, and draw the same; or both end the line, and alike.
-abbrev Alike : (g w v c : ℕ) → Step → Step → Type 0
-Alike g w v c (go p ds r) (go q es r′) = Beside g w v c p q × (ds ≡ es) × (r ≡ r′)
-Alike g w v c (go p ds r) (stop e es k h d r′) = ⊥
-Alike g w v c (stop e ds k h d r) (go q es r′) = ⊥
-Alike g w v c (stop e ds k h d r) (stop e′ es k′ h′ d′ r′) = stop e ds k h d r ≡ stop e′ es k′ h′ d′ r′
+abbrev Alike : (g c : ℕ) → Step → Step → Type 0
+Alike g c (go p ds r) (go q es r′) = Beside g c p q × (ds ≡ es) × (r ≡ r′)
+Alike g c (go p ds r) (stop e es k h d r′) = ⊥
+Alike g c (stop e ds k h d r) (go q es r′) = ⊥
+Alike g c (stop e ds k h d r) (stop e′ es k′ h′ d′ r′) = stop e ds k h d r ≡ stop e′ es k′ h′ d′ r′
 
 module _ (s : Settings) (w v : ℕ) (some : 1 ≤ s .glyph .0) where
   abbrev g : ℕ
@@ -69,11 +69,11 @@ module _ (s : Settings) (w v : ℕ) (some : 1 ≤ s .glyph .0) where
 
   -- ---- looking ahead
 
-  draws-alike : (p : Place) (y : LineCursor) (at : ℕ) (ts : List Tok) → TabFree ts → Plain g (p .spaces) → Near g w v (mostGlyphs ts) (p .cursor) y
+  draws-alike : (p : Place) (y : LineCursor) (at : ℕ) (ts : List Tok) → TabFree ts → Plain g (p .spaces) → Near g (mostGlyphs ts) (p .cursor) y
       → drawsSpace a p at ts ≡ drawsSpace b (atCursor p y) at ts
   unfolding drawsSpace withWidth
   draws-alike p y at ts free plain m =
-      ap (λ (l : Looked). pick (p .empty) (record { fits = true; reach = 0 }) l) (next-alike g w v some ts (p .cursor) y (p .spaces) at free plain m)
+      ap (λ (l : Looked). pick (p .empty) (record { fits = true; reach = 0 }) l) (next-alike g some ts (p .cursor) y (p .spaces) at free plain m)
 
   -- ---- one token
 
@@ -85,25 +85,25 @@ module _ (s : Settings) (w v : ℕ) (some : 1 ≤ s .glyph .0) where
     q = atCursor p y
 
     abbrev P : Step → Step → Type 0
-    P = Alike g w v c
+    P = Alike g c
 
     -- Both go on by the glyphs of a word, or stand still.
-    goes : (cs : List ℕ) → Near g w v (length cs + c) x y → Beside g w v c (afterWord a p cs) (afterWord b q cs)
+    goes : (cs : List ℕ) → Near g (length cs + c) x y → Beside g c (afterWord a p cs) (afterWord b q cs)
     unfolding withWidth
-    goes cs m = record { same = refl; near = near-moved g w v some c x y (length cs) m; plain = plain-after g (p .spaces) (glues cs) plain }
+    goes cs m = record { same = refl; near = near-moved g some c x y (length cs) m; plain = plain-after g (p .spaces) (glues cs) plain }
 
-    stands : (n : ℕ) → Near g w v (n + c) x y → Beside g w v c p q
-    stands n m = record { same = refl; near = near-still g w v some c n x y m; plain = plain }
+    stands : (n : ℕ) → Near g (n + c) x y → Beside g c p q
+    stands n m = record { same = refl; near = near-still g some c n x y m; plain = plain }
 
     -- A space run.
-    cut-run-alike : (cs : List ℕ) (n : ℕ) → Near g w v (n + c) x y → fitsIn x (spacesWidth (p .spaces) n) ≡ false
+    cut-run-alike : (cs : List ℕ) (n : ℕ) → Near g (n + c) x y → fitsIn x (spacesWidth (p .spaces) n) ≡ false
         → P (cutRun p at cs n (spacesWidth (p .spaces) n)) (cutRun q at cs n (spacesWidth (p .spaces) n))
     unfolding cutRun
     cut-run-alike cs n m e =
         let width = spacesWidth (p .spaces) n in
         let wide = plain-width g (p .spaces) n plain in
         let single : width / n ≡ g = ap (λ (k : ℕ). k / n) wide ∙ mul-div-cancel-left g (some-spaces (p .spaces) n _ (too-wide x width e)) in
-        let room = room-alike g w v some (n + c) x y n m (omega arith) (sym (ap (fitsIn x) wide) ∙ e) in
+        let room = room-alike g some (n + c) x y n m (omega arith) (sym (ap (fitsIn x) wide) ∙ e) in
         let same : roomOf x / (width / n) ≡ roomOf y / (width / n) = rw single room in
         ap
         (λ (fitting : ℕ).
@@ -111,60 +111,60 @@ module _ (s : Settings) (w v : ℕ) (some : 1 ≤ s .glyph .0) where
         (heldAfter (length cs) n (min (fitting + 1) n)) 0 0)
         same
 
-    space-alike : (cs : List ℕ) (n : ℕ) (look look′ : Looked) → Near g w v (n + c) x y → look ≡ look′ → P (onSpace a p at cs n look) (onSpace b q at cs n look′)
+    space-alike : (cs : List ℕ) (n : ℕ) (look look′ : Looked) → Near g (n + c) x y → look ≡ look′ → P (onSpace a p at cs n look) (onSpace b q at cs n look′)
     unfolding onSpace skips withWidth
     space-alike cs n look look′ m l =
         let width = spacesWidth (p .spaces) n in
         let used = plain-after g (p .spaces) n plain in
         both-picked P (skips a p) (skips b q) refl
-        (λ _. (record { same = refl; near = near-still g w v some c n x y m; plain = used }, refl, refl))
+        (λ _. (record { same = refl; near = near-still g some c n x y m; plain = used }, refl, refl))
         (λ _.
-        both-picked P (fitsIn x width) (fitsIn y width) (fits-spaces g w v some (p .spaces) plain (n + c) x y n m (omega arith))
+        both-picked P (fitsIn x width) (fitsIn y width) (fits-spaces g some (p .spaces) plain (n + c) x y n m (omega arith))
         (λ _. (
-          record { same = refl; near = near-spaces g w v some (p .spaces) plain c x y n m; plain = used },
+          record { same = refl; near = near-spaces g some (p .spaces) plain c x y n m; plain = used },
           λ i. drawn Space at (at + size cs) n (when (l i .fits) width) ∷ [],
           λ i. l i .reach,
         ))
         (cut-run-alike cs n m))
 
     -- A soft hyphen.
-    hyphen-alike : (reach : ℕ) → Near g w v (1 + c) x y → P (hyphenated a p at reach) (hyphenated b q at reach)
+    hyphen-alike : (reach : ℕ) → Near g (1 + c) x y → P (hyphenated a p at reach) (hyphenated b q at reach)
     unfolding hyphenated withWidth
     hyphen-alike reach m =
-        both-picked P (fitsIn x g) (fitsIn y g) (one-alike g w v some c x y m)
+        both-picked P (fitsIn x g) (fitsIn y g) (one-alike g some c x y m)
         (λ _.
         both-picked P (p .empty) (p .empty) refl
-        (λ _. (record { same = refl; near = near-one g w v some c x y m; plain = plain }, refl, refl)) (λ _. refl))
+        (λ _. (record { same = refl; near = near-one g some c x y m; plain = plain }, refl, refl)) (λ _. refl))
         (λ _. both-picked P (p .empty) (p .empty) refl (λ _. (stands 1 m, refl, refl)) (λ _. refl))
 
-    break-alike : (u : NextWord) (reach : ℕ) → Near g w v (1 + c) x y → InGlyphs g (1 + c) u → P (onBreak a p at u reach) (onBreak b q at u reach)
+    break-alike : (u : NextWord) (reach : ℕ) → Near g (1 + c) x y → InGlyphs g (1 + c) u → P (onBreak a p at u reach) (onBreak b q at u reach)
     unfolding onBreak
     break-alike Nothing reach m h = (stands 1 m, refl, refl)
     break-alike (Width u) reach m h =
-        let fits : fitsIn x (u .0) ≡ fitsIn y (u .0) = rw (h .is) (fits-alike g w v some (1 + c) x y (h .count) m (h .few)) in
+        let fits : fitsIn x (u .0) ≡ fitsIn y (u .0) = rw (h .is) (fits-alike g some (1 + c) x y (h .count) m (h .few)) in
         both-picked P (p .empty || not (fitsIn x (u .0))) (p .empty || not (fitsIn y (u .0))) (λ i. p .empty || not (fits i))
         (λ _. hyphen-alike reach m) (λ _. (stands 1 m, refl, refl))
 
     -- A word.
-    cut-word-alike : (cs : List ℕ) → Near g w v (length cs + c) x y → fitsIn x (length cs * g) ≡ false → P (cutWord a p at cs) (cutWord b q at cs)
+    cut-word-alike : (cs : List ℕ) → Near g (length cs + c) x y → fitsIn x (length cs * g) ≡ false → P (cutWord a p at cs) (cutWord b q at cs)
     unfolding cutWord unfitWord withWidth
     cut-word-alike cs m e =
-        let room = room-alike g w v some (length cs + c) x y (length cs) m (omega arith) e in
-        let moved = moved-alike g w v some (length cs + c) x y m in
+        let room = room-alike g some (length cs + c) x y (length cs) m (omega arith) e in
+        let moved = moved-alike g some (length cs + c) x y m in
         both-picked P (eqb (roomOf x / g) 0) (eqb (roomOf y / g) 0) (λ i. eqb (room i) 0)
         (λ _. both-picked P (wrapOn a && hasMoved x) (wrapOn b && hasMoved y) (λ i. wrapOn a && moved i) (λ _. refl) (λ _. refl))
         (λ _. ap (λ (fitting : ℕ). stop LineBreak (drawnWord g (p .spaces) at (take fitting cs)) fitting nothingHeld 0 0) room)
 
-    word-alike : (cs : List ℕ) → Near g w v (length cs + c) x y → P (onWord a p at cs) (onWord b q at cs)
+    word-alike : (cs : List ℕ) → Near g (length cs + c) x y → P (onWord a p at cs) (onWord b q at cs)
     unfolding onWord withWidth
     word-alike cs m =
-        both-picked P (fitsIn x (length cs * g)) (fitsIn y (length cs * g)) (fits-alike g w v some (length cs + c) x y (length cs) m (omega arith))
+        both-picked P (fitsIn x (length cs * g)) (fitsIn y (length cs * g)) (fits-alike g some (length cs + c) x y (length cs) m (omega arith))
         (λ _. (goes cs m, refl, refl))
         (λ e. both-picked P (p .empty) (p .empty) refl (λ _. cut-word-alike cs m e) (λ _. refl))
 
   step-alike : (t : Tok) (ts : List Tok) (p : Place) (y : LineCursor) (at : ℕ) → TabFree (t ∷ ts) → Plain g (p .spaces)
-      → Near g w v (glyphsOf t + mostGlyphs ts) (p .cursor) y → Alike g w v (mostGlyphs ts) (step a p at t ts) (step b (atCursor p y) at t ts)
-  unfolding step withWidth
+      → Near g (mostGlyphs (t ∷ ts)) (p .cursor) y → Alike g (mostGlyphs ts) (step a p at t ts) (step b (atCursor p y) at t ts)
+  unfolding step withWidth mostGlyphs
   step-alike newLine ts p y at free plain m = refl
   step-alike carriageReturn ts p y at free plain m = refl
   step-alike tab ts p y at free plain m = absurd free
@@ -176,11 +176,11 @@ module _ (s : Settings) (w v : ℕ) (some : 1 ≤ s .glyph .0) where
       let width = spacesWidth (p .spaces) n in
       space-alike p y at (mostGlyphs ts) plain cs n _ _ m
       (draws-alike (movedOn (usedUp p n) width) (advance y width) (at + sizeOf (space cs n e)) ts free (plain-after g (p .spaces) n plain)
-      (near-spaces g w v some (p .spaces) plain (mostGlyphs ts) (p .cursor) y n m))
+      (near-spaces g some (p .spaces) plain (mostGlyphs ts) (p .cursor) y n m))
   step-alike (word cs e) ts p y at free plain m = word-alike p y at (mostGlyphs ts) plain cs m
 
-  on-alike : (c here n : ℕ) (x y : Step) (more more′ : Place → Ran) → Alike g w v c x y
-      → ((p : Place) (z : LineCursor) → Plain g (p .spaces) → Near g w v c (p .cursor) z → more p ≡ more′ (atCursor p z))
+  on-alike : (c here n : ℕ) (x y : Step) (more more′ : Place → Ran) → Alike g c x y
+      → ((p : Place) (z : LineCursor) → Plain g (p .spaces) → Near g c (p .cursor) z → more p ≡ more′ (atCursor p z))
       → passOn here n x more ≡ passOn here n y more′
   on-alike c here n (go p ds r) (go q es r′) more more′ k f =
       let m = f p (q .cursor) (k .0 .plain) (k .0 .near) ∙ sym (ap more′ (k .0 .same)) in
@@ -197,9 +197,9 @@ module _ (s : Settings) (w v : ℕ) (some : 1 ≤ s .glyph .0) where
   on-alike c here n (stop e ds l h d r) (go q es r′) more more′ k f = absurd k
   on-alike c here n (stop e ds l h d r) (stop e′ es l′ h′ d′ r′) more more′ k f = ap (λ (x : Step). passOn here n x more) k
 
-  pub pass-alike : (ts : List Tok) (p : Place) (y : LineCursor) (at : ℕ) → TabFree ts → Plain g (p .spaces) → Near g w v (mostGlyphs ts) (p .cursor) y
+  pub pass-alike : (ts : List Tok) (p : Place) (y : LineCursor) (at : ℕ) → TabFree ts → Plain g (p .spaces) → Near g (mostGlyphs ts) (p .cursor) y
       → process a p at ts ≡ process b (atCursor p y) at ts
-  unfolding process mostGlyphs
+  unfolding process
   pass-alike [] p y at free plain m = refl
   pass-alike (t ∷ ts) p y at free plain m =
       on-alike (mostGlyphs ts) (at + needOf t) (charsOf t) (step a p at t ts) (step b (atCursor p y) at t ts) (λ q. process a q (at + sizeOf t) ts)

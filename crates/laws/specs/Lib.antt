@@ -10,6 +10,7 @@ pub mod PagesAgain
 pub mod PagesKept
 pub mod PagingCalls
 pub mod PartChars
+pub mod PartTokens
 pub mod Between
 pub mod Choosing
 pub mod ChoosingCalls
@@ -26,6 +27,7 @@ pub mod FoundLines
 pub mod Fuel
 pub mod GlyphLines
 pub mod GlyphLooks
+pub mod GlyphPlaces
 pub mod GlyphRoom
 pub mod GlyphSteps
 pub mod GoodChecks
@@ -41,6 +43,7 @@ pub mod LayoutBounds
 pub mod LayoutCalls
 pub mod LineBounds
 pub mod LineLocal
+pub mod LineParts
 pub mod LineTokens
 pub mod LineUnder
 pub mod LineWidths
@@ -90,6 +93,7 @@ pub mod TestOrder
 pub mod TokenLaws
 pub mod TokensAgree
 pub mod WellFormedLayout
+pub mod WholeGlyphs
 pub mod WideEnough
 pub mod WidthSteps
 pub mod WrittenPast

@@ -6,9 +6,6 @@ use Rattle.columns.specs.Skipping.{glyphs-small}
 use Rattle.columns.proofs.skipping.glyphs_wide.Statement.{statement}
 use Rattle.columns.proofs.skipping.glyphs_wide.Tie as tie
 
-cast-many : tie.Need-cast-many
-cast-many c = search needs
-
 mul-result : tie.Need-mul-result
 mul-result c =
     let start = c .before in
@@ -18,4 +15,4 @@ returns : tie.Need-returns
 returns c = search needs
 
 pub glyphs-wide-spec : {M : Type 1} → statement M
-glyphs-wide-spec = tie.close (tie.spec cast-many mul-result returns)
+glyphs-wide-spec = tie.close (tie.spec mul-result returns)
