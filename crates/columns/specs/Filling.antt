@@ -1,25 +1,20 @@
 -- Lines filled with a text, character by character or byte by byte, from the left and with plain spaces. What is further on stays further on,
 -- and a wider box is filled no sooner (rule 4, rule 8).
 -- Assumes nothing.
-use Prim.Native.Nat.{ℕ, _+_, _*_, _/_, _≤_, _<_, min}
+use Prim.Native.Nat.{ℕ, _+_, _≤_, _<_, min}
 use mathlib.Core.Path.{_≡_, refl, sym, _∙_}
 use mathlib.Core.Bool.{Bool, true, false, false≢true}
 use mathlib.Core.List.{List, [], _∷_, _++_}
-use native.Mathlib.Nat.{div-mul-le-self, le-div-iff-mul-le, mul-le-mul-right}
 use native.Mathlib.Omega.{arith}
-use borrow.Author.Tests.{leb-true, leb-false, eq-eqb, ne-eqb, eqb-false}
+use borrow.Author.Tests.{leb-true, leb-false}
 use lib.Dec.{leb, eqb}
 use Rattle.basis.specs.Choice.{pick, pick-cases}
 use Rattle.basis.specs.Order.{by-lt, by-eq}
 use Rattle.laws.specs.LineParts.{breaks}
-use Rattle.moves.specs.FineLaws.{next-stop}
+use Rattle.laws.specs.TabStops.{nextStop, stop-more, stop-on}
 use Rattle.columns.specs.declared.filling.Fill.{Fill}
 
 -- ---- what a character does, told by a test of those that words are made of
-
--- The first multiple of the tab width above a place, which stays where it is if that width is 0.
-unfoldable pub nextStop : (tab at : ℕ) → ℕ
-nextStop tab at = pick (eqb tab 0) at ((at / tab + 1) * tab)
 
 -- So many lines are full, and nothing is in the next one.
 abbrev pub emptyLine : ℕ → Fill
@@ -132,19 +127,6 @@ module _ (w : ℕ) where
       (λ _. under-fewer (fillOther x) _ refl (omega arith))
 
 -- ---- a character more
-
--- A stop further on for a place further on.
-stop-more : (t a b : ℕ) → a ≤ b → nextStop t a ≤ nextStop t b
-unfolding nextStop pick
-stop-more t a b h =
-    by-eq t 0 (λ e. rw (eq-eqb t 0 e) h)
-    (λ d.
-    let up : a / t ≤ b / t = le-div-iff-mul-le {k = t} (omega arith) .1 (omega (arith, div-mul-le-self a t)) in
-    rw (ne-eqb t 0 d) (mul-le-mul-right t (omega (arith, up))))
-
-pub stop-on : (t a : ℕ) → a ≤ nextStop t a
-unfolding nextStop
-stop-on t a = pick-cases (λ n. a ≤ n) (eqb t 0) (λ _. omega arith) (λ e. next-stop a t (omega (arith, eqb-false t 0 e)) .0)
 
 -- Two choices by the same test.
 both-picked : (R : Fill → Fill → Type 0) (b : Bool) {x y x′ y′ : Fill} → R x x′ → R y y′ → R (pick b x y) (pick b x′ y′)

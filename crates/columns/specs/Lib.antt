@@ -4,6 +4,7 @@ pub mod OtherWidths
 pub mod Tabs
 pub mod PartBytes
 pub mod Skipping
+pub mod FairSkips
 pub mod WidthTurns
 pub mod Filling
 pub mod TokenFilling

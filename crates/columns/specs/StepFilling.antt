@@ -7,11 +7,10 @@ use mathlib.Core.Bool.{Bool, true, false, _&&_, _||_, not, false≢true}
 use mathlib.Core.List.{List, [], _∷_, _++_, append-assoc}
 use native.Mathlib.Nat.{zero-mul, div-mul-le-self, mul-le-mul-left, mul-le-mul-right}
 use native.Mathlib.Omega.{arith}
-use borrow.Author.Tests.{leb-true, ne-eqb, eq-eqb}
+use borrow.Author.Tests.{leb-true}
 use lib.Dec.{eqb}
 use lib.ListN.{length, take, drop, length-take, take-append-drop}
-use Rattle.basis.specs.Choice.{pick, pick-cases, pick-false, by-test, and-true}
-use Rattle.basis.specs.Order.{by-eq}
+use Rattle.basis.specs.Choice.{pick-cases, pick-false, by-test, and-true}
 use Rattle.meaning.specs.Tokens.{Tok, newLine, carriageReturn, tab, softHyphen, space, word, counted}
 use Rattle.meaning.specs.Cursor.{roomOf, fitsIn, advance, hasMoved, tabWidth}
 use Rattle.meaning.specs.SpaceConfig.{spacesWidth, spacesAfter}
@@ -26,8 +25,8 @@ use Rattle.meaning.specs.declared.cursor.NextWord.the-variants.{Nothing, Width}
 use Rattle.laws.specs.Spell.{textOf, spell, SoundTok}
 use Rattle.laws.specs.Runs.{Pass, Stops}
 use Rattle.laws.specs.Steps.{too-wide, some-spaces}
-use Rattle.moves.specs.FineLaws.{next-stop}
-use Rattle.columns.specs.Filling.{nextStop, emptyLine, fillOther, fillBlank, fillBy, fillAll, fill-append, Under, under-self, under-fewer, under-by, fill-under}
+use Rattle.laws.specs.TabStops.{nextStop, tab-to}
+use Rattle.columns.specs.Filling.{emptyLine, fillOther, fillBlank, fillBy, fillAll, fill-append, Under, under-self, under-fewer, under-by, fill-under}
 use Rattle.columns.specs.TokenFilling.{run-still, run-rested, run-fills, word-fills, tab-fills, hyphen-fills, new-line-fills, return-fills}
 use Rattle.columns.specs.declared.filling.Fill.{Fill}
 
@@ -194,12 +193,8 @@ module _ (s : Settings) (some : 1 ≤ s .glyph .0) (l : ℕ) (p : Place) (at : �
 
   -- ---- a tab
 
-  tab-to : nextStop (s .tab .0) position ≡ position + tabWidth (p .cursor)
-  unfolding nextStop tabWidth pick
-  tab-to =
-      subst (λ (t : ℕ). nextStop t position ≡ position + tabWidth (p .cursor)) (f .tab)
-      (by-eq (p .cursor .tab .0) 0 (λ e. rw (eq-eqb (p .cursor .tab .0) 0 e) (omega arith))
-      (λ d. rw (ne-eqb (p .cursor .tab .0) 0 d) (omega (arith, next-stop position (p .cursor .tab .0) (omega arith) .0))))
+  tab-stop : nextStop (s .tab .0) position ≡ position + tabWidth (p .cursor)
+  tab-stop = subst (λ (t : ℕ). nextStop t position ≡ position + tabWidth (p .cursor)) (f .tab) (tab-to (p .cursor))
 
   -- The pass stands as far on as the tab goes, or at the edge.
   tab-under : (to : ℕ) → position ≤ to → (not (p .empty) ≡ true → min (nextStop (s .tab .0) position) w ≤ to)
@@ -221,7 +216,7 @@ module _ (s : Settings) (some : 1 ≤ s .glyph .0) (l : ℕ) (p : Place) (at : �
       ))
       λ _.
       pick-cases P (fitsIn (p .cursor) (tabWidth (p .cursor)))
-      (λ e. (box-on _ _ _ (fits-by _ e) refl, goes (0x0009 ∷ []) rest _ (tab-under _ (omega arith) (λ _. omega (arith, tab-to)))))
+      (λ e. (box-on _ _ _ (fits-by _ e) refl, goes (0x0009 ∷ []) rest _ (tab-under _ (omega arith) (λ _. omega (arith, tab-stop)))))
       (λ _. (box-on _ _ _ (omega arith) refl, goes (0x0009 ∷ []) rest _ (tab-under _ (omega arith) (λ _. omega (arith, room-is)))))
 
   -- ---- a soft hyphen

@@ -16,7 +16,8 @@ use Rattle.meaning.specs.Tokens.{space, word, counted}
 use Rattle.meaning.specs.Characters.{Class, lf, cr, ht, shy, zwsp, blank, letter, wordClass, runClass, glue, classOf, inWord, inRun}
 use Rattle.laws.specs.Runs.{Pass}
 use Rattle.laws.specs.LineParts.{breaks, other-than, others-break}
-use Rattle.columns.specs.Filling.{nextStop, emptyLine, fillWord, fillTo, fillOther, fillBlank, fillBy, fillAll}
+use Rattle.laws.specs.TabStops.{nextStop}
+use Rattle.columns.specs.Filling.{emptyLine, fillWord, fillTo, fillOther, fillBlank, fillBy, fillAll}
 use Rattle.columns.specs.declared.filling.Fill.{Fill}
 
 -- ---- the characters of a run

@@ -1,12 +1,13 @@
 // Lines filled with a text's bytes, from the left and with plain spaces: no layout that drops nothing has so few (rule 4, rule 8, rule 10).
 use basis::numbers::lesser;
-ghost use Prim.Native.Nat.{_+_, _≤_};
+ghost use Prim.Native.Nat.{_+_, _*_, _≤_};
 ghost use mathlib.Core.Path.{_≡_};
 ghost use lib.ListN.{length};
 ghost use Rattle.basis.specs.Choice.{pick};
 ghost use Rattle.meaning.specs.Checks.{textLimit};
 ghost use Rattle.laws.specs.LineParts.{breaks};
-ghost use Rattle.columns.specs.Filling.{nextStop, fillWord, fillTo, fillOther, fillBlank, fillBy};
+ghost use Rattle.laws.specs.TabStops.{nextStop};
+ghost use Rattle.columns.specs.Filling.{fillWord, fillTo, fillOther, fillBlank, fillBy};
 ghost use Rattle.columns.specs.LeadBytes.{leads};
 ghost use Rattle.columns.specs.FillTurns.{FineFill, linesFilled};
 
@@ -86,8 +87,8 @@ fn fill_word(glyph: u32, tab: u32, w: u32, f: Fill) -> Fill
 }
 
 // The first multiple of the tab width above a place, which stays where it is if that width is 0.
-fn next_stop(tab: u32, at: u32) -> u32
-    requires { ⌜ (tab ≤ 4096) × (at ≤ 4096) ⌝ }
+pub fn next_stop(tab: u32, at: u32) -> u32
+    requires { ⌜ (tab ≤ 4096) × (at ≤ textLimit * 4096) ⌝ }
     ensures { λ r. ⌜ r ≡ nextStop tab at ⌝ }
 {
     if tab == 0 {

@@ -1,36 +1,51 @@
-// The parts of a text between its ends of lines, in bytes (rule 2).
+// How wide the parts of a text between its ends of lines are, laid out in one line each: by its bytes (rule 2, rule 4).
 use crate::filling::breaks_line;
+use crate::filling::next_stop;
 use basis::numbers::greater;
-ghost use Prim.Native.Nat.{_+_, _≤_};
+ghost use Prim.Native.Nat.{_*_, _≤_};
 ghost use mathlib.Core.Path.{_≡_};
 ghost use lib.ListN.{length};
 ghost use Rattle.basis.specs.Choice.{pick};
 ghost use Rattle.meaning.specs.Checks.{textLimit};
-ghost use Rattle.laws.specs.LineParts.{breaks, longestPart};
+ghost use Rattle.laws.specs.LineParts.{breaks};
+ghost use Rattle.laws.specs.WidestPart.{pastChar, widestPart};
 
-// How long the part at hand is after one byte more: an end of a line begins another.
-fn part_after(b: u8, part: u32) -> u32
-    requires { ⌜ part ≤ textLimit ⌝ }
-    ensures { λ r. ⌜ r ≡ pick (breaks b) 0 (part + 1) ⌝ }
+// The place behind one more byte of a part: a tab goes to its stop, and no less than a glyph is counted for it.
+fn past_byte(glyph: u32, tab: u32, at: u32, b: u8) -> u32
+    requires { ⌜ (glyph ≤ 64) × (tab ≤ 4096) × (at ≤ textLimit * 4096) ⌝ }
+    ensures { λ r. ⌜ r ≡ pastChar glyph tab at b ⌝ }
+{
+    let on = at + glyph;
+    if b == 9 {
+        let stop = next_stop(tab, at);
+        return greater(stop, on);
+    }
+    on
+}
+
+// The same, or the front of the next part.
+fn place_after(glyph: u32, tab: u32, at: u32, b: u8) -> u32
+    requires { ⌜ (glyph ≤ 64) × (tab ≤ 4096) × (at ≤ textLimit * 4096) ⌝ }
+    ensures { λ r. ⌜ r ≡ pick (breaks b) 0 (pastChar glyph tab at b) ⌝ }
 {
     if breaks_line(b) {
         return 0;
     }
-    part + 1
+    past_byte(glyph, tab, at, b)
 }
 
-// How long the longest is.
-pub fn longest_part(text: &[u8]) -> u32
-    requires { ⌜ length (now text) ≤ textLimit ⌝ }
-    ensures { λ r. ⌜ r ≡ longestPart (now (text .entry)) ⌝ }
+// The width of the widest part.
+pub fn widest_part(glyph: u32, tab: u32, text: &[u8]) -> u32
+    requires { ⌜ (glyph ≤ 64) × (tab ≤ 4096) × (length (now text) ≤ textLimit) ⌝ }
+    ensures { λ r. ⌜ (r ≡ widestPart glyph tab (now (text .entry))) × (r ≤ textLimit * 4096) ⌝ }
 {
-    let mut longest: u32 = 0;
-    let mut part: u32 = 0;
+    let mut widest: u32 = 0;
+    let mut at: u32 = 0;
     let mut i: usize = 0;
     while i < text.len() {
-        part = part_after(text[i], part);
-        longest = greater(longest, part);
+        at = place_after(glyph, tab, at, text[i]);
+        widest = greater(widest, at);
         i += 1;
     }
-    longest
+    widest
 }

@@ -1,14 +1,14 @@
 // Which widths need not be tried: those that lay a text as one does that was (rule 8, rule 10).
-use crate::parts::longest_part;
+use crate::parts::widest_part;
 use crate::width::WIDEST_BOX;
 use meaning::settings::Settings;
-ghost use Prim.Native.Nat.{_+_, _*_, _≤_};
+ghost use Prim.Native.Nat.{_*_, _≤_};
 ghost use mathlib.Core.Path.{_≡_};
 ghost use Rattle.meaning.specs.Checks.{textLimit};
 ghost use Rattle.laws.specs.TabFree.{hasTab};
 ghost use Rattle.laws.specs.GlyphPlaces.{askedGlyphs};
 ghost use Rattle.rows.specs.RowsFrom.{TextReady};
-ghost use Rattle.columns.specs.Skipping.{byGlyphs, skipsOf, nextWidth, SmallSkips};
+ghost use Rattle.columns.specs.Skipping.{tabSkips, skipsOf, nextWidth, SmallSkips};
 
 // From one width to the next is a step, and from one that is enough on no wider one lays the text otherwise.
 pub struct Skips {
@@ -30,52 +30,56 @@ fn has_tab(text: &[u8]) -> bool
     false
 }
 
-// Where a width counts by the glyphs that go into it: without tabs, and not justified.
-fn by_glyphs(s: Settings, text: &[u8]) -> bool
-    ensures { λ r. ⌜ r ≡ byGlyphs s (now (text .entry)) ⌝ }
-{
-    if 2 < s.alignment {
-        return false;
-    }
-    !has_tab(text)
-}
-
-// How many glyphs a box must hold to be wide enough for lines of so many: twice as many where they are centred.
-fn asked_glyphs(s: Settings, n: u32) -> u32
-    requires { ⌜ n ≤ textLimit ⌝ }
-    ensures { λ r. ⌜ r ≡ askedGlyphs (s .alignment) n ⌝ }
+// How much room a box must have to be wide enough for lines of so much: twice as much where they are centred.
+fn asked_room(s: Settings, widest: u32) -> u32
+    requires { ⌜ widest ≤ textLimit * 4096 ⌝ }
+    ensures { λ r. ⌜ r ≡ askedGlyphs (s .alignment) widest ⌝ }
 {
     if s.alignment == 1 {
-        return n + n;
+        return widest + widest;
     }
-    n
+    widest
 }
 
-// So many glyphs side by side.
-fn glyphs_wide(s: Settings, n: u32) -> u32
-    requires { ⌜ (s .glyph .0 ≤ 64) × (n ≤ textLimit + textLimit) ⌝ }
-    ensures { λ r. ⌜ r ≡ n * s .glyph .0 ⌝ }
+// With tabs each width is tried up to the widest part, and right aligned up to a tab more: behind that lines are the same again.
+fn tab_skips(s: Settings, widest: u32) -> Skips
+    requires { ⌜ (s .tab .0 ≤ 4096) × (widest ≤ textLimit * 4096) ⌝ }
+    ensures { λ r. ⌜ r ≡ tabSkips s widest ⌝ }
 {
-    n * s.glyph.0
-}
-
-// There a glyph is a step, and the room that the longest part's bytes ask for is enough, since it has no more characters. Elsewhere each
-// width is tried.
-pub fn skips_of(s: Settings, text: &[u8]) -> Skips
-    requires { ⌜ TextReady s (now text) ⌝ }
-    ensures { λ r. ⌜ r ≡ skipsOf s (now (text .entry)) ⌝ }
-{
-    if by_glyphs(s, text) {
-        let step = glyphs_wide(s, 1);
-        let longest = longest_part(text);
-        let asked = asked_glyphs(s, longest);
-        let enough = glyphs_wide(s, asked);
-        return Skips { step, enough };
+    if s.alignment == 0 {
+        return Skips {
+            step: 1,
+            enough: widest,
+        };
+    }
+    if s.alignment == 2 {
+        let enough = widest + s.tab.0;
+        return Skips { step: 1, enough };
     }
     Skips {
         step: 1,
         enough: WIDEST_BOX,
     }
+}
+
+// Without tabs a glyph is a step, and the room that the widest part asks for is enough. Where lines are justified each width is tried.
+pub fn skips_of(s: Settings, text: &[u8]) -> Skips
+    requires { ⌜ TextReady s (now text) ⌝ }
+    ensures { λ r. ⌜ r ≡ skipsOf s (now (text .entry)) ⌝ }
+{
+    if 2 < s.alignment {
+        return Skips {
+            step: 1,
+            enough: WIDEST_BOX,
+        };
+    }
+    let step = s.glyph.0;
+    let widest = widest_part(step, s.tab.0, text);
+    if has_tab(text) {
+        return tab_skips(s, widest);
+    }
+    let enough = asked_room(s, widest);
+    Skips { step, enough }
 }
 
 // The width to try after one in which the text did not fit: past them all if that was enough.

@@ -2,86 +2,36 @@
 -- not tell apart: those that hold the same count of glyphs, or in both of which as many fit as the part has characters. Left aligned the
 -- lines are the same (rule 10).
 -- Assumes nothing.
-use Prim.Native.Nat.{ℕ, zero, suc, _+_, _-_, _≤_}
+use Prim.Native.Nat.{ℕ, _-_, _≤_}
 use mathlib.Core.Path.{_≡_, refl, ap, sym, subst, _∙_}
 use mathlib.Core.Bool.{false}
 use mathlib.Core.List.{List, [], _∷_, map}
 use native.Mathlib.Nat.{zero-mul}
 use native.Mathlib.Omega.{arith}
-use lib.ListN.{length, take, drop}
+use lib.ListN.{length, drop}
 use Rattle.basis.specs.Choice.{pick}
-use Rattle.unicode.specs.Encoding.{size}
 use Rattle.meaning.specs.Tokens.{Tok}
 use Rattle.meaning.specs.Cursor.{roomOf}
-use Rattle.meaning.specs.Alignment.{plainSpaces, placedLeft}
-use Rattle.meaning.specs.LineIter.{Held, nothingHeld, Ran, process}
-use Rattle.meaning.specs.Line.{unmeasured, measured, lineTokens, startPlace, Line, drawnLine, measuring, placing, lineOf, layLine, entryAt}
-use Rattle.meaning.specs.Layout.{Row, rowAt, unlessEnded, rowsBy, mostLines, rows, entryOfRow, layout}
+use Rattle.meaning.specs.Alignment.{plainSpaces}
+use Rattle.meaning.specs.LineIter.{Held, Ran, process}
+use Rattle.meaning.specs.Line.{lineTokens, startPlace, Line, measuring, lineOf, layLine, entryAt}
+use Rattle.meaning.specs.Layout.{layout}
 use Rattle.meaning.specs.Columns.{withWidth}
 use Rattle.meaning.specs.declared.settings.Settings.{Settings}
-use Rattle.meaning.specs.declared.line.LineEnd.{LineEnd}
-use Rattle.meaning.specs.declared.line.LineEnd.the-variants.{NewLine, CarriageReturn, EndOfText, LineBreak}
-use Rattle.meaning.specs.declared.line.Placed.{Placed}
 use Rattle.meaning.specs.declared.line.Entry.{Entry}
 use Rattle.laws.specs.LineTokens.{line-tokens-cover}
 use Rattle.laws.specs.LineWidths.{plain-spaces, line-width}
 use Rattle.laws.specs.RowInduction.{Each, each-line}
 use Rattle.laws.specs.TabFree.{hasTab, TabFree, free-rest, free-line}
 use Rattle.laws.specs.LineParts.{firstPart, longestPart, first-longest, longest-within, longest-rest}
-use Rattle.laws.specs.PartTokens.{line-in-parts, HeldFirst, first-sound, line-held-first}
+use Rattle.laws.specs.PartTokens.{line-in-parts, HeldFirst, first-sound}
+use Rattle.laws.specs.LinesAlike.{unplacedLine, unplaced, measuredWidth, plain-line, passes-alike, lines-alike}
 use Rattle.laws.specs.GlyphLooks.{mostGlyphs, glyphs-part}
-use Rattle.laws.specs.GlyphSteps.{pass-alike}
+use Rattle.laws.specs.GlyphSteps.{pass-by-glyphs}
 use Rattle.laws.specs.WholeGlyphs.{Whole, measured-whole}
-use Rattle.laws.specs.GlyphPlaces.{leftOf, placed-plain, SameGlyphs, fewer-same, askedGlyphs, asked-least, asked-most, left-alike, rooms-alike}
-
--- ---- but for where they begin
-
-abbrev unplacedLine : Line → Line
-unplacedLine l =
-    record {
-      ended = l .ended;
-      placed = placedLeft 0 (l .placed .spaces);
-      width = l .width;
-      drawn = l .drawn;
-      chars = l .chars;
-      held = l .held;
-      dropped = l .dropped;
-      reach = l .reach;
-    }
-
--- An entry with no left: all else that it says of its line.
-abbrev pub unplaced : Entry → Entry
-unplaced e =
-    record {
-      start = e .start;
-      rest = e .rest;
-      ending = e .ending;
-      left = record { 0 = 0 };
-      space = e .space;
-      extra = e .extra;
-      width = e .width;
-      dropped = e .dropped;
-      reach = e .reach;
-      before = e .before;
-    }
+use Rattle.laws.specs.GlyphPlaces.{leftOf, SameGlyphs, fewer-same, askedGlyphs, asked-least, asked-most, left-alike, rooms-alike}
 
 -- ---- one line
-
-abbrev measuredWidth : Ran → ℕ
-measuredWidth r = measured unmeasured (r .drawn) .width .0
-
--- The line that is drawn where such a measure places it, with plain spaces.
-abbrev drawnAfter : Settings → List Tok → Ran → Line
-drawnAfter s ts r =
-    let left = leftOf (s .alignment) (s .width .0 - measuredWidth r) in
-    drawnLine (placedLeft left (plainSpaces s)) (measuredWidth r) (r .reach) (process s (startPlace s left (plainSpaces s)) 0 ts)
-
-plain-line : (s : Settings) (ts : List Tok) → s .alignment ≤ 2 → lineOf s ts ≡ drawnAfter s ts (measuring s ts)
-unfolding lineOf placing
-plain-line s ts h =
-    let r = measuring s ts in
-    ap (λ (p : Placed). drawnLine p (measuredWidth r) (r .reach) (process s (startPlace s (p .left .0) (p .spaces)) 0 ts))
-    (placed-plain s (r .ended) (measuredWidth r) (measured unmeasured (r .drawn) .count .0) h)
 
 module _ (s : Settings) (w v : ℕ) (aligned : s .alignment ≤ 2) (some : 1 ≤ s .glyph .0) where
   abbrev g : ℕ
@@ -98,7 +48,7 @@ module _ (s : Settings) (w v : ℕ) (aligned : s .alignment ≤ 2) (some : 1 ≤
       → process a (startPlace a i (plainSpaces a)) 0 ts ≡ process b (startPlace b j (plainSpaces b)) 0 ts
   unfolding startPlace plainSpaces withWidth roomOf
   starts-alike i j n ts free few e =
-      pass-alike s w v some ts (startPlace a i (plainSpaces a)) (startPlace b j (plainSpaces b) .cursor) 0 free (plain-spaces s)
+      pass-by-glyphs s w v some ts (startPlace a i (plainSpaces a)) (startPlace b j (plainSpaces b) .cursor) 0 free (plain-spaces s)
       (record {
         glyphs = 0;
         here = omega (arith, zero-mul g);
@@ -130,15 +80,10 @@ module _ (s : Settings) (w v : ℕ) (aligned : s .alignment ≤ 2) (some : 1 ≤
         starts-alike (leftOf (s .alignment) (w - m)) (leftOf (s .alignment) (v - m)) n ts free few (rooms-alike g w v n some (s .alignment) m whole x y e)
 
     tokens-alike : measuredWidth (measuring a ts) ≤ w → measuredWidth (measuring b ts) ≤ v → unplacedLine (lineOf a ts) ≡ unplacedLine (lineOf b ts)
-    unfolding withWidth plainSpaces
     tokens-alike x y =
-        let r = measuring a ts in
-        let m = measuredWidth r in
+        let m = measuredWidth (measuring a ts) in
         let z : m ≤ v = subst (λ (q : Ran). measuredWidth q ≤ v) (sym measured-alike) y in
-        ap unplacedLine (plain-line a ts aligned)
-        ∙ ap (λ (q : Ran). unplacedLine (drawnLine (placedLeft 0 (plainSpaces s)) m (r .reach) q)) (draws-alike m measured-in-glyphs x z)
-        ∙ ap (λ (q : Ran). unplacedLine (drawnAfter b ts q)) measured-alike
-        ∙ ap unplacedLine (sym (plain-line b ts aligned))
+        passes-alike s w v aligned ts measured-alike (draws-alike m measured-in-glyphs x z)
 
   line-alike : (h : Held) (cs : List ℕ) → HeldFirst h cs → hasTab cs ≡ false → Same (firstPart cs)
       → unplacedLine (layLine a h cs) ≡ unplacedLine (layLine b h cs)
@@ -146,47 +91,20 @@ module _ (s : Settings) (w v : ℕ) (aligned : s .alignment ≤ 2) (some : 1 ≤
   line-alike h cs f free e =
       let ts = lineTokens h cs in
       let few : mostGlyphs ts ≤ firstPart cs =
-      subst (λ (c : List ℕ). mostGlyphs ts ≤ firstPart c) (line-tokens-cover h cs) (glyphs-part ts (first-sound s h cs f) (line-in-parts h cs (f .0))) in
+      subst (λ (c : List ℕ). mostGlyphs ts ≤ firstPart c) (line-tokens-cover h cs) (glyphs-part ts (first-sound h cs f) (line-in-parts h cs (f .0))) in
       tokens-alike ts (firstPart cs) (free-line h cs free) few e (line-width a h cs) (line-width b h cs)
 
   -- ---- the lines of a text
 
-  abbrev seen : List Row → List Entry
-  seen rs = map unplaced (map entryOfRow rs)
-
-  unless-seen : (e : LineEnd) (rs qs : List Row) → seen rs ≡ seen qs → seen (unlessEnded e rs) ≡ seen (unlessEnded e qs)
-  unfolding unlessEnded
-  unless-seen EndOfText rs qs d = refl
-  unless-seen NewLine rs qs d = d
-  unless-seen CarriageReturn rs qs d = d
-  unless-seen LineBreak rs qs d = d
-
   less-same : (m n : ℕ) → m ≤ n → Same n → Same m
   less-same m n h e = fewer-same g w v (askedGlyphs (s .alignment) m) (askedGlyphs (s .alignment) n) (asked-most (s .alignment) m n h) e
 
-  rows-alike : (n start before : ℕ) (h : Held) (cs : List ℕ) → HeldFirst h cs → hasTab cs ≡ false → Same (longestPart cs)
-      → seen (rowsBy n a start before h cs) ≡ seen (rowsBy n b start before h cs)
-  unfolding rowsBy rowAt entryAt
-  rows-alike zero start before h cs f free e = refl
-  rows-alike (suc n) start before h cs f free e =
-      let l = layLine a h cs in
-      let same = line-alike h cs f free (less-same (firstPart cs) (longestPart cs) (first-longest cs) e) in
-      let rest = drop (l .chars) cs in
-      let next = start + size (take (l .chars) cs) in
-      let more =
-      rows-alike n next (before + l .chars) (l .held) rest (line-held-first a h cs f) (free-rest (l .chars) cs free)
-      (less-same (longestPart rest) (longestPart cs) (longest-rest (l .chars) cs) e) in
-      ap (λ (es : List Entry). unplaced (entryAt start before h cs l) ∷ es) (unless-seen (l .ended) _ _ more)
-      ∙ ap
-      (λ (m : Line).
-      unplaced (entryAt start before h cs m)
-      ∷ seen (unlessEnded (m .ended) (rowsBy n b (start + size (take (m .chars) cs)) (before + m .chars) (m .held) (drop (m .chars) cs))))
-      same
-
   pub lines-tell : (cs : List ℕ) → hasTab cs ≡ false → SameGlyphs g w v (askedGlyphs (s .alignment) (longestPart cs))
       → map unplaced (layout a cs) ≡ map unplaced (layout b cs)
-  unfolding layout rows
-  lines-tell cs free e = rows-alike (mostLines cs) 0 0 nothingHeld cs (omega arith, omega arith) free e
+  lines-tell cs free e =
+      lines-alike a b (λ cs. (hasTab cs ≡ false) × Same (longestPart cs))
+      (λ k cs c. (free-rest k cs (c .0), less-same (longestPart (drop k cs)) (longestPart cs) (longest-rest k cs) (c .1)))
+      (λ h cs f c. line-alike h cs f (c .0) (less-same (firstPart cs) (longestPart cs) (first-longest cs) (c .1))) cs (free, e)
 
 -- ---- left aligned
 

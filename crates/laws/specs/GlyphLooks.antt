@@ -8,20 +8,13 @@ use native.Mathlib.Nat.{add-mul, one-mul}
 use native.Mathlib.Omega.{arith}
 use lib.ListN.{length}
 use Rattle.basis.specs.Choice.{pick}
-use Rattle.meaning.specs.Tokens.{Tok, newLine, carriageReturn, tab, softHyphen, space, word, sizeOf, needOf}
-use Rattle.meaning.specs.Cursor.{advance}
-use Rattle.meaning.specs.SpaceConfig.{spacesWidth, spacesAfter}
-use Rattle.meaning.specs.Lookahead.{goesOn, nextFits, added, nextWidth}
-use Rattle.meaning.specs.declared.cursor.LineCursor.{LineCursor}
-use Rattle.meaning.specs.declared.cursor.Spaces.{Spaces}
+use Rattle.meaning.specs.Tokens.{Tok, newLine, carriageReturn, tab, softHyphen, space, word, sizeOf}
+use Rattle.meaning.specs.Lookahead.{added, nextWidth}
 use Rattle.meaning.specs.declared.cursor.NextWord.{NextWord}
 use Rattle.meaning.specs.declared.cursor.NextWord.the-variants.{Nothing, Width}
 use Rattle.laws.specs.Spell.{spell, Sound}
-use Rattle.laws.specs.Pens.{Plain, plain-after}
-use Rattle.laws.specs.TabFree.{TabFree}
 use Rattle.laws.specs.LineParts.{breaks, firstPart, part-on, part-joined}
 use Rattle.laws.specs.PartTokens.{InParts}
-use Rattle.laws.specs.GlyphRoom.{Near, fits-alike, one-alike, fits-spaces, near-spaces}
 
 -- How many glyphs these tokens move the cursor by at most, up to the first that ends a line. A tab moves it by none of them.
 unfoldable pub mostGlyphs : List Tok → ℕ
@@ -32,30 +25,6 @@ mostGlyphs (tab ∷ ts) = mostGlyphs ts
 mostGlyphs (softHyphen ∷ ts) = 1 + mostGlyphs ts
 mostGlyphs (space cs n e ∷ ts) = n + mostGlyphs ts
 mostGlyphs (word cs e ∷ ts) = length cs + mostGlyphs ts
-
-module _ (g : ℕ) (some : 1 ≤ g) where
-  -- ---- whether the next word fits
-
-  pub next-alike : (ts : List Tok) (x y : LineCursor) (sp : Spaces) (at : ℕ) → TabFree ts → Plain g sp → Near g (mostGlyphs ts) x y
-      → nextFits g x sp at ts ≡ nextFits g y sp at ts
-  unfolding nextFits mostGlyphs
-  next-alike [] x y sp at free plain m = refl
-  next-alike (newLine ∷ ts) x y sp at free plain m = refl
-  next-alike (carriageReturn ∷ ts) x y sp at free plain m = refl
-  next-alike (tab ∷ ts) x y sp at free plain m = absurd free
-  next-alike (softHyphen ∷ ts) x y sp at free plain m =
-      let fits = one-alike g some (mostGlyphs ts) x y m in
-      λ i. record { fits = fits i; reach = at + needOf softHyphen }
-  next-alike (word cs e ∷ ts) x y sp at free plain m =
-      let fits = fits-alike g some (length cs + mostGlyphs ts) x y (length cs) m (omega arith) in
-      λ i. record { fits = fits i; reach = at + needOf (word cs e) }
-  next-alike (space cs n e ∷ ts) x y sp at free plain m =
-      let t = space cs n e in
-      let fits = fits-spaces g some sp plain (n + mostGlyphs ts) x y n m (omega arith) in
-      let more =
-      next-alike ts (advance x (spacesWidth sp n)) (advance y (spacesWidth sp n)) (spacesAfter sp n) (at + sizeOf t) free (plain-after g sp n plain)
-      (near-spaces g some sp plain (mostGlyphs ts) x y n m) in
-      λ i. goesOn (fits i) (at + needOf t) (more i)
 
 -- ---- how wide the next word is
 

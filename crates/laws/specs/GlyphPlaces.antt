@@ -12,7 +12,7 @@ use Rattle.basis.specs.Order.{by-eq}
 use Rattle.meaning.specs.Alignment.{plainSpaces, placedLeft, place}
 use Rattle.meaning.specs.declared.settings.Settings.{Settings}
 use Rattle.meaning.specs.declared.line.LineEnd.{LineEnd}
-use Rattle.laws.specs.GlyphSteps.{both-picked}
+use Rattle.laws.specs.TwinPasses.{both-picked}
 use Rattle.laws.specs.WholeGlyphs.{Whole}
 
 -- How far from the box's left a line is drawn that leaves so much room.

@@ -11,10 +11,7 @@ use lib.Dec.{leb, eqb}
 use Rattle.basis.specs.Choice.{by-test}
 use Rattle.basis.specs.Order.{by-le, by-eq}
 use Rattle.meaning.specs.Cursor.{roomOf, fitsIn, advance, hasMoved}
-use Rattle.meaning.specs.SpaceConfig.{spacesWidth}
 use Rattle.meaning.specs.declared.cursor.LineCursor.{LineCursor}
-use Rattle.meaning.specs.declared.cursor.Spaces.{Spaces}
-use Rattle.laws.specs.Pens.{Plain, plain-width}
 use Rattle.laws.specs.Steps.{too-wide}
 
 -- ---- numbers
@@ -96,20 +93,6 @@ module _ (g : ℕ) (some : 1 ≤ g) where
       let further = m .glyphs * g in
       rw (m .here, m .there, stands-at (x .start .0) further, stands-at (y .start .0) further)
 
-  -- One glyph.
-  pub one-alike : (c : ℕ) (x y : LineCursor) → Near g (1 + c) x y → fitsIn x g ≡ fitsIn y g
-  one-alike c x y m = subst (λ (k : ℕ). fitsIn x k ≡ fitsIn y k) (one-mul g) (fits-alike (1 + c) x y 1 m (omega arith))
-
+  -- Both go on by one glyph.
   pub near-one : (c : ℕ) (x y : LineCursor) → Near g (1 + c) x y → Near g c (advance x g) (advance y g)
   near-one c x y m = subst (λ (k : ℕ). Near g c (advance x k) (advance y k)) (one-mul g) (near-moved c x y 1 m)
-
-  -- ---- spaces
-
-  module _ (sp : Spaces) (plain : Plain g sp) (c : ℕ) (x y : LineCursor) (n : ℕ) where
-    pub fits-spaces : Near g c x y → n ≤ c → fitsIn x (spacesWidth sp n) ≡ fitsIn y (spacesWidth sp n)
-    fits-spaces m h =
-        let e = plain-width g sp n plain in
-        ap (fitsIn x) e ∙ fits-alike c x y n m h ∙ sym (ap (fitsIn y) e)
-
-    pub near-spaces : Near g (n + c) x y → Near g c (advance x (spacesWidth sp n)) (advance y (spacesWidth sp n))
-    near-spaces m = subst (λ (k : ℕ). Near g c (advance x k) (advance y k)) (sym (plain-width g sp n plain)) (near-moved c x y n m)

@@ -25,6 +25,7 @@ pub mod EvenLines
 pub mod EvenSpaces
 pub mod FoundLines
 pub mod Fuel
+pub mod FurtherOn
 pub mod GlyphLines
 pub mod GlyphLooks
 pub mod GlyphPlaces
@@ -47,6 +48,7 @@ pub mod LineParts
 pub mod LineTokens
 pub mod LineUnder
 pub mod LineWidths
+pub mod LinesAlike
 pub mod LinesTake
 pub mod Local
 pub mod Longest
@@ -67,6 +69,7 @@ pub mod Ranges
 pub mod Reaches
 pub mod Relaid
 pub mod Rests
+pub mod RoomyBoxes
 pub mod RowInduction
 pub mod Runs
 pub mod SameLines
@@ -84,6 +87,8 @@ pub mod Stands
 pub mod Steps
 pub mod Suffixes
 pub mod TabFree
+pub mod TabLines
+pub mod TabStops
 pub mod TableLaws
 pub mod TableSpaces
 pub mod FileNumbers
@@ -92,9 +97,11 @@ pub mod FileLaws
 pub mod TestOrder
 pub mod TokenLaws
 pub mod TokensAgree
+pub mod TwinPasses
 pub mod WellFormedLayout
 pub mod WholeGlyphs
 pub mod WideEnough
+pub mod WidestPart
 pub mod WidthSteps
 pub mod WrittenPast
 pub mod WrittenYs

@@ -117,17 +117,17 @@ pass-held-part s p at (word cs e ∷ ts) h f =
 abbrev pub HeldFirst : Held → List ℕ → Type 0
 HeldFirst h cs = (h .chars ≤ firstPart cs) × (h .count ≤ h .chars)
 
-module _ (s : Settings) (h : Held) (cs : List ℕ) (f : HeldFirst h cs) where
-  pub first-sound : Sound (lineTokens h cs)
-  first-sound = line-tokens-sound h cs (omega (arith, f .0, first-within cs)) (f .1)
+pub first-sound : (h : Held) (cs : List ℕ) → HeldFirst h cs → Sound (lineTokens h cs)
+first-sound h cs f = line-tokens-sound h cs (omega (arith, f .0, first-within cs)) (f .1)
 
+module _ (s : Settings) (h : Held) (cs : List ℕ) (f : HeldFirst h cs) where
   line-held-part : layLine s h cs .held .chars ≤ firstPart (drop (layLine s h cs .chars) cs)
   unfolding layLine lineOf
   line-held-part =
       let ts = lineTokens h cs in
       let placed = placing s (measuring s ts) in
       let q = startPlace s (placed .left .0) (placed .spaces) in
-      subst (λ (c : List ℕ). HeldPart c (process s q 0 ts)) (line-tokens-cover h cs) (pass-held-part s q 0 ts first-sound (line-in-parts h cs (f .0)))
+      subst (λ (c : List ℕ). HeldPart c (process s q 0 ts)) (line-tokens-cover h cs) (pass-held-part s q 0 ts (first-sound h cs f) (line-in-parts h cs (f .0)))
 
   -- Then so is what it holds itself.
   pub line-held-first : HeldFirst (layLine s h cs .held) (drop (layLine s h cs .chars) cs)

@@ -13,8 +13,9 @@ use Rattle.meaning.specs.Columns.{fitsWhole, withWidth}
 use Rattle.meaning.specs.declared.settings.Settings.{Settings}
 use Rattle.laws.specs.TabFree.{hasTab}
 use Rattle.laws.specs.LineParts.{longestPart}
+use Rattle.laws.specs.LinesAlike.{unplaced}
 use Rattle.laws.specs.GlyphPlaces.{SameGlyphs, askedGlyphs}
-use Rattle.laws.specs.GlyphLines.{unplaced, lines-tell, glyphs-tell}
+use Rattle.laws.specs.GlyphLines.{lines-tell, glyphs-tell}
 use Rattle.laws.specs.WidthSteps.{fits-by-lines}
 
 -- Two widths in which so many glyphs fit are not told apart by them.

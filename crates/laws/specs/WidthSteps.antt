@@ -16,8 +16,9 @@ use Rattle.meaning.specs.declared.settings.Settings.{Settings}
 use Rattle.meaning.specs.declared.line.Entry.{Entry}
 use Rattle.laws.specs.TabFree.{hasTab}
 use Rattle.laws.specs.LineParts.{longestPart}
+use Rattle.laws.specs.LinesAlike.{unplaced}
 use Rattle.laws.specs.GlyphPlaces.{askedGlyphs}
-use Rattle.laws.specs.GlyphLines.{unplaced, lines-tell, glyphs-tell}
+use Rattle.laws.specs.GlyphLines.{lines-tell, glyphs-tell}
 
 -- ---- whether a text fits whole
 

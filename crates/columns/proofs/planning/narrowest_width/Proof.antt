@@ -1,4 +1,4 @@
--- `columns::planning::narrowest_width` meets its contract. The invariant: the smallest width is that of those from here on.
+-- `columns::planning::narrowest_width` meets its contract. The invariant: the text fits in no width below this one.
 -- Rule 10.
 -- Assumes nothing.
 use Prim.Native.Nat.{_-_}
@@ -9,7 +9,8 @@ use Rattle.unicode.specs.Decoding.{decodeAll}
 use Rattle.meaning.specs.Columns.{fitsWhole, withWidth}
 use Rattle.meaning.specs.declared.settings.Settings.{Settings}
 use Rattle.columns.specs.OtherWidths.{ready-with}
-use Rattle.columns.specs.Skipping.{SkipsFairly, skips-fairly, next-wider}
+use Rattle.columns.specs.Skipping.{next-wider}
+use Rattle.columns.specs.FairSkips.{SkipsFairly, skips-fairly}
 use Rattle.columns.specs.WidthTurns.{Sought, sought-from, sought-none, sought-here, sought-next}
 use Rattle.columns.proofs.planning.narrowest_width.Statement.{statement}
 use Rattle.columns.proofs.planning.narrowest_width.Tie as tie
