@@ -5,7 +5,7 @@ use mathlib.Core.Path.{_≡_, sym, ap, _∙_}
 use mathlib.Core.Bool.{false}
 use mathlib.Core.Logic.{inl, inr}
 use mathlib.Core.List.{List}
-use native.Mathlib.Nat.{add-mul, div-one, div-add-mod', mod-lt}
+use native.Mathlib.Nat.{one-mul, le-div-iff-mul-le, add-mul, div-one, div-add-mod', mod-lt}
 use native.Mathlib.Omega.{arith}
 use borrow.Author.Tests.{eqb-true, leb-true}
 use lib.Dec.{eqb, leb}
@@ -20,11 +20,12 @@ use Rattle.laws.specs.GlyphPlaces.{askedGlyphs, asked-most}
 use Rattle.laws.specs.WidthSteps.{fits-by-steps}
 use Rattle.laws.specs.WideEnough.{enoughFor, fits-wide-enough}
 use Rattle.laws.specs.WidestPart.{longest-wide}
+use Rattle.laws.specs.StepLines.{AtSide, fits-by-tab-steps}
 use Rattle.laws.specs.TabLines.{MayBeWider, fits-wider}
 use Rattle.rows.specs.RowsFrom.{TextReady}
 use Rattle.columns.specs.Tabs.{no-tab-read}
 use Rattle.columns.specs.PartBytes.{widest-read}
-use Rattle.columns.specs.Skipping.{widestOf, eachWidth, tabSkips, glyphSkips, skipsOf, SmallSkips}
+use Rattle.columns.specs.Skipping.{widestOf, eachWidth, tabStep, tabSkips, glyphSkips, skipsOf, SmallSkips}
 use Rattle.columns.specs.declared.skipping.Skips.{Skips}
 
 -- A width up to a bound in which a text fits exactly if it does in another.
@@ -33,10 +34,10 @@ pub record Instead (s : Settings) (cs : List ℕ) (bound v : ℕ) : Type 0 where
   pub low : width ≤ bound
   pub same : (h : ℕ) → fitsWhole (withWidth s width) h cs ≡ fitsWhole (withWidth s v) h cs
 
--- Widths of as many whole steps lay a text alike, and for each beyond what is enough there is one up to it that does.
+-- Widths of as many whole steps, and of one at least, lay a text alike, and for each beyond what is enough there is one up to it that does.
 pub record SkipsFairly (s : Settings) (cs : List ℕ) (k : Skips) : Type 0 where
   pub small : SmallSkips k
-  pub within : (w v h : ℕ) → w / k .step ≡ v / k .step → fitsWhole (withWidth s w) h cs ≡ fitsWhole (withWidth s v) h cs
+  pub within : (w v h : ℕ) → k .step ≤ w → w / k .step ≡ v / k .step → fitsWhole (withWidth s w) h cs ≡ fitsWhole (withWidth s v) h cs
   pub beyond : (v : ℕ) → k .enough < v → v ≤ widestBox → Instead s cs (k .enough) v
 
 module _ (s : Settings) (t : List ℕ) (r : TextReady s t) where
@@ -52,8 +53,8 @@ module _ (s : Settings) (t : List ℕ) (r : TextReady s t) where
 
   -- A step of one pixel.
   module _ (enough : ℕ) where
-    single-within : (w v h : ℕ) → w / 1 ≡ v / 1 → fitsWhole (withWidth s w) h cs ≡ fitsWhole (withWidth s v) h cs
-    single-within w v h e = ap (λ (x : ℕ). fitsWhole (withWidth s x) h cs) (sym (div-one w) ∙ e ∙ div-one v)
+    single-within : (w v h : ℕ) → 1 ≤ w → w / 1 ≡ v / 1 → fitsWhole (withWidth s w) h cs ≡ fitsWhole (withWidth s v) h cs
+    single-within w v h _ e = ap (λ (x : ℕ). fitsWhole (withWidth s x) h cs) (sym (div-one w) ∙ e ∙ div-one v)
 
     single-fair : ((v : ℕ) → enough < v → v ≤ widestBox → Instead s cs enough v) → SkipsFairly s cs (record { step = 1; enough = enough })
     single-fair f = record { small = (omega arith, omega arith); within = single-within; beyond = f }
@@ -68,9 +69,27 @@ module _ (s : Settings) (t : List ℕ) (r : TextReady s t) where
   wider w v d holds is may h =
       fits-wider s w d some cs h may (omega (arith, narrower)) ∙ ap (λ (x : ℕ). fitsWhole (withWidth s x) h cs) is
 
-  left-fair : s .alignment ≡ 0 → SkipsFairly s cs (record { step = 1; enough = widestOf s t })
+  -- A step of a glyph where a tab is whole glyphs wide, and else of a pixel.
+  side-fair : AtSide s → (enough : ℕ) → ((v : ℕ) → enough < v → v ≤ widestBox → Instead s cs enough v)
+      → SkipsFairly s cs (record { step = tabStep s; enough = enough })
+  unfolding tabStep
+  side-fair side enough f =
+      let g = s .glyph .0 in
+      let over = s .tab .0 % g in
+      pick-cases (λ n. SkipsFairly s cs (record { step = n; enough = enough })) (eqb over 0)
+      (λ e.
+      let is : s .tab .0 ≡ s .tab .0 / g * g = omega (arith, div-add-mod' (s .tab .0) g, eqb-true over 0 e) in
+      record {
+        small = (some, r .settings .1);
+        within = λ w v h low d.
+            fits-by-tab-steps s side some (record { count = s .tab .0 / g; is = is }) cs w v h d (le-div-iff-mul-le some .1 (omega (arith, one-mul g)));
+        beyond = f;
+      })
+      (λ _. single-fair enough f)
+
+  left-fair : s .alignment ≡ 0 → SkipsFairly s cs (record { step = tabStep s; enough = widestOf s t })
   left-fair e =
-      single-fair (widestOf s t)
+      side-fair (inl e) (widestOf s t)
       (λ v a b. record { width = widestOf s t; low = omega arith; same = wider (widestOf s t) v (v - widestOf s t) (omega arith) (omega arith) (inl e) })
 
   -- By whole tabs from one of the first widths that are enough; by anything where a tab has no width.
@@ -92,8 +111,8 @@ module _ (s : Settings) (t : List ℕ) (r : TextReady s t) where
             (inr (e, inr (record { count = over / tab; is = λ i. over / tab * tab })));
       })
 
-  right-fair : s .alignment ≡ 2 → SkipsFairly s cs (record { step = 1; enough = widestOf s t + s .tab .0 })
-  right-fair e = single-fair (widestOf s t + s .tab .0) (λ v a b. right-instead e v a)
+  right-fair : s .alignment ≡ 2 → SkipsFairly s cs (record { step = tabStep s; enough = widestOf s t + s .tab .0 })
+  right-fair e = side-fair (inr e) (widestOf s t + s .tab .0) (λ v a b. right-instead e v a)
 
   tab-fair : SkipsFairly s cs (tabSkips s (widestOf s t))
   unfolding tabSkips
@@ -121,7 +140,7 @@ module _ (s : Settings) (t : List ℕ) (r : TextReady s t) where
       let enough = askedGlyphs (s .alignment) (widestOf s t) in
       record {
         small = (some, r .settings .1);
-        within = λ w v h. fits-by-steps s cs aligned some free w v h;
+        within = λ w v h _ e. fits-by-steps s cs aligned some free w v h e;
         beyond = λ v a b. record {
           width = enough;
           low = omega arith;

@@ -1,13 +1,13 @@
 -- Which widths a search passes over once it has tried one (rule 8, rule 10).
 -- Assumes nothing.
-use Prim.Native.Nat.{ℕ, suc, _+_, _-_, _*_, _/_, _≤_, _<_}
+use Prim.Native.Nat.{ℕ, suc, _+_, _-_, _*_, _/_, _%_, _≤_, _<_}
 use mathlib.Core.Path.{_≡_, sym, ap, _∙_}
 use mathlib.Core.Bool.{true, false}
 use mathlib.Core.List.{List}
-use native.Mathlib.Nat.{one-mul, add-mul, le-div-iff-mul-le, div-lt-iff-lt-mul, add-div-right}
+use native.Mathlib.Nat.{one-mul, add-mul, div-self, le-div-iff-mul-le, div-lt-iff-lt-mul, add-div-right}
 use native.Mathlib.Omega.{arith}
 use borrow.Author.Tests.{eq-eqb, ne-eqb, le-leb, lt-leb}
-use lib.Dec.{eqb, leb}
+use lib.Dec.{eqb, leb, ltb}
 use Rattle.basis.specs.Choice.{pick, pick-cases, pick-true, pick-false}
 use Rattle.meaning.specs.Columns.{widestBox}
 use Rattle.meaning.specs.declared.settings.Settings.{Settings}
@@ -26,11 +26,15 @@ widestOf s t = widestPart (s .glyph .0) (s .tab .0) t
 abbrev pub eachWidth : Skips
 eachWidth = record { step = 1; enough = widestBox }
 
--- With tabs none is passed over that is not wide enough for the widest part; and right aligned one more tab's width is tried.
+-- With tabs a width counts by its glyphs too, if a tab is whole glyphs wide.
+unfoldable pub tabStep : Settings → ℕ
+tabStep s = pick (eqb (s .tab .0 % s .glyph .0) 0) (s .glyph .0) 1
+
+-- The widest part is enough, and right aligned one more tab's width.
 unfoldable pub tabSkips : Settings → (widest : ℕ) → Skips
 tabSkips s widest =
-    pick (eqb (s .alignment) 0) (record { step = 1; enough = widest })
-    (pick (eqb (s .alignment) 2) (record { step = 1; enough = widest + s .tab .0 }) eachWidth)
+    pick (eqb (s .alignment) 0) (record { step = tabStep s; enough = widest })
+    (pick (eqb (s .alignment) 2) (record { step = tabStep s; enough = widest + s .tab .0 }) eachWidth)
 
 -- Without tabs a width counts by its glyphs.
 unfoldable pub glyphSkips : Settings → (widest : ℕ) → Skips
@@ -40,9 +44,9 @@ glyphSkips s widest = record { step = s .glyph .0; enough = askedGlyphs (s .alig
 unfoldable pub skipsOf : Settings → (bytes : List ℕ) → Skips
 skipsOf s t = pick (leb (s .alignment) 2) (pick (hasTab t) (tabSkips s (widestOf s t)) (glyphSkips s (widestOf s t))) eachWidth
 
--- The width to try after one in which the text did not fit.
+-- The width to try after one in which the text did not fit. Below a step each is tried.
 unfoldable pub nextWidth : Skips → (w : ℕ) → ℕ
-nextWidth k w = pick (leb (k .enough) w) (suc widestBox) (w + k .step)
+nextWidth k w = pick (leb (k .enough) w) (suc widestBox) (pick (ltb w (k .step)) (w + 1) (w + k .step))
 
 -- No sum of widths wraps.
 abbrev pub SmallSkips : Skips → Type 0
@@ -63,13 +67,21 @@ asked-otherwise alignment n d = sym (pick-false (eqb alignment 1) _ _ (ne-eqb al
 
 -- ---- what the code comes to
 
+pub tab-whole : (s : Settings) → s .tab .0 % s .glyph .0 ≡ 0 → s .glyph .0 ≡ tabStep s
+unfolding tabStep
+tab-whole s e = sym (pick-true (eqb (s .tab .0 % s .glyph .0) 0) _ _ (eq-eqb (s .tab .0 % s .glyph .0) 0 e))
+
+pub tab-uneven : (s : Settings) → (s .tab .0 % s .glyph .0 ≡ 0 → ⊥) → 1 ≡ tabStep s
+unfolding tabStep
+tab-uneven s d = sym (pick-false (eqb (s .tab .0 % s .glyph .0) 0) _ _ (ne-eqb (s .tab .0 % s .glyph .0) 0 d))
+
 module _ (s : Settings) (widest : ℕ) where
-  pub left-skips : s .alignment ≡ 0 → (k : Skips) → k .step ≡ 1 → k .enough ≡ widest → k ≡ tabSkips s widest
+  pub left-skips : s .alignment ≡ 0 → (k : Skips) → k .step ≡ tabStep s → k .enough ≡ widest → k ≡ tabSkips s widest
   unfolding tabSkips
   left-skips e k step enough = (λ i. record { step = step i; enough = enough i }) ∙ sym (pick-true (eqb (s .alignment) 0) _ _ (eq-eqb (s .alignment) 0 e))
 
   module _ (other : s .alignment ≡ 0 → ⊥) where
-    pub right-skips : s .alignment ≡ 2 → (k : Skips) → k .step ≡ 1 → k .enough ≡ widest + s .tab .0 → k ≡ tabSkips s widest
+    pub right-skips : s .alignment ≡ 2 → (k : Skips) → k .step ≡ tabStep s → k .enough ≡ widest + s .tab .0 → k ≡ tabSkips s widest
     unfolding tabSkips
     right-skips e k step enough =
         (λ i. record { step = step i; enough = enough i })
@@ -99,11 +111,16 @@ module _ (s : Settings) (t : List ℕ) where
 -- It is a wider one.
 pub next-wider : (k : Skips) (w : ℕ) → SmallSkips k → w ≤ widestBox → w < nextWidth k w
 unfolding nextWidth
-next-wider k w small low = pick-cases (λ v. w < v) (leb (k .enough) w) (λ _. omega arith) (λ _. omega arith)
+next-wider k w small low =
+    pick-cases (λ v. w < v) (leb (k .enough) w) (λ _. omega arith)
+    (λ _. pick-cases (λ v. w < v) (ltb w (k .step)) (λ _. omega arith) (λ _. omega arith))
 
 -- ---- whole steps
 
 module _ (k : Skips) (small : SmallSkips k) where
+  pub one-whole : Whole k (k .step)
+  one-whole = ap (λ (n : ℕ). n * k .step) (div-self (small .0)) ∙ one-mul (k .step)
+
   module _ (w : ℕ) (whole : Whole k w) where
     pub next-whole : Whole k (w + k .step)
     next-whole = rw (add-div-right w (small .0), add-mul (w / k .step) 1 (k .step), one-mul (k .step)) (ap (λ (n : ℕ). n + k .step) whole)

@@ -7,8 +7,9 @@ ghost use mathlib.Core.Path.{_≡_};
 ghost use Rattle.meaning.specs.Checks.{textLimit};
 ghost use Rattle.laws.specs.TabFree.{hasTab};
 ghost use Rattle.laws.specs.GlyphPlaces.{askedGlyphs};
+ghost use Rattle.moves.specs.Fine.{FineSettings};
 ghost use Rattle.rows.specs.RowsFrom.{TextReady};
-ghost use Rattle.columns.specs.Skipping.{tabSkips, skipsOf, nextWidth, SmallSkips};
+ghost use Rattle.columns.specs.Skipping.{tabStep, tabSkips, skipsOf, nextWidth, SmallSkips};
 
 // From one width to the next is a step, and from one that is enough on no wider one lays the text otherwise.
 pub struct Skips {
@@ -41,20 +42,33 @@ fn asked_room(s: Settings, widest: u32) -> u32
     widest
 }
 
-// With tabs each width is tried up to the widest part, and right aligned up to a tab more: behind that lines are the same again.
+// With tabs a glyph is a step if a tab is whole glyphs wide, and else a pixel.
+fn tab_step(s: Settings) -> u32
+    requires { ⌜ 1 ≤ s .glyph .0 ⌝ }
+    ensures { λ r. ⌜ r ≡ tabStep s ⌝ }
+{
+    let glyph = s.glyph.0;
+    if s.tab.0 % glyph == 0 {
+        return glyph;
+    }
+    1
+}
+
+// Then the widest part is enough, and right aligned a tab more: behind that lines are the same again.
 fn tab_skips(s: Settings, widest: u32) -> Skips
-    requires { ⌜ (s .tab .0 ≤ 4096) × (widest ≤ textLimit * 4096) ⌝ }
+    requires { ⌜ FineSettings s × (widest ≤ textLimit * 4096) ⌝ }
     ensures { λ r. ⌜ r ≡ tabSkips s widest ⌝ }
 {
+    let step = tab_step(s);
     if s.alignment == 0 {
         return Skips {
-            step: 1,
+            step,
             enough: widest,
         };
     }
     if s.alignment == 2 {
         let enough = widest + s.tab.0;
-        return Skips { step: 1, enough };
+        return Skips { step, enough };
     }
     Skips {
         step: 1,
@@ -82,13 +96,16 @@ pub fn skips_of(s: Settings, text: &[u8]) -> Skips
     Skips { step, enough }
 }
 
-// The width to try after one in which the text did not fit: past them all if that was enough.
+// The width to try after one in which the text did not fit: past them all if that was enough. Below a step each is tried.
 pub fn next_width(skips: Skips, w: u32) -> u32
     requires { ⌜ SmallSkips skips × (w ≤ 4096) ⌝ }
     ensures { λ r. ⌜ r ≡ nextWidth skips w ⌝ }
 {
     if skips.enough <= w {
         return WIDEST_BOX + 1;
+    }
+    if w < skips.step {
+        return w + 1;
     }
     w + skips.step
 }

@@ -18,7 +18,7 @@ use Rattle.meaning.specs.declared.cursor.LineCursor.{LineCursor}
 use Rattle.meaning.specs.declared.cursor.Place.{Place}
 use Rattle.laws.specs.Pens.{Plain}
 use Rattle.laws.specs.TabStops.{nextStop, tab-to, SameStops, stop-further}
-use Rattle.laws.specs.TwinPasses.{Twins, atCursor, pass-alike}
+use Rattle.laws.specs.TwinPasses.{Twins, atCursor, pass-same}
 
 -- The second cursor is so much further on, its box as much wider, and tab stops stand alike.
 pub record Further (d : ℕ) (x y : LineCursor) : Type 0 where
@@ -66,13 +66,12 @@ further-twins g d =
       at-space = λ cs n e ts x y f. (on-same d x y f (n * g) (n * g) (λ i. n * g), f);
       at-word = λ cs e ts x y f. on-same d x y f (length cs * g) (length cs * g) (λ i. length cs * g);
       at-hyphen = λ ts x y f. (on-same d x y f g g (λ i. g), f);
-      at-tab = λ ts x y f.
-          let same = tab-same d x y f in
-          (same, fits-same d x y f (tabWidth x) ∙ ap (fitsIn y) same, on-same d x y f (tabWidth x) (tabWidth y) same, f);
-      at-edge = λ ts x y f _. (room-same d x y f, on-same d x y f (roomOf x) (roomOf y) (room-same d x y f));
+      at-tab = λ ts x y f. (fits-same d x y f (tabWidth x) ∙ ap (fitsIn y) (tab-same d x y f), f);
+      past-tab = λ ts x y f _. on-same d x y f (tabWidth x) (tabWidth y) (tab-same d x y f);
+      at-edge = λ ts x y f _. on-same d x y f (roomOf x) (roomOf y) (room-same d x y f);
     }
 
 pub pass-further : (s : Settings) (w v : ℕ) → 1 ≤ s .glyph .0 → (d : ℕ) (ts : List Tok) (p : Place) (y : LineCursor) (at : ℕ)
     → Plain (s .glyph .0) (p .spaces) → Further d (p .cursor) y → process (withWidth s w) p at ts ≡ process (withWidth s v) (atCursor p y) at ts
 pass-further s w v some d ts p y at plain f =
-    pass-alike s w v some (λ ts x y. Further d x y) (further-twins (s .glyph .0) d) ts p y at plain f
+    pass-same s w v some (λ ts x y. Further d x y) (further-twins (s .glyph .0) d) (λ ts x y f. (tab-same d x y f, λ _. room-same d x y f)) ts p y at plain f

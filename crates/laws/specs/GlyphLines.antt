@@ -5,6 +5,7 @@
 use Prim.Native.Nat.{ℕ, _-_, _≤_}
 use mathlib.Core.Path.{_≡_, refl, ap, sym, subst, _∙_}
 use mathlib.Core.Bool.{false}
+use mathlib.Core.Logic.{inl}
 use mathlib.Core.List.{List, [], _∷_, map}
 use native.Mathlib.Nat.{zero-mul}
 use native.Mathlib.Omega.{arith}
@@ -28,7 +29,8 @@ use Rattle.laws.specs.PartTokens.{line-in-parts, HeldFirst, first-sound}
 use Rattle.laws.specs.LinesAlike.{unplacedLine, unplaced, measuredWidth, plain-line, passes-alike, lines-alike}
 use Rattle.laws.specs.GlyphLooks.{mostGlyphs, glyphs-part}
 use Rattle.laws.specs.GlyphSteps.{pass-by-glyphs}
-use Rattle.laws.specs.WholeGlyphs.{Whole, measured-whole}
+use Rattle.laws.specs.Wholes.{Whole}
+use Rattle.laws.specs.WholeGlyphs.{measured-whole}
 use Rattle.laws.specs.GlyphPlaces.{leftOf, SameGlyphs, fewer-same, askedGlyphs, asked-least, asked-most, left-alike, rooms-alike}
 
 -- ---- one line
@@ -69,7 +71,7 @@ module _ (s : Settings) (w v : ℕ) (aligned : s .alignment ≤ 2) (some : 1 ≤
 
     measured-in-glyphs : Whole g (measuredWidth (measuring a ts))
     unfolding measuring withWidth startPlace plainSpaces
-    measured-in-glyphs = measured-whole a ts (startPlace a 0 (plainSpaces a)) 0 free (plain-spaces a)
+    measured-in-glyphs = measured-whole a ts (startPlace a 0 (plainSpaces a)) 0 (inl free) (plain-spaces a)
 
     -- The second passes, after the same measure.
     draws-alike : (m : ℕ) → Whole g m → m ≤ w → m ≤ v →

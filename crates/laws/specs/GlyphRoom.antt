@@ -29,7 +29,7 @@ glyphs-left g w k some =
     let f : w / g < k = div-lt-iff-lt-mul some .1 h in
     ap (λ (x : ℕ). x / g) e ∙ zero-div g ∙ (omega (arith, f)))
 
-leb-alike : (m n x y : ℕ) → (m ≤ n → x ≤ y) → (x ≤ y → m ≤ n) → leb m n ≡ leb x y
+pub leb-alike : (m n x y : ℕ) → (m ≤ n → x ≤ y) → (x ≤ y → m ≤ n) → leb m n ≡ leb x y
 leb-alike m n x y f g =
     by-test (leb m n) (λ e. e ∙ sym (le-leb x y (f (leb-true m n e))))
     (λ e. e ∙ sym (by-test (leb x y) (λ d. absurd (omega (arith, leb-false m n e, g (leb-true x y d)))) (λ d. d)))

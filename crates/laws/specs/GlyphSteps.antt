@@ -15,7 +15,7 @@ use Rattle.laws.specs.Pens.{Plain}
 use Rattle.laws.specs.TabFree.{TabFree}
 use Rattle.laws.specs.GlyphRoom.{Near, fits-alike, room-alike, near-moved, near-still, near-one, moved-alike}
 use Rattle.laws.specs.GlyphLooks.{mostGlyphs}
-use Rattle.laws.specs.TwinPasses.{Twins, atCursor, pass-alike}
+use Rattle.laws.specs.TwinPasses.{Twins, atCursor, pass-same}
 
 -- Cursors that these tokens, none of them a tab, do not tell apart by their glyphs.
 abbrev Untold : ℕ → List Tok → LineCursor → LineCursor → Type 0
@@ -32,6 +32,7 @@ untold-twins g some =
       at-word = λ cs e ts x y m. (m .0, near-moved g some (mostGlyphs ts) x y (length cs) (m .1));
       at-hyphen = λ ts x y m. ((m .0, near-one g some (mostGlyphs ts) x y (m .1)), (m .0, near-still g some (mostGlyphs ts) 1 x y (m .1)));
       at-tab = λ ts x y m. absurd (m .0);
+      past-tab = λ ts x y m _. absurd (m .0);
       at-edge = λ ts x y m _. absurd (m .0);
     }
 
@@ -39,4 +40,4 @@ pub pass-by-glyphs : (s : Settings) (w v : ℕ) → 1 ≤ s .glyph .0 → (ts : 
     → Plain (s .glyph .0) (p .spaces) → Near (s .glyph .0) (mostGlyphs ts) (p .cursor) y
     → process (withWidth s w) p at ts ≡ process (withWidth s v) (atCursor p y) at ts
 pass-by-glyphs s w v some ts p y at free plain m =
-    pass-alike s w v some (Untold (s .glyph .0)) (untold-twins (s .glyph .0) some) ts p y at plain (free, m)
+    pass-same s w v some (Untold (s .glyph .0)) (untold-twins (s .glyph .0) some) (λ ts x y m. absurd (m .0)) ts p y at plain (free, m)

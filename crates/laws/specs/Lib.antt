@@ -65,6 +65,7 @@ pub mod PlanSteps
 pub mod PrintEnds
 pub mod PrintedWords
 pub mod PrintsTell
+pub mod QuietRooms
 pub mod Ranges
 pub mod Reaches
 pub mod Relaid
@@ -83,6 +84,9 @@ pub mod SpacesBefore
 pub mod SpacesDrawn
 pub mod SignedOrder
 pub mod Spell
+pub mod StepLines
+pub mod SteppedBoxes
+pub mod SteppedMeasures
 pub mod Stands
 pub mod Steps
 pub mod Suffixes
@@ -100,6 +104,7 @@ pub mod TokensAgree
 pub mod TwinPasses
 pub mod WellFormedLayout
 pub mod WholeGlyphs
+pub mod Wholes
 pub mod WideEnough
 pub mod WidestPart
 pub mod WidthSteps

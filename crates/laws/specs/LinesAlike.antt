@@ -1,14 +1,15 @@
 -- Two boxes in which each line of a text is the same but for where it begins have the same lines of all of the text, but for that; and a
 -- line is, if it is measured alike and then drawn alike (rule 10).
 -- Assumes nothing.
-use Prim.Native.Nat.{ℕ, zero, suc, _+_, _-_, _≤_}
-use mathlib.Core.Path.{_≡_, refl, ap, sym, _∙_}
-use mathlib.Core.List.{List, _∷_, map}
+use Prim.Native.Nat.{ℕ, zero, suc, _+_, _-_, _≤_, max}
+use mathlib.Core.Path.{_≡_, refl, ap, sym, subst, _∙_}
+use mathlib.Core.List.{List, [], _∷_, map}
 use lib.ListN.{take, drop}
 use native.Mathlib.Omega.{arith}
 use Rattle.unicode.specs.Encoding.{size}
 use Rattle.meaning.specs.Tokens.{Tok}
 use Rattle.meaning.specs.Alignment.{plainSpaces, placedLeft}
+use Rattle.meaning.specs.Words.{Drawn}
 use Rattle.meaning.specs.LineIter.{Held, nothingHeld, Ran, process}
 use Rattle.meaning.specs.Line.{unmeasured, measured, startPlace, Line, drawnLine, measuring, placing, lineOf, layLine, entryAt}
 use Rattle.meaning.specs.Layout.{Row, rowAt, unlessEnded, rowsBy, mostLines, rows, entryOfRow, layout}
@@ -19,17 +20,19 @@ use Rattle.meaning.specs.declared.line.LineEnd.the-variants.{NewLine, CarriageR
 use Rattle.meaning.specs.declared.line.Placed.{Placed}
 use Rattle.meaning.specs.declared.line.Entry.{Entry}
 use Rattle.laws.specs.PartTokens.{HeldFirst, line-held-first}
+use Rattle.laws.specs.TwinPasses.{EndAlike, same-end}
 use Rattle.laws.specs.GlyphPlaces.{leftOf, placed-plain}
 
 -- ---- but for where they begin
 
+-- What a line's entry tells of it but for that.
 abbrev pub unplacedLine : Line → Line
 unplacedLine l =
     record {
       ended = l .ended;
       placed = placedLeft 0 (l .placed .spaces);
       width = l .width;
-      drawn = l .drawn;
+      drawn = [];
       chars = l .chars;
       held = l .held;
       dropped = l .dropped;
@@ -54,6 +57,10 @@ unplaced e =
 
 -- ---- one line
 
+-- Whatever is drawn.
+abbrev pub AnyDrawn : List Drawn → List Drawn → Type 0
+AnyDrawn ds es = Unit {0}
+
 abbrev pub measuredWidth : Ran → ℕ
 measuredWidth r = measured unmeasured (r .drawn) .width .0
 
@@ -77,19 +84,41 @@ module _ (s : Settings) (w v : ℕ) (aligned : s .alignment ≤ 2) where
   abbrev b : Settings
   b = withWidth s v
 
-  -- The two passes, the second from where the first placed the line.
-  pub passes-alike : (ts : List Tok) → measuring a ts ≡ measuring b ts →
-      (let i = leftOf (s .alignment) (w - measuredWidth (measuring a ts)) in
-      let j = leftOf (s .alignment) (v - measuredWidth (measuring a ts)) in
-      process a (startPlace a i (plainSpaces a)) 0 ts ≡ process b (startPlace b j (plainSpaces b)) 0 ts)
+  -- The pass that draws from so far from the box's left.
+  abbrev drawnFrom : (t : Settings) → List Tok → (left : ℕ) → Ran
+  drawnFrom t ts left = process t (startPlace t left (plainSpaces t)) 0 ts
+
+  -- The two passes, the second from where the first placed the line: it is measured as wide, and drawn so that it ends alike.
+  pub passes-told : (ts : List Tok) → measuredWidth (measuring a ts) ≡ measuredWidth (measuring b ts) → measuring a ts .reach ≡ measuring b ts .reach →
+      (let m = measuredWidth (measuring a ts) in
+      EndAlike AnyDrawn (drawnFrom a ts (leftOf (s .alignment) (w - m))) (drawnFrom b ts (leftOf (s .alignment) (v - m))))
       → unplacedLine (lineOf a ts) ≡ unplacedLine (lineOf b ts)
   unfolding withWidth plainSpaces
-  passes-alike ts same draws =
-      let r = measuring a ts in
+  passes-told ts wide looked draws =
+      let i = leftOf (s .alignment) (w - measuredWidth (measuring a ts)) in
+      let d : EndAlike AnyDrawn (drawnFrom a ts i) (drawnFrom b ts (leftOf (s .alignment) (v - measuredWidth (measuring b ts)))) =
+      subst (λ (m : ℕ). EndAlike AnyDrawn (drawnFrom a ts i) (drawnFrom b ts (leftOf (s .alignment) (v - m)))) wide draws in
       ap unplacedLine (plain-line a ts aligned)
-      ∙ ap (λ (q : Ran). unplacedLine (drawnLine (placedLeft 0 (plainSpaces s)) (measuredWidth r) (r .reach) q)) draws
-      ∙ ap (λ (q : Ran). unplacedLine (drawnAfter b ts q)) same
+      ∙ (λ k.
+      record {
+        ended = d .ended k;
+        placed = placedLeft 0 (plainSpaces s);
+        width = wide k;
+        drawn = [];
+        chars = d .chars k;
+        held = d .held k;
+        dropped = d .dropped k;
+        reach = max (looked k) (d .reach k);
+      })
       ∙ ap unplacedLine (sym (plain-line b ts aligned))
+
+  -- So where both passes do the same.
+  pub passes-alike : (ts : List Tok) → measuring a ts ≡ measuring b ts →
+      (let m = measuredWidth (measuring a ts) in
+      drawnFrom a ts (leftOf (s .alignment) (w - m)) ≡ drawnFrom b ts (leftOf (s .alignment) (v - m)))
+      → unplacedLine (lineOf a ts) ≡ unplacedLine (lineOf b ts)
+  passes-alike ts same draws =
+      passes-told ts (ap measuredWidth same) (ap (λ (r : Ran). r .reach) same) (same-end AnyDrawn (λ ds. tt) _ _ draws)
 
 -- ---- the lines of a text
 

@@ -19,7 +19,7 @@ use Rattle.meaning.specs.declared.cursor.Place.{Place}
 use Rattle.laws.specs.Pens.{Plain}
 use Rattle.laws.specs.GlyphLooks.{mostGlyphs}
 use Rattle.laws.specs.TabStops.{nextStop, stop-on, stop-more, tab-to}
-use Rattle.laws.specs.TwinPasses.{Twins, atCursor, pass-alike}
+use Rattle.laws.specs.TwinPasses.{Twins, atCursor, pass-same}
 
 -- ---- where tokens take the cursor
 
@@ -137,12 +137,13 @@ roomy-twins g =
         on-roomy g x y (softHyphen ∷ ts) ts f g g refl (omega arith),
         still-roomy g x y (softHyphen ∷ ts) ts f (end-more g (x .tab .0) ts (x .position .0) (x .position .0 + g) (omega arith)),
       );
-      at-tab = λ ts x y f.
-          let both = tab-fits g x y ts f in
-          (tab-same g x y ts f, both .0 ∙ sym (both .1), past-tab g x y ts f, tab-still g x y ts f);
+      at-tab = λ ts x y f. let both = tab-fits g x y ts f in (both .0 ∙ sym (both .1), tab-still g x y ts f);
+      past-tab = λ ts x y f _. past-tab g x y ts f;
       at-edge = λ ts x y f e. absurd (false≢true (sym e ∙ tab-fits g x y ts f .0));
     }
 
 pub pass-roomy : (s : Settings) (w v : ℕ) → 1 ≤ s .glyph .0 → (ts : List Tok) (p : Place) (y : LineCursor) (at : ℕ) → Plain (s .glyph .0) (p .spaces)
     → Roomy (s .glyph .0) ts (p .cursor) y → process (withWidth s w) p at ts ≡ process (withWidth s v) (atCursor p y) at ts
-pass-roomy s w v some ts p y at plain f = pass-alike s w v some (Roomy (s .glyph .0)) (roomy-twins (s .glyph .0)) ts p y at plain f
+pass-roomy s w v some ts p y at plain f =
+    pass-same s w v some (Roomy (s .glyph .0)) (roomy-twins (s .glyph .0))
+    (λ ts x y f. (tab-same (s .glyph .0) x y ts f, λ e. absurd (false≢true (sym e ∙ tab-fits (s .glyph .0) x y ts f .0)))) ts p y at plain f

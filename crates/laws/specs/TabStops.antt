@@ -1,17 +1,17 @@
 -- The tab stops of a line: the next one behind a place, and how they stand further on (rule 4).
 -- Assumes nothing.
 use Prim.Native.Nat.{ℕ, _+_, _-_, _*_, _/_, _≤_}
-use mathlib.Core.Path.{_≡_, ap, _∙_}
+use mathlib.Core.Path.{_≡_, sym, ap, _∙_}
 use mathlib.Core.Logic.{_⊎_, inl, inr}
-use native.Mathlib.Nat.{add-mul, mul-le-mul-right, div-mul-le-self, le-div-iff-mul-le, lt-div-mul-add, add-mul-div-right}
+use native.Mathlib.Nat.{add-mul, mul-assoc, mul-le-mul-right, div-mul-le-self, le-div-iff-mul-le, lt-div-mul-add, add-mul-div-right}
 use native.Mathlib.Omega.{arith}
 use borrow.Author.Tests.{eq-eqb, ne-eqb}
 use lib.Dec.{eqb}
-use Rattle.basis.specs.Choice.{pick}
+use Rattle.basis.specs.Choice.{pick, pick-cases}
 use Rattle.basis.specs.Order.{by-eq}
 use Rattle.meaning.specs.Cursor.{tabWidth}
 use Rattle.meaning.specs.declared.cursor.LineCursor.{LineCursor}
-use Rattle.laws.specs.WholeGlyphs.{Whole}
+use Rattle.laws.specs.Wholes.{Whole}
 
 -- The first multiple of the tab width above a place, which stays where it is if that width is 0.
 unfoldable pub nextStop : (tab at : ℕ) → ℕ
@@ -40,6 +40,13 @@ tab-to c =
     let at = c .position .0 in
     by-eq t 0 (λ e. rw (eq-eqb t 0 e) (omega arith))
     (λ d. rw (ne-eqb t 0 d) (omega (arith, add-mul (at / t) 1 t, lt-div-mul-add {a = at} {b = t} (omega arith))))
+
+-- It is whole glyphs on where the tab is whole glyphs wide and the place is.
+pub whole-stop : (g t a : ℕ) → Whole g t → Whole g a → Whole g (nextStop t a)
+unfolding nextStop
+whole-stop g t a k m =
+    pick-cases (Whole g) (eqb t 0) (λ _. m)
+    (λ _. record { count = (a / t + 1) * k .count; is = ap (λ (n : ℕ). (a / t + 1) * n) (k .is) ∙ sym (mul-assoc (a / t + 1) (k .count) g) })
 
 -- ---- further on
 

@@ -21,5 +21,12 @@ returns-2 : tie.Need-returns-2
 unfolding nextWidth pick
 returns-2 c = search tests
 
+add-result-3 : tie.Need-add-result-3
+add-result-3 c = search needs
+
+returns-3 : tie.Need-returns-3
+unfolding nextWidth pick
+returns-3 c = search tests
+
 pub next-width-spec : {M : Type 1} → statement M
-next-width-spec = tie.close (tie.spec add-result returns add-result-2 returns-2)
+next-width-spec = tie.close (tie.spec add-result returns add-result-2 returns-2 add-result-3 returns-3)

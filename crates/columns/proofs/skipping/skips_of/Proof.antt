@@ -20,7 +20,7 @@ has-tab-requires c κs = search needs
 tab-skips-requires : tie.Need-tab-skips-requires
 tab-skips-requires c κs =
     let w = c .before .before in
-    (w .before .before .before .before .pre .settings .3, w .widest-part .ensures .1)
+    (w .before .before .before .before .pre .settings, w .widest-part .ensures .1)
 
 returns-2 : tie.Need-returns-2
 returns-2 c =
