@@ -5,6 +5,7 @@ pub mod LineByLine
 pub mod EditLaws
 pub mod SkipTurns
 pub mod PlainTurns
+pub mod StepTurns
 pub mod MovedParts
 pub mod InPlace
 pub mod MoveTurns

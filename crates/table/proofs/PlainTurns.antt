@@ -10,10 +10,14 @@ use lib.ListN.{getD}
 use Rattle.basis.specs.Order.{by-lt}
 use Rattle.meaning.specs.Table.{entryNumbers}
 use Rattle.table.specs.OneLine.{countFits, endingAt}
-use Rattle.table.specs.Skipping.{Paired, PlainEnd, Follows, PlainLine, PlainLines}
+use Rattle.table.specs.Skipping.{Paired, PlainEnd, Follows, Lines}
 use Rattle.table.proofs.SkipTurns.{breaks-good}
 
 -- ---- one line
+
+pub counts-fit : (c s d : ℕ) → c < d → d ≤ s → countFits c s d ≡ true
+unfolding countFits
+counts-fit c s d a b = rw (lt-ltb c d a, le-leb d s b)
 
 module _ (t : List ℕ) (at : ℕ) where
   -- No rest and an end type of 3, told by one number.
@@ -31,42 +35,52 @@ module _ (t : List ℕ) (at : ℕ) where
       → start ≤ reached → from ≡ getD t (at - entryNumbers) 0 → from < start
       → getD t (at - entryNumbers + 10) 0 < getD t (at + 10) 0 → chars ≡ getD t (at + 10) 0 → chars ≤ start → getD t (at + 9) 0 ≤ most
       → Follows t at most
-  unfolding countFits
   follows-on most start reached from chars p q b w f l c d e o =
       record {
         past = omega (arith, p .both);
         within = omega (arith, p .both);
-        counted = rw (lt-ltb _ _ c, le-leb (getD t (at + 10) 0) (getD t at 0) (omega (arith, p .both)));
+        counted = counts-fit _ _ _ c (omega (arith, p .both));
         restless = omega (arith, p .both);
         low = o;
       }
 
 -- ---- line after line
 
-module _ (t : List ℕ) (most from : ℕ) where
-  -- Up to a line that comes earlier they are plain as well.
-  pub plain-wider : (near last to : ℕ) → near ≤ last → PlainLines t near most from to → PlainLines t last most from to
-  plain-wider near last to h p =
+module _ (P : ℕ → Type 0) (last from : ℕ) where
+  pub lines-none : Lines P last from from
+  lines-none = record { count = 0; ends = omega arith; each = λ i h. absurd (omega arith); inside = λ i h. absurd (omega arith) }
+
+  -- Up to a line that comes earlier they are so as well.
+  pub lines-wider : (near to : ℕ) → near ≤ last → Lines P near from to → Lines P last from to
+  lines-wider near to h p =
       record { count = p .count; ends = p .ends; each = p .each; inside = λ i a. omega (arith, p .inside i a) }
 
-  -- Plain lines after plain lines.
-  pub plain-join : (last at to : ℕ) → PlainLines t last most from at → PlainLines t last most at to → PlainLines t last most from to
-  plain-join last at to p q =
+  -- Lines after lines.
+  pub lines-join : (at to : ℕ) → Lines P last from at → Lines P last at to → Lines P last from to
+  lines-join at to p q =
       let there : (i : ℕ) → p .count ≤ i → at + entryNumbers * (i - p .count) ≡ from + entryNumbers * i = λ i h. omega (arith, p .ends) in
       record {
         count = p .count + q .count;
         ends = omega (arith, p .ends, q .ends);
-        each =
-            λ i a. by-lt i (p .count) (p .each i)
-            (λ b. subst (λ (x : ℕ). PlainLine t x most) (there i b) (q .each (i - p .count) (omega arith)));
+        each = λ i a. by-lt i (p .count) (p .each i) (λ b. subst P (there i b) (q .each (i - p .count) (omega arith)));
         inside = λ i a. by-lt i (p .count) (p .inside i) (λ b. omega (arith, there i b, q .inside (i - p .count) (omega arith)));
       }
 
--- A block of them.
-pub plain-block : (t : List ℕ) (last most at : ℕ) → at + 88 ≤ last → ((i : ℕ) → i < 8 → PlainEnd t (at + entryNumbers * i))
-    → ((i : ℕ) → i < 8 → Follows t (at + entryNumbers * i) most) → PlainLines t last most at (at + 88)
-plain-block t last most at h e f =
-    record { count = 8; ends = omega arith; each = λ i a. record { follows = f i a; end = e i a }; inside = λ i a. omega arith }
+  -- A block of them, and one.
+  pub lines-block : from + 88 ≤ last → ((i : ℕ) → i < 8 → P (from + entryNumbers * i)) → Lines P last from (from + 88)
+  lines-block h f = record { count = 8; ends = omega arith; each = f; inside = λ i a. omega arith }
+
+  pub lines-one : from < last → P from → Lines P last from (from + entryNumbers)
+  lines-one h p =
+      let here : (i : ℕ) → i < 1 → from ≡ from + entryNumbers * i = λ i a. omega arith in
+      record { count = 1; ends = omega arith; each = λ i a. subst P (here i a) p; inside = λ i a. omega arith }
+
+  -- If there are any, the first is not the one at `last`, nor are they past it.
+  pub lines-some : (to : ℕ) → Lines P last from to → (to ≡ from → ⊥) → (from < last) × (from < to) × (to < last + entryNumbers)
+  lines-some to p n =
+      by-lt 0 (p .count)
+      (λ a. (omega (arith, p .inside 0 a), omega (arith, p .ends), omega (arith, p .ends, p .inside (p .count - 1) (omega arith))))
+      (λ b. absurd (n (omega (arith, p .ends))))
 
 -- One more line, of a property of all lines from a number of the table on.
 pub next-line : (P : ℕ → Type 0) (at n : ℕ) → ((i : ℕ) → i < n → P (at + entryNumbers * i)) → P (at + entryNumbers * n)

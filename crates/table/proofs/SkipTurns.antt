@@ -117,21 +117,6 @@ pub below-good : (n : ℕ) → n < 2 → endingAt false n ≡ true
 unfolding endingAt
 below-good n h = rw (le-leb n 3 (omega arith), ne-eqb n 2 (λ e. omega arith))
 
--- One plain line after others.
-module _ (t : List ℕ) (last most from : ℕ) where
-  pub plain-none : PlainLines t last most from from
-  plain-none = record { count = 0; ends = omega arith; each = λ i h. absurd (omega arith); inside = λ i h. absurd (omega arith) }
-
-  pub plain-more : (at : ℕ) → at < last → PlainLine t at most → PlainLines t last most from at → PlainLines t last most from (at + entryNumbers)
-  plain-more at h p c =
-      let here : (i : ℕ) → i < suc (c .count) → c .count ≤ i → at ≡ from + entryNumbers * i = λ i a b. omega (arith, c .ends) in
-      record {
-        count = suc (c .count);
-        ends = omega (arith, c .ends);
-        each = λ i a. by-lt i (c .count) (c .each i) (λ b. subst (λ (x : ℕ). PlainLine t x most) (here i a b) p);
-        inside = λ i a. by-lt i (c .count) (c .inside i) (λ b. omega (arith, here i a b));
-      }
-
 -- The lines from line j up to line k are skipped if the last of them starts within the text.
 pub record Skimmed (t : List ℕ) (lines n most j k : ℕ) : Type 0 where
   pub some : 1 ≤ k

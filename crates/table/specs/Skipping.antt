@@ -1,6 +1,6 @@
 -- Good lines that are not the last, skipped one after the other by plain numbers.
 -- Assumes nothing.
-use Prim.Native.Nat.{ℕ, _+_, _-_, _*_, _≤_, _<_}
+use Prim.Native.Nat.{ℕ, _+_, _-_, _*_, _%_, _≤_, _<_}
 use mathlib.Core.Path.{_≡_}
 use mathlib.Core.Bool.{true, false, _&&_}
 use mathlib.Core.List.{List}
@@ -24,9 +24,13 @@ pub record GoodLine (t : List ℕ) (at n most : ℕ) : Type 0 where
   pub inside : getD t at 0 ≤ n
   pub low : getD t (at + 9) 0 ≤ most
 
--- Two numbers side by side, as one; the first is a number of 32 bits.
+-- Two numbers side by side, as one: the second counts 2^32 times.
+abbrev pub pairAt : List ℕ → (at : ℕ) → ℕ
+pairAt t at = getD t at 0 + 4294967296 * getD t (at + 1) 0
+
+-- The first of them is a number of 32 bits.
 pub record Paired (t : List ℕ) (at r : ℕ) : Type 0 where
-  pub both : r ≡ getD t at 0 + 4294967296 * getD t (at + 1) 0
+  pub both : r ≡ pairAt t at
   pub low : getD t at 0 < 4294967296
 
 -- The line cuts no run of spaces, and is not the last.
@@ -47,12 +51,32 @@ pub record PlainLine (t : List ℕ) (at most : ℕ) : Type 0 where
   pub follows : Follows t at most
   pub end : PlainEnd t at
 
--- All lines from one number of the table up to another are, and none of them is the one at `last`.
-pub record PlainLines (t : List ℕ) (last most from to : ℕ) : Type 0 where
+-- All lines from one number of the table up to another are so, and none of them is the one at `last`.
+pub record Lines (P : ℕ → Type 0) (last from to : ℕ) : Type 0 where
   pub count : ℕ
   pub ends : to ≡ from + entryNumbers * count
-  pub each : (i : ℕ) → i < count → PlainLine t (from + entryNumbers * i) most
+  pub each : (i : ℕ) → i < count → P (from + entryNumbers * i)
   pub inside : (i : ℕ) → i < count → from + entryNumbers * i < last
+
+abbrev pub PlainLines : List ℕ → (last most from to : ℕ) → Type 0
+PlainLines t last most = Lines (λ (at : ℕ). PlainLine t at most) last
+
+-- The characters before a line are its start and a lag, modulo 2^32. The line behind it starts past its start and within what it
+-- reached, which is at most this, and has no rest.
+pub record InStep (t : List ℕ) (at lag most : ℕ) : Type 0 where
+  pub counted : getD t (at + 10) 0 ≡ (getD t at 0 + lag) % 4294967296
+  pub past : getD t at 0 < getD t (at + entryNumbers) 0
+  pub within : getD t (at + entryNumbers) 0 ≤ getD t (at + 9) 0
+  pub restless : getD t (at + entryNumbers + 1) 0 ≡ 0
+  pub low : getD t (at + 9) 0 ≤ most
+
+-- Such a line, if it cuts no run of spaces, is plain behind another one.
+pub record StepLine (t : List ℕ) (at lag most : ℕ) : Type 0 where
+  pub step : InStep t at lag most
+  pub end : PlainEnd t at
+
+abbrev pub StepLines : List ℕ → (last lag most from to : ℕ) → Type 0
+StepLines t last lag most = Lines (λ (at : ℕ). StepLine t at lag most) last
 
 -- The check of the lines from line k on.
 abbrev pub checkFrom : List ℕ → (lines n k : ℕ) → Checked

@@ -1,9 +1,10 @@
-// Lines as most are, without a rest and not the last, told by few tests and skipped eight at a time (refusal 5).
+// Lines as most are, without a rest and not the last, told by few tests and skipped one by one or eight at a time (refusal 5).
 use meaning::sizes::BEFORE;
 use meaning::sizes::ENDING;
 use meaning::sizes::ENTRY_NUMBERS;
 use meaning::sizes::REACH;
 use meaning::sizes::REST_COUNT;
+use std::num::wrapping_sub_u64;
 ghost use Prim.Native.Nat.{ℕ, _+_, _*_, _≤_, _<_};
 ghost use mathlib.Core.Path.{_≡_};
 ghost use mathlib.Core.Bool.{true};
@@ -12,21 +13,21 @@ ghost use Rattle.meaning.specs.Table.{entryNumbers};
 ghost use Rattle.table.specs.Skipping.{Paired, PlainEnd, Follows, PlainLine, PlainLines};
 
 // So many lines are skipped at once, and so many numbers.
-const LINES: usize = 8;
+pub const LINES: usize = 8;
 
-const BLOCK: usize = LINES * ENTRY_NUMBERS;
+pub const BLOCK: usize = LINES * ENTRY_NUMBERS;
 
 // No rest, and an end type of 3, as one number.
 const SOFT_END: u64 = 12884901888;
 
-fn wide(x: u32) -> u64
+pub fn wide(x: u32) -> u64
     ensures { λ r. ⌜ (r ≡ x) × (r < 4294967296) ⌝ }
 {
     x as u64
 }
 
 // Two numbers side by side, as one: the second counts 2^32 times. They are read as one.
-fn pair(table: &[u32], at: usize) -> u64
+pub fn pair(table: &[u32], at: usize) -> u64
     requires { ⌜ at + 2 ≤ length (now table) ⌝ }
     ensures { λ r. ⌜ Paired (now (table .entry)) at r ⌝ }
 {
@@ -99,7 +100,7 @@ fn line_is_plain(table: &[u32], at: usize, most: u32) -> bool
 }
 
 // Do all lines of a block break between words.
-fn all_break(table: &[u32], at: usize) -> bool
+pub fn all_break(table: &[u32], at: usize) -> bool
     requires { ⌜ at + 88 ≤ length (now table) ⌝ }
     ensures { λ r. ⌜ (r ≡ true → (i : ℕ) → i < 8 → PlainEnd (now (table .entry)) (at + entryNumbers * i)) ⌝ }
 {
@@ -129,16 +130,31 @@ fn all_following(table: &[u32], at: usize, most: u32) -> u32
     0
 }
 
-// Blocks of plain lines are skipped, while there are any before the line at `last`. What their lines end with is asked first: it is
-// there that most of the others differ.
-fn skip_blocks(table: &[u32], last: usize, from: usize, most: u32) -> usize
+// Where the last block may start that is skipped by these tests: where this one does, if its lines add as many bytes as characters to
+// the line before them. The next ones may do so too, and there are fewer tests for such (`in_step.rt`).
+fn last_block(table: &[u32], at: usize, stop: usize) -> usize
+    requires { ⌜ (entryNumbers ≤ at) × (at + 88 ≤ length (now table)) × (at ≤ stop) ⌝ }
+    ensures { λ r. ⌜ r ≤ stop ⌝ }
+{
+    let before = at - ENTRY_NUMBERS;
+    let end = at + BLOCK - ENTRY_NUMBERS;
+    let lag = wrapping_sub_u64(wide(table[before + BEFORE]), pair(table, before));
+    if lag == wrapping_sub_u64(wide(table[end + BEFORE]), pair(table, end)) {
+        return at;
+    }
+    stop
+}
+
+// Blocks of plain lines are skipped, up to one with as many bytes as characters and while there are any before the line at `last`.
+// What their lines end with is asked first: it is there that most of the others differ.
+pub fn skip_blocks(table: &[u32], last: usize, from: usize, most: u32) -> usize
     requires { ⌜ (entryNumbers ≤ from) × (last + entryNumbers ≤ length (now table)) ⌝ }
     ensures { λ r. ⌜ PlainLines (now (table .entry)) last most from r ⌝ }
 {
     if last < BLOCK {
         return from;
     }
-    let stop = last - BLOCK;
+    let mut stop = last - BLOCK;
     let mut at = from;
     while at <= stop {
         if !all_break(table, at) {
@@ -151,13 +167,14 @@ fn skip_blocks(table: &[u32], last: usize, from: usize, most: u32) -> usize
         if told != 0 {
             return from;
         }
+        stop = last_block(table, at, stop);
         at += BLOCK;
     }
     at
 }
 
 // Plain lines are skipped one by one, up to the line at `last`.
-fn skip_singly(table: &[u32], last: usize, from: usize, most: u32) -> usize
+pub fn skip_singly(table: &[u32], last: usize, from: usize, most: u32) -> usize
     requires { ⌜ (entryNumbers ≤ from) × (last + entryNumbers ≤ length (now table)) ⌝ }
     ensures { λ r. ⌜ PlainLines (now (table .entry)) last most from r ⌝ }
 {
@@ -169,26 +186,4 @@ fn skip_singly(table: &[u32], last: usize, from: usize, most: u32) -> usize
         at += ENTRY_NUMBERS;
     }
     at
-}
-
-// Where a block ends that starts at a number of the table, or `last` if that comes first.
-fn block_end(last: usize, at: usize) -> usize
-    ensures { λ r. ⌜ r ≤ last ⌝ }
-{
-    if last < BLOCK {
-        return last;
-    }
-    if last - BLOCK <= at {
-        return last;
-    }
-    at + BLOCK
-}
-
-// The first line from a number of the table on that is not plain, or one behind a block; the line at `last` is none.
-pub fn skip_plain(table: &[u32], last: usize, from: usize, most: u32) -> usize
-    requires { ⌜ (entryNumbers ≤ from) × (last + entryNumbers ≤ length (now table)) ⌝ }
-    ensures { λ r. ⌜ PlainLines (now (table .entry)) last most from r ⌝ }
-{
-    let at = skip_blocks(table, last, from, most);
-    skip_singly(table, block_end(last, at), at, most)
 }

@@ -3,7 +3,7 @@ use crate::one_line::count_fits;
 use crate::one_line::ending_good;
 use crate::one_line::rest_stands;
 use crate::one_line::start_fits;
-use crate::plain::skip_plain;
+use crate::runs::skip_plain;
 use meaning::sizes::BEFORE;
 use meaning::sizes::ENDING;
 use meaning::sizes::ENTRY_NUMBERS;
@@ -59,7 +59,7 @@ fn skipped_to(table: &[u32], j: usize, at: usize, bytes: u32) -> usize
 }
 
 // The first line from line j on that is not good; the last is none, nor is one whose reach is above `most`. Lines as most are go by
-// themselves (`plain.rt`), since the others take longer.
+// themselves (`runs.rt`), since the others take longer.
 pub fn skip_good(table: &[u32], lines: usize, j: usize, bytes: u32, most: u32) -> usize
     requires { ⌜ (1 ≤ j) × (j ≤ lines) × (entryNumbers * lines ≤ length (now table)) × (most ≤ bytes + 1) ⌝ }
     ensures { λ r. ⌜ Skipped (now (table .entry)) lines bytes most j r ⌝ }

@@ -4,7 +4,7 @@ use Prim.Native.Nat.{_-_}
 use native.Mathlib.Omega.{arith}
 use borrow.Author.Tests.{not-false}
 use Rattle.table.specs.Skipping.{PlainLines}
-use Rattle.table.proofs.SkipTurns.{plain-none, plain-more}
+use Rattle.table.proofs.PlainTurns.{lines-none, lines-join, lines-one}
 use borrow.Author.Needs.{needs}
 use Rattle.table.proofs.plain.skip_singly.Statement.{statement}
 use Rattle.table.proofs.plain.skip_singly.Tie as tie
@@ -16,7 +16,7 @@ abbrev μ-loop : tie.MeasureT-loop
 μ-loop table last from most at₀ at = last - at
 
 loop-holds : tie.Need-loop-holds Inv-loop μ-loop
-loop-holds c = plain-none _ _ _ _
+loop-holds c = lines-none _ _ _
 
 line-is-plain-requires : tie.Need-line-is-plain-requires Inv-loop μ-loop
 line-is-plain-requires c κs = (omega (arith, c .before .loop .inv .ends), omega arith)
@@ -34,7 +34,7 @@ loop-again : tie.Need-loop-again Inv-loop μ-loop
 loop-again c =
     let p = c .before in
     let l = p .before .before in
-    plain-more _ _ _ _ _ (p .before .loop-test .taken) (p .line-is-plain .ensures (not-false _ (c .if1 .left))) (l .loop .inv)
+    lines-join _ _ _ _ _ (l .loop .inv) (lines-one _ _ _ (p .before .loop-test .taken) (p .line-is-plain .ensures (not-false _ (c .if1 .left))))
 
 returns-2 : tie.Need-returns-2 Inv-loop μ-loop
 returns-2 c = c .before .loop .inv
