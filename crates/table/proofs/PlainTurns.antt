@@ -1,6 +1,6 @@
 -- Plain lines: the tests of one line by plain numbers, two of them read as one, and blocks of lines after others.
 -- Assumes nothing.
-use Prim.Native.Nat.{ℕ, _+_, _-_, _*_, _≤_, _<_}
+use Prim.Native.Nat.{ℕ, _+_, _-_, _*_, _%_, _≤_, _<_}
 use mathlib.Core.Path.{_≡_, subst}
 use mathlib.Core.Bool.{true, false}
 use mathlib.Core.List.{List}
@@ -10,7 +10,7 @@ use lib.ListN.{getD}
 use Rattle.basis.specs.Order.{by-lt}
 use Rattle.meaning.specs.Table.{entryNumbers}
 use Rattle.table.specs.OneLine.{countFits, endingAt}
-use Rattle.table.specs.Skipping.{Paired, PlainEnd, Follows, Lines}
+use Rattle.table.specs.Skipping.{Paired, PlainEnd, Starts, Lines}
 use Rattle.table.proofs.SkipTurns.{breaks-good}
 
 -- ---- one line
@@ -30,19 +30,22 @@ module _ (t : List ℕ) (at : ℕ) where
         ending = breaks-good (getD t (at + 3) 0) (subst (λ (i : ℕ). getD t i 0 ≡ 3) place three);
       }
 
-  -- What the tests of a line that follows say: a start that is at most a number of 32 bits has no rest beside it.
-  pub follows-on : (most start reached from chars : ℕ) → Paired t at start → reached ≡ getD t (at - entryNumbers + 9) 0 → reached < 4294967296
-      → start ≤ reached → from ≡ getD t (at - entryNumbers) 0 → from < start
-      → getD t (at - entryNumbers + 10) 0 < getD t (at + 10) 0 → chars ≡ getD t (at + 10) 0 → chars ≤ start → getD t (at + 9) 0 ≤ most
-      → Follows t at most
-  follows-on most start reached from chars p q b w f l c d e o =
-      record {
-        past = omega (arith, p .both);
-        within = omega (arith, p .both);
-        counted = counts-fit _ _ _ c (omega (arith, p .both));
-        restless = omega (arith, p .both);
-        low = o;
-      }
+  -- What the tests of a line's start say: a start that is at most a number of 32 bits has no rest beside it.
+  pub starts-on : (most start reached from : ℕ) → Paired t at start → reached ≡ getD t (at - entryNumbers + 9) 0 → reached < 4294967296
+      → start ≤ reached → from ≡ getD t (at - entryNumbers) 0 → from < start → getD t (at + 9) 0 ≤ most
+      → Starts t at most
+  starts-on most start reached from p q b w f l o =
+      record { past = omega (arith, p .both); within = omega (arith, p .both); restless = omega (arith, p .both); low = o }
+
+-- As many characters more as bytes, or fewer: one test of how many there are fewer before the line before, modulo 2^64.
+pub counts-between : (c0 c1 s0 s1 fewer back : ℕ) → c0 < 4294967296 → c1 < 4294967296 → s1 < 4294967296 → s0 < s1
+    → (fewer + c1) % 18446744073709551616 ≡ c0 → fewer < 18446744073709551616 → (back + s1) % 18446744073709551616 ≡ s0 → back < 18446744073709551616
+    → back ≤ fewer
+    → (c0 < c1) × (c1 + s0 ≤ c0 + s1)
+counts-between c0 c1 s0 s1 fewer back a b c d e f g h i =
+    let far : back + s1 ≡ 18446744073709551616 + s0 = omega arith in
+    let more : fewer + c1 ≡ 18446744073709551616 + c0 = omega arith in
+    (omega arith, omega arith)
 
 -- ---- line after line
 

@@ -60,9 +60,9 @@ module _ (t : List ℕ) (at n most : ℕ) where
   unfolding startFits restStands
   plain-good m h p =
       let fits : startFits n (getD t (at - entryNumbers) 0) (getD t (at - entryNumbers + 9) 0) (getD t at 0) ≡ true
-      = rw (lt-ltb _ _ (p .follows .past), le-leb _ _ (p .follows .within), le-leb _ _ h) in
-      let ends : endingAt false (getD t (at + 3) 0) && leb (getD t (at + 9) 0) most ≡ true = rw (p .end .ending, le-leb _ _ (p .follows .low)) in
-      all-good m fits (rw (eq-eqb _ _ (p .follows .restless), eq-eqb _ _ (p .end .none))) (p .follows .counted) ends
+      = rw (lt-ltb _ _ (p .follows .starts .past), le-leb _ _ (p .follows .starts .within), le-leb _ _ h) in
+      let ends : endingAt false (getD t (at + 3) 0) && leb (getD t (at + 9) 0) most ≡ true = rw (p .end .ending, le-leb _ _ (p .follows .starts .low)) in
+      all-good m fits (rw (eq-eqb _ _ (p .follows .starts .restless), eq-eqb _ _ (p .end .none))) (p .follows .counted) ends
 
 -- ---- line after line
 
@@ -146,7 +146,7 @@ module _ (t : List ℕ) (lines n most j : ℕ) (m : most ≤ n + 1) where
 
     pub skim-plain : PlainLine t (entryNumbers * k) most → Skimmed t lines n most j (k + 1)
     skim-plain p =
-        skim-on (λ b. skip-one t lines n most j k h (plain-good t at n most m b p) (c .skipped (omega (arith, p .follows .past, p .follows .within, c .reached)))) (p .follows .low)
+        skim-on (λ b. skip-one t lines n most j k h (plain-good t at n most m b p) (c .skipped (omega (arith, p .follows .starts .past, p .follows .starts .within, c .reached)))) (p .follows .starts .low)
 
     pub skim-good : GoodLine t (entryNumbers * k) n most → Skimmed t lines n most j (k + 1)
     skim-good p = skim-on (λ b. skip-one t lines n most j k h p (c .skipped (omega (arith, p .past, p .inside)))) (p .low)

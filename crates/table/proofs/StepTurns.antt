@@ -8,7 +8,7 @@ use native.Mathlib.Omega.{arith}
 use lib.ListN.{getD}
 use Rattle.meaning.specs.Table.{entryNumbers}
 use Rattle.table.specs.OneLine.{countFits}
-use Rattle.table.specs.Skipping.{pairAt, Paired, PlainEnd, Follows, PlainLine, PlainLines, InStep, StepLine, StepLines}
+use Rattle.table.specs.Skipping.{pairAt, Paired, PlainEnd, Counted, Starts, Follows, PlainLine, PlainLines, InStep, StepLine, StepLines}
 use Rattle.table.proofs.PlainTurns.{counts-fit}
 
 -- ---- one line
@@ -65,38 +65,37 @@ counts-on : (lag s0 c0 s1 c1 : ℕ) → c0 ≡ (s0 + lag) % 4294967296 → c1 �
     → (c0 < c1) × (c1 ≤ s1)
 counts-on lag s0 c0 s1 c1 p q a b c = (omega arith, omega arith)
 
-module _ (t : List ℕ) where
-  abbrev Under : (at : ℕ) → Type 0
-  Under at = getD t (at + 10) 0 ≤ getD t at 0
-
-module _ (t : List ℕ) (lag most : ℕ) (m : most < 4294967296) (at : ℕ) (u : Under t at) (p : InStep t at lag most) (q : InStep t (at + entryNumbers) lag most) where
-  step-counts : (getD t (at + 10) 0 < getD t (at + entryNumbers + 10) 0) × Under t (at + entryNumbers)
+module _ (t : List ℕ) (lag most : ℕ) (m : most < 4294967296) (at : ℕ) (u : Counted t at) (p : InStep t at lag most) (q : InStep t (at + entryNumbers) lag most) where
+  step-counts : (getD t (at + 10) 0 < getD t (at + entryNumbers + 10) 0) × Counted t (at + entryNumbers)
   step-counts = counts-on lag (getD t at 0) _ (getD t (at + entryNumbers) 0) _ (p .counted) (q .counted) u (p .past) (omega (arith, p .within, p .low))
 
   step-follows : Follows t (at + entryNumbers) most
   step-follows =
       let here : at ≡ at + entryNumbers - entryNumbers = omega arith in
       record {
-        past = subst (λ (x : ℕ). getD t x 0 < getD t (at + entryNumbers) 0) here (p .past);
-        within = subst (λ (x : ℕ). getD t (at + entryNumbers) 0 ≤ getD t (x + 9) 0) here (p .within);
+        starts =
+            record {
+              past = subst (λ (x : ℕ). getD t x 0 < getD t (at + entryNumbers) 0) here (p .past);
+              within = subst (λ (x : ℕ). getD t (at + entryNumbers) 0 ≤ getD t (x + 9) 0) here (p .within);
+              restless = p .restless;
+              low = q .low;
+            };
         counted =
             subst (λ (x : ℕ). countFits (getD t (x + 10) 0) (getD t (at + entryNumbers) 0) (getD t (at + entryNumbers + 10) 0) ≡ true) here
             (counts-fit _ _ _ (step-counts .0) (step-counts .1));
-        restless = p .restless;
-        low = q .low;
       }
 
 -- Behind the first of them, lines in step are plain.
-module _ (t : List ℕ) (last lag most from to : ℕ) (m : most < 4294967296) (h : Under t from) (p : StepLines t last lag most from to) where
+module _ (t : List ℕ) (last lag most from to : ℕ) (m : most < 4294967296) (h : Counted t from) (p : StepLines t last lag most from to) where
   on : (i : ℕ) → from + entryNumbers * i + entryNumbers ≡ from + entryNumbers * suc i
   on i = omega arith
 
   next : (i : ℕ) → suc i < p .count → InStep t (from + entryNumbers * i + entryNumbers) lag most
   next i a = subst (λ (x : ℕ). InStep t x lag most) (sym (on i)) (p .each (suc i) a .step)
 
-  under : (i : ℕ) → i < p .count → Under t (from + entryNumbers * i)
-  under zero a = let first : from ≡ from + entryNumbers * zero = omega arith in subst (Under t) first h
-  under (suc i) a = subst (Under t) (on i) (step-counts t lag most m (from + entryNumbers * i) (under i (omega arith)) (p .each i (omega arith) .step) (next i a) .1)
+  under : (i : ℕ) → i < p .count → Counted t (from + entryNumbers * i)
+  under zero a = let first : from ≡ from + entryNumbers * zero = omega arith in subst (Counted t) first h
+  under (suc i) a = subst (Counted t) (on i) (step-counts t lag most m (from + entryNumbers * i) (under i (omega arith)) (p .each i (omega arith) .step) (next i a) .1)
 
   pub steps-plain : from + entryNumbers ≤ to → PlainLines t last most (from + entryNumbers) to
   steps-plain l =

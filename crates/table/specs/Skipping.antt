@@ -38,13 +38,21 @@ pub record PlainEnd (t : List ℕ) (at : ℕ) : Type 0 where
   pub none : getD t (at + 2) 0 ≡ 0
   pub ending : endingAt false (getD t (at + 3) 0) ≡ true
 
+-- No more characters than bytes stand before it.
+abbrev pub Counted : List ℕ → (at : ℕ) → Type 0
+Counted t at = getD t (at + 10) 0 ≤ getD t at 0
+
 -- It starts behind the start of the line before it and within what that reached, without a rest, and its reach is at most this.
-pub record Follows (t : List ℕ) (at most : ℕ) : Type 0 where
+pub record Starts (t : List ℕ) (at most : ℕ) : Type 0 where
   pub past : getD t (at - entryNumbers) 0 < getD t at 0
   pub within : getD t at 0 ≤ getD t (at - entryNumbers + 9) 0
-  pub counted : countFits (getD t (at - entryNumbers + 10) 0) (getD t at 0) (getD t (at + 10) 0) ≡ true
   pub restless : getD t (at + 1) 0 ≡ 0
   pub low : getD t (at + 9) 0 ≤ most
+
+-- So many characters stand before it as may.
+pub record Follows (t : List ℕ) (at most : ℕ) : Type 0 where
+  pub starts : Starts t at most
+  pub counted : countFits (getD t (at - entryNumbers + 10) 0) (getD t at 0) (getD t (at + 10) 0) ≡ true
 
 -- Such a line is good if it starts within the text.
 pub record PlainLine (t : List ℕ) (at most : ℕ) : Type 0 where

@@ -76,11 +76,8 @@ fn pass_blocks(table: &[u32], last: usize, from: usize, lag: u32, most: u32) -> 
             return at;
         }
         let told = all_in_step(table, at, lag, most);
-        if told == 1 {
-            return at;
-        }
         if told != 0 {
-            return from;
+            return at;
         }
         at += BLOCK;
     }

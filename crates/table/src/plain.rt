@@ -5,12 +5,12 @@ use meaning::sizes::ENTRY_NUMBERS;
 use meaning::sizes::REACH;
 use meaning::sizes::REST_COUNT;
 use std::num::wrapping_sub_u64;
-ghost use Prim.Native.Nat.{ℕ, _+_, _*_, _≤_, _<_};
+ghost use Prim.Native.Nat.{ℕ, _+_, _-_, _*_, _≤_, _<_};
 ghost use mathlib.Core.Path.{_≡_};
 ghost use mathlib.Core.Bool.{true};
 ghost use lib.ListN.{length, getD};
 ghost use Rattle.meaning.specs.Table.{entryNumbers};
-ghost use Rattle.table.specs.Skipping.{Paired, PlainEnd, Follows, PlainLine, PlainLines};
+ghost use Rattle.table.specs.Skipping.{Paired, PlainEnd, Counted, Starts, Follows, PlainLine, PlainLines};
 
 // So many lines are skipped at once, and so many numbers.
 pub const LINES: usize = 8;
@@ -58,12 +58,12 @@ fn ends_plainly(table: &[u32], at: usize) -> bool
     table[at + ENDING] < 2
 }
 
-// 0 if a line follows the one before it as most do, without a rest, and its reach is at most `most`; else 1 or 2. The compiler
+// 0 if a line starts behind the one before it as most do, without a rest, and its reach is at most `most`; else 1 or 2. The compiler
 // joins tests of one answer, which takes longer than a branch for each. Whether it starts within the text is not asked: it does if
 // the line after it starts within what it reached.
-fn following(table: &[u32], at: usize, most: u32) -> u32
+fn starting(table: &[u32], at: usize, most: u32) -> u32
     requires { ⌜ (entryNumbers ≤ at) × (at + entryNumbers ≤ length (now table)) ⌝ }
-    ensures { λ r. ⌜ (r ≡ 0 → Follows (now (table .entry)) at most) ⌝ }
+    ensures { λ r. ⌜ (r ≡ 0 → Starts (now (table .entry)) at most) ⌝ }
 {
     let before = at - ENTRY_NUMBERS;
     let start = pair(table, at);
@@ -75,15 +75,44 @@ fn following(table: &[u32], at: usize, most: u32) -> u32
     if start <= from {
         return 2;
     }
-    let chars = table[at + BEFORE];
-    if chars <= table[before + BEFORE] {
-        return 2;
-    }
-    if start < wide(chars) {
-        return 1;
-    }
     if most < table[at + REACH] {
         return 1;
+    }
+    0
+}
+
+// 0 if it follows as most do: the characters before it are more than before the line before it, and at most its start; else 1 or 2.
+fn following(table: &[u32], at: usize, most: u32) -> u32
+    requires { ⌜ (entryNumbers ≤ at) × (at + entryNumbers ≤ length (now table)) ⌝ }
+    ensures { λ r. ⌜ (r ≡ 0 → Follows (now (table .entry)) at most) ⌝ }
+{
+    let told = starting(table, at, most);
+    if told != 0 {
+        return told;
+    }
+    let chars = table[at + BEFORE];
+    if chars <= table[at - ENTRY_NUMBERS + BEFORE] {
+        return 2;
+    }
+    if table[at] < chars {
+        return 1;
+    }
+    0
+}
+
+// The same behind a line that has at most its start: one test tells that it has more characters, and no more than its start is higher.
+fn counted_on(table: &[u32], at: usize, most: u32) -> u32
+    requires { ⌜ (entryNumbers ≤ at) × (at + entryNumbers ≤ length (now table)) ⌝ }
+    ensures { λ r. ⌜ (r ≡ 0 → Counted (now (table .entry)) (at - entryNumbers) → Follows (now (table .entry)) at most × Counted (now (table .entry)) at) ⌝ }
+{
+    let told = starting(table, at, most);
+    if told != 0 {
+        return told;
+    }
+    let before = at - ENTRY_NUMBERS;
+    let fewer = wrapping_sub_u64(wide(table[before + BEFORE]), wide(table[at + BEFORE]));
+    if fewer < wrapping_sub_u64(wide(table[before]), wide(table[at])) {
+        return 2;
     }
     0
 }
@@ -119,9 +148,13 @@ fn all_following(table: &[u32], at: usize, most: u32) -> u32
     requires { ⌜ (entryNumbers ≤ at) × (at + 88 ≤ length (now table)) ⌝ }
     ensures { λ r. ⌜ (r ≡ 0 → (i : ℕ) → i < 8 → Follows (now (table .entry)) (at + entryNumbers * i) most) ⌝ }
 {
+    let before = at - ENTRY_NUMBERS;
+    if table[before] < table[before + BEFORE] {
+        return 1;
+    }
     let mut i: usize = 0;
     while i < LINES {
-        let told = following(table, at + ENTRY_NUMBERS * i, most);
+        let told = counted_on(table, at + ENTRY_NUMBERS * i, most);
         if told != 0 {
             return told;
         }
@@ -161,11 +194,8 @@ pub fn skip_blocks(table: &[u32], last: usize, from: usize, most: u32) -> usize
             return at;
         }
         let told = all_following(table, at, most);
-        if told == 1 {
-            return at;
-        }
         if told != 0 {
-            return from;
+            return at;
         }
         stop = last_block(table, at, stop);
         at += BLOCK;

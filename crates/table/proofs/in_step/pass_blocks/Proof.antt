@@ -33,9 +33,6 @@ all-in-step-requires c κs = omega arith
 returns-3 : tie.Need-returns-3 Inv-loop μ-loop
 returns-3 c = c .before .before .before .before .before .loop .inv
 
-returns-4 : tie.Need-returns-4 Inv-loop μ-loop
-returns-4 c = lines-none _ _ _
-
 add-at : tie.Need-add-at Inv-loop μ-loop
 add-at c = search needs
 
@@ -44,16 +41,16 @@ loop-less c = search needs
 
 loop-again : tie.Need-loop-again Inv-loop μ-loop
 loop-again c =
-    let s = c .before .before in
+    let s = c .before in
     let b = s .before .before in
     let l = b .before .before in
     let breaks = b .all-break .ensures (not-false _ (s .before .if2 .left)) in
-    let steps = s .all-in-step .ensures (c .if4 .left) in
+    let steps = s .all-in-step .ensures (c .if3 .left) in
     lines-join _ _ _ _ _ (l .loop .inv)
     (lines-block _ _ _ (omega (arith, b .before .loop-test .taken)) (λ i h. record { step = steps i h; end = breaks i h }))
 
-returns-5 : tie.Need-returns-5 Inv-loop μ-loop
-returns-5 c = c .before .loop .inv
+returns-4 : tie.Need-returns-4 Inv-loop μ-loop
+returns-4 c = c .before .loop .inv
 
 pub pass-blocks-spec : {M : Type 1} → statement M
 pass-blocks-spec =
@@ -67,8 +64,7 @@ pass-blocks-spec =
     returns-2
     all-in-step-requires
     returns-3
-    returns-4
     add-at
     loop-less
     loop-again
-    returns-5)
+    returns-4)

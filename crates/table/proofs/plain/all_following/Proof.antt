@@ -1,34 +1,60 @@
 -- `table::plain::all_following` meets its contract (refusal 5).
 -- Assumes nothing.
 use Prim.Native.Nat.{ℕ, _+_, _-_, _*_, _≤_, _<_}
+use mathlib.Core.Path.{_≡_, subst}
 use native.Mathlib.Omega.{arith}
 use Rattle.meaning.specs.Table.{entryNumbers}
-use Rattle.table.specs.Skipping.{Follows}
+use Rattle.table.specs.Skipping.{Counted, Follows}
 use Rattle.table.proofs.PlainTurns.{next-line}
 use borrow.Author.Needs.{needs}
 use Rattle.table.proofs.plain.all_following.Statement.{statement}
 use Rattle.table.proofs.plain.all_following.Tie as tie
 
 abbrev Inv-loop : tie.InvT-loop
-Inv-loop table at most i₀ i = ((j : ℕ) → j < i → Follows table (at + entryNumbers * j) most) × (i ≤ 8)
+Inv-loop table at most before i₀ i =
+    ((j : ℕ) → j < i → Follows table (at + entryNumbers * j) most) × Counted table (at + entryNumbers * i - entryNumbers) × (i ≤ 8)
 
 abbrev μ-loop : tie.MeasureT-loop
-μ-loop table at most i₀ i = 8 - i
+μ-loop table at most before i₀ i = 8 - i
 
-loop-holds : tie.Need-loop-holds Inv-loop μ-loop
-loop-holds c = (λ j h. absurd (omega arith), omega arith)
+sub-before : tie.Need-sub-before Inv-loop μ-loop
+sub-before c = search needs
 
-mul-following : tie.Need-mul-following Inv-loop μ-loop
-mul-following c = search needs
+mul-if1 : tie.Need-mul-if1 Inv-loop μ-loop
+mul-if1 c = search needs
 
-add-following : tie.Need-add-following Inv-loop μ-loop
-add-following c = search needs
+shared-slice-read-if1 : tie.Need-shared-slice-read-if1 Inv-loop μ-loop
+shared-slice-read-if1 c = search needs
 
-following-requires : tie.Need-following-requires Inv-loop μ-loop
-following-requires c κs = search needs
+add-if1 : tie.Need-add-if1 Inv-loop μ-loop
+add-if1 c = search needs
+
+mul-if1-2 : tie.Need-mul-if1-2 Inv-loop μ-loop
+mul-if1-2 c = search needs
+
+shared-slice-read-if1-2 : tie.Need-shared-slice-read-if1-2 Inv-loop μ-loop
+shared-slice-read-if1-2 c = search needs
 
 returns : tie.Need-returns Inv-loop μ-loop
-returns c e = absurd (c .if1 .taken e)
+returns c e = absurd (omega arith)
+
+loop-holds : tie.Need-loop-holds Inv-loop μ-loop
+loop-holds c =
+    let a = c .before .before .before .before .args in
+    let place : a .at - entryNumbers ≡ a .at + entryNumbers * 0 - entryNumbers = omega arith in
+    (λ j h. absurd (omega arith), subst (Counted (a .table .now)) place (omega (arith, c .if1 .left)), omega arith)
+
+mul-counted-on : tie.Need-mul-counted-on Inv-loop μ-loop
+mul-counted-on c = search needs
+
+add-counted-on : tie.Need-add-counted-on Inv-loop μ-loop
+add-counted-on c = search needs
+
+counted-on-requires : tie.Need-counted-on-requires Inv-loop μ-loop
+counted-on-requires c κs = search needs
+
+returns-2 : tie.Need-returns-2 Inv-loop μ-loop
+returns-2 c e = absurd (c .if2 .taken e)
 
 add-i : tie.Need-add-i Inv-loop μ-loop
 add-i c = search needs
@@ -38,12 +64,16 @@ loop-less c = search needs
 
 loop-again : tie.Need-loop-again Inv-loop μ-loop
 loop-again c =
-    let t = c .before in
-    let l = t .before .before in
-    (next-line (λ (x : ℕ). Follows (l .before .before .args .table .now) x (l .before .before .args .most)) _ _ (l .loop .inv .0) (t .following .ensures (c .if1 .left)), omega (arith, t .before .loop-test .taken))
+    let s = c .before in
+    let l = s .before .before in
+    let a = l .before .before .before .before .before .args in
+    let i = l .loop .i in
+    let told = s .counted-on .ensures (c .if2 .left) (l .loop .inv .1) in
+    let place : a .at + entryNumbers * i ≡ a .at + entryNumbers * (i + 1) - entryNumbers = omega arith in
+    (next-line (λ (x : ℕ). Follows (a .table .now) x (a .most)) _ _ (l .loop .inv .0) (told .0), subst (Counted (a .table .now)) place (told .1), omega (arith, s .before .loop-test .taken))
 
-returns-2 : tie.Need-returns-2 Inv-loop μ-loop
-returns-2 c e i h = c .before .loop .inv .0 i (omega arith)
+returns-3 : tie.Need-returns-3 Inv-loop μ-loop
+returns-3 c e i h = c .before .loop .inv .0 i (omega arith)
 
 pub all-following-spec : {M : Type 1} → statement M
 all-following-spec =
@@ -51,12 +81,19 @@ all-following-spec =
     (tie.spec
     Inv-loop
     μ-loop
-    loop-holds
-    mul-following
-    add-following
-    following-requires
+    sub-before
+    mul-if1
+    shared-slice-read-if1
+    add-if1
+    mul-if1-2
+    shared-slice-read-if1-2
     returns
+    loop-holds
+    mul-counted-on
+    add-counted-on
+    counted-on-requires
+    returns-2
     add-i
     loop-less
     loop-again
-    returns-2)
+    returns-3)

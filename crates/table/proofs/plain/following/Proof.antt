@@ -1,43 +1,16 @@
 -- `table::plain::following` meets its contract (refusal 5).
 -- Assumes nothing.
 use native.Mathlib.Omega.{arith}
-use Rattle.table.proofs.PlainTurns.{follows-on}
+use Rattle.table.proofs.PlainTurns.{counts-fit}
 use borrow.Author.Needs.{needs}
 use Rattle.table.proofs.plain.following.Statement.{statement}
 use Rattle.table.proofs.plain.following.Tie as tie
 
-sub-before : tie.Need-sub-before
-sub-before c = search needs
-
-pair-requires : tie.Need-pair-requires
-pair-requires c κs = search needs
-
-add-wide : tie.Need-add-wide
-add-wide c = search needs
-
-mul-wide : tie.Need-mul-wide
-mul-wide c = search needs
-
-shared-slice-read-wide : tie.Need-shared-slice-read-wide
-shared-slice-read-wide c = search needs
-
-wide-requires : tie.Need-wide-requires
-wide-requires c κs = search needs
+starting-requires : tie.Need-starting-requires
+starting-requires c κs = search needs
 
 returns : tie.Need-returns
-returns c = λ e. absurd (omega arith)
-
-mul-wide-2 : tie.Need-mul-wide-2
-mul-wide-2 c = search needs
-
-shared-slice-read-wide-2 : tie.Need-shared-slice-read-wide-2
-shared-slice-read-wide-2 c = search needs
-
-wide-requires-2 : tie.Need-wide-requires-2
-wide-requires-2 c κs = search needs
-
-returns-2 : tie.Need-returns-2
-returns-2 c = λ e. absurd (omega arith)
+returns c = λ e. absurd (c .if1 .taken e)
 
 add-chars : tie.Need-add-chars
 add-chars c = search needs
@@ -48,8 +21,20 @@ mul-chars c = search needs
 shared-slice-read-chars : tie.Need-shared-slice-read-chars
 shared-slice-read-chars c = search needs
 
-add-if3 : tie.Need-add-if3
-add-if3 c = search needs
+sub-if2 : tie.Need-sub-if2
+sub-if2 c = search needs
+
+add-if2 : tie.Need-add-if2
+add-if2 c = search needs
+
+mul-if2 : tie.Need-mul-if2
+mul-if2 c = search needs
+
+shared-slice-read-if2 : tie.Need-shared-slice-read-if2
+shared-slice-read-if2 c = search needs
+
+returns-2 : tie.Need-returns-2
+returns-2 c = λ e. absurd (omega arith)
 
 mul-if3 : tie.Need-mul-if3
 mul-if3 c = search needs
@@ -60,62 +45,27 @@ shared-slice-read-if3 c = search needs
 returns-3 : tie.Need-returns-3
 returns-3 c = λ e. absurd (omega arith)
 
-wide-requires-3 : tie.Need-wide-requires-3
-wide-requires-3 c κs = search needs
-
 returns-4 : tie.Need-returns-4
-returns-4 c = λ e. absurd (omega arith)
-
-add-if5 : tie.Need-add-if5
-add-if5 c = search needs
-
-mul-if5 : tie.Need-mul-if5
-mul-if5 c = search needs
-
-shared-slice-read-if5 : tie.Need-shared-slice-read-if5
-shared-slice-read-if5 c = search needs
-
-returns-5 : tie.Need-returns-5
-returns-5 c = λ e. absurd (omega arith)
-
-returns-6 : tie.Need-returns-6
-returns-6 c e =
-    let four = c .before .before in
-    let three = four .before .before in
-    let two = three .before .before .before in
+returns-4 c e =
+    let two = c .before .before in
     let one = two .before .before .before in
-    let w = one .before in
-    let p = w .before .before in
-    let a = p .before .before .args in
-    follows-on (a .table .now) (a .at) (a .most) _ _ _ _ (p .pair .ensures) (w .wide .ensures .0) (w .wide .ensures .1) (one .if1 .left)
-    (two .before .wide2 .ensures .0) (two .if2 .left) (three .if3 .left) (four .before .wide3 .ensures .0) (four .if4 .left) (c .if5 .left)
+    record { starts = one .before .starting .ensures (one .if1 .left); counted = counts-fit _ _ _ (two .if2 .left) (c .if3 .left) }
 
 pub following-spec : {M : Type 1} → statement M
 following-spec =
     tie.close
     (tie.spec
-    sub-before
-    pair-requires
-    add-wide
-    mul-wide
-    shared-slice-read-wide
-    wide-requires
+    starting-requires
     returns
-    mul-wide-2
-    shared-slice-read-wide-2
-    wide-requires-2
-    returns-2
     add-chars
     mul-chars
     shared-slice-read-chars
-    add-if3
+    sub-if2
+    add-if2
+    mul-if2
+    shared-slice-read-if2
+    returns-2
     mul-if3
     shared-slice-read-if3
     returns-3
-    wide-requires-3
-    returns-4
-    add-if5
-    mul-if5
-    shared-slice-read-if5
-    returns-5
-    returns-6)
+    returns-4)

@@ -35,12 +35,9 @@ all-following-requires c κs = (omega (arith, c .before .before .before .loop .i
 returns-3 : tie.Need-returns-3 Inv-loop μ-loop
 returns-3 c = c .before .before .before .before .before .loop .inv .0
 
-returns-4 : tie.Need-returns-4 Inv-loop μ-loop
-returns-4 c = lines-none _ _ _
-
 last-block-requires : tie.Need-last-block-requires Inv-loop μ-loop
 last-block-requires c κs =
-    let l = c .before .before .before .before .before .before in
+    let l = c .before .before .before .before .before in
     (omega (arith, l .loop .inv .0 .ends), omega arith, omega arith)
 
 add-at : tie.Need-add-at Inv-loop μ-loop
@@ -52,15 +49,15 @@ loop-less c = search needs
 loop-again : tie.Need-loop-again Inv-loop μ-loop
 loop-again c =
     let e = c .before in
-    let f = e .before .before in
+    let f = e .before in
     let b = f .before .before in
     let l = b .before .before in
     let breaks = b .all-break .ensures (not-false _ (f .before .if2 .left)) in
-    let follow = f .all-following .ensures (e .if4 .left) in
+    let follow = f .all-following .ensures (e .if3 .left) in
     (lines-join _ _ _ _ _ (l .loop .inv .0) (lines-block _ _ _ (omega (arith, b .before .loop-test .taken)) (λ i h. record { follows = follow i h; end = breaks i h })), omega (arith, l .loop .inv .1, c .last-block .ensures))
 
-returns-5 : tie.Need-returns-5 Inv-loop μ-loop
-returns-5 c = c .before .loop .inv .0
+returns-4 : tie.Need-returns-4 Inv-loop μ-loop
+returns-4 c = c .before .loop .inv .0
 
 pub skip-blocks-spec : {M : Type 1} → statement M
 skip-blocks-spec =
@@ -74,9 +71,8 @@ skip-blocks-spec =
     returns-2
     all-following-requires
     returns-3
-    returns-4
     last-block-requires
     add-at
     loop-less
     loop-again
-    returns-5)
+    returns-4)
