@@ -49,7 +49,7 @@ pub record Starts (t : List ℕ) (at most : ℕ) : Type 0 where
   pub restless : getD t (at + 1) 0 ≡ 0
   pub low : getD t (at + 9) 0 ≤ most
 
--- So many characters stand before it as may.
+-- More characters stand before it than before the line before it, and no more than bytes.
 pub record Follows (t : List ℕ) (at most : ℕ) : Type 0 where
   pub starts : Starts t at most
   pub counted : countFits (getD t (at - entryNumbers + 10) 0) (getD t at 0) (getD t (at + 10) 0) ≡ true

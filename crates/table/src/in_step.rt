@@ -18,7 +18,7 @@ ghost use Rattle.meaning.specs.Table.{entryNumbers};
 ghost use Rattle.table.specs.Skipping.{pairAt, InStep, StepLines, PlainLines};
 
 // 0 if a line is in step with a lag, the number that makes its start the characters before it, and the line behind it starts past its
-// start and before its reach, without a rest; else 1 or 2, told apart for the compiler as in `following`. The lines start at most at
+// start and before its reach, without a rest; else 1 or 2, told apart for the compiler as in `starting`. The lines start at most at
 // `last`: a reach that is no further past the next start than `most` is past `last` is at most `most`.
 fn in_step(table: &[u32], at: usize, lag: u32, last: u64, most: u64) -> u32
     requires { ⌜ (at + 22 ≤ length (now table)) × (pairAt (now table) (at + entryNumbers) ≤ last) × (last < most) × (most < 4294967296) ⌝ }

@@ -100,7 +100,8 @@ fn following(table: &[u32], at: usize, most: u32) -> u32
     0
 }
 
-// The same behind a line that has at most its start: one test tells that it has more characters, and no more than its start is higher.
+// The same, if no more characters than bytes stand before the line before it: one test tells that there are more characters before this
+// one, by no more than its start is higher.
 fn counted_on(table: &[u32], at: usize, most: u32) -> u32
     requires { ⌜ (entryNumbers ≤ at) × (at + entryNumbers ≤ length (now table)) ⌝ }
     ensures { λ r. ⌜ (r ≡ 0 → Counted (now (table .entry)) (at - entryNumbers) → Follows (now (table .entry)) at most × Counted (now (table .entry)) at) ⌝ }
@@ -164,18 +165,23 @@ fn all_following(table: &[u32], at: usize, most: u32) -> u32
 }
 
 // Where the last block may start that is skipped by these tests: where this one does, if its lines add as many bytes as characters to
-// the line before them. The next ones may do so too, and there are fewer tests for such (`in_step.rt`).
-fn last_block(table: &[u32], at: usize, stop: usize) -> usize
+// the line before them, and the last reaches no further than `most` less the bytes of a block. The next ones may do so too, and there
+// are fewer tests for such (`in_step.rt`).
+fn last_block(table: &[u32], at: usize, stop: usize, most: u32) -> usize
     requires { ⌜ (entryNumbers ≤ at) × (at + 88 ≤ length (now table)) × (at ≤ stop) ⌝ }
     ensures { λ r. ⌜ r ≤ stop ⌝ }
 {
     let before = at - ENTRY_NUMBERS;
     let end = at + BLOCK - ENTRY_NUMBERS;
     let lag = wrapping_sub_u64(wide(table[before + BEFORE]), pair(table, before));
-    if lag == wrapping_sub_u64(wide(table[end + BEFORE]), pair(table, end)) {
-        return at;
+    if lag != wrapping_sub_u64(wide(table[end + BEFORE]), pair(table, end)) {
+        return stop;
     }
-    stop
+    let high = wide(most) + wide(table[before]);
+    if high < wide(table[end + REACH]) + wide(table[end]) {
+        return stop;
+    }
+    at
 }
 
 // Blocks of plain lines are skipped, up to one with as many bytes as characters and while there are any before the line at `last`.
@@ -197,7 +203,7 @@ pub fn skip_blocks(table: &[u32], last: usize, from: usize, most: u32) -> usize
         if told != 0 {
             return at;
         }
-        stop = last_block(table, at, stop);
+        stop = last_block(table, at, stop, most);
         at += BLOCK;
     }
     at

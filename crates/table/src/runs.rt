@@ -8,8 +8,8 @@ ghost use lib.ListN.{length};
 ghost use Rattle.meaning.specs.Table.{entryNumbers};
 ghost use Rattle.table.specs.Skipping.{PlainLines};
 
-// Blocks of plain lines are skipped, in step and not, while there are any before the line at `last`. Those in step come second, so that
-// no table with few of them is asked for them.
+// Blocks of plain lines are skipped, in step and not, while there are any before the line at `last`. Those in step come second: they
+// are looked for only behind a block that could be.
 fn skip_runs(table: &[u32], last: usize, from: usize, most: u32) -> usize
     requires { ⌜ (entryNumbers ≤ from) × (last + entryNumbers ≤ length (now table)) ⌝ }
     ensures { λ r. ⌜ PlainLines (now (table .entry)) last most from r ⌝ }
