@@ -164,21 +164,32 @@ fn all_following(table: &[u32], at: usize, most: u32) -> u32
     0
 }
 
-// Where the last block may start that is skipped by these tests: where this one does, if its lines add as many bytes as characters to
-// the line before them, and the last reaches no further than `most` less the bytes of a block. The next ones may do so too, and there
-// are fewer tests for such (`in_step.rt`).
-fn last_block(table: &[u32], at: usize, stop: usize, most: u32) -> usize
-    requires { ⌜ (entryNumbers ≤ at) × (at + 88 ≤ length (now table)) × (at ≤ stop) ⌝ }
+// How many characters fewer than bytes stand before the line at a number of the table, counted down from 2^64.
+fn lag_at(table: &[u32], at: usize) -> u64
+    requires { ⌜ at + entryNumbers ≤ length (now table) ⌝ }
+{
+    wrapping_sub_u64(wide(table[at + BEFORE]), pair(table, at))
+}
+
+// Where the last block may start that is skipped by these tests: where this one does, if its lines and those of the next block add as
+// many bytes as characters to the line before them, and reach no further than these. There are fewer tests for such (`in_step.rt`).
+fn last_block(table: &[u32], last: usize, at: usize, stop: usize) -> usize
+    requires { ⌜ (entryNumbers ≤ at) × (at + 88 ≤ length (now table)) × (at ≤ stop) × (last + entryNumbers ≤ length (now table)) ⌝ }
     ensures { λ r. ⌜ r ≤ stop ⌝ }
 {
-    let before = at - ENTRY_NUMBERS;
     let end = at + BLOCK - ENTRY_NUMBERS;
-    let lag = wrapping_sub_u64(wide(table[before + BEFORE]), pair(table, before));
-    if lag != wrapping_sub_u64(wide(table[end + BEFORE]), pair(table, end)) {
+    let lag = lag_at(table, at - ENTRY_NUMBERS);
+    if lag != lag_at(table, end) {
         return stop;
     }
-    let high = wide(most) + wide(table[before]);
-    if high < wide(table[end + REACH]) + wide(table[end]) {
+    let ahead = end + BLOCK;
+    if last < ahead {
+        return stop;
+    }
+    if table[ahead] < table[end + REACH] {
+        return stop;
+    }
+    if lag != lag_at(table, ahead) {
         return stop;
     }
     at
@@ -203,7 +214,7 @@ pub fn skip_blocks(table: &[u32], last: usize, from: usize, most: u32) -> usize
         if told != 0 {
             return at;
         }
-        stop = last_block(table, at, stop, most);
+        stop = last_block(table, last, at, stop);
         at += BLOCK;
     }
     at

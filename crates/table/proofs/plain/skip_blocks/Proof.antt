@@ -38,7 +38,7 @@ returns-3 c = c .before .before .before .before .before .loop .inv .0
 last-block-requires : tie.Need-last-block-requires Inv-loop μ-loop
 last-block-requires c κs =
     let l = c .before .before .before .before .before in
-    (omega (arith, l .loop .inv .0 .ends), omega arith, omega arith)
+    (omega (arith, l .loop .inv .0 .ends), omega arith, omega arith, omega arith)
 
 add-at : tie.Need-add-at Inv-loop μ-loop
 add-at c = search needs
