@@ -12,7 +12,7 @@ use meaning::refusals::Refusal;
 use meaning::settings::Settings;
 use meaning::sizes::ENTRY_NUMBERS;
 use placing::entry::rest_in;
-use rows::stand::at_offset;
+use rows::stand::at_one;
 use rows::stand::lay_row;
 use table::entries::write_entry;
 ghost use Prim.Native.Nat.{_≤_};
@@ -32,7 +32,7 @@ fn lay_here(s: Settings, text: &[u8], start: u32, rest: Rest, entry: &mut [u32])
 {
     let before = chars_before(text, start as usize);
     let held = resumed_in(text, start, rest);
-    let stand = at_offset(text, Offset(start), Chars(before as u32), held);
+    let stand = at_one(text, Offset(start), Chars(before as u32), held);
     let row = lay_row(text, s, stand);
     let e = row.entry;
     write_entry(entry, 0, e);

@@ -30,6 +30,9 @@ pub fn chars_before(text: &[u8], start: usize) -> usize
     requires { ⌜ (checkUtf8 (now text) ≡ Good) × (boundary (decodeAll (now text)) start ≡ true) ⌝ }
     ensures { λ r. ⌜ r ≡ charsIn (decodeAll (now (text .entry))) start ⌝ }
 {
+    if start == 0 {
+        return 0;
+    }
     count_long(&text[..start])
 }
 

@@ -1,1 +1,2 @@
 pub mod CutRestLaws
+pub mod HyphenLaws

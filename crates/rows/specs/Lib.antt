@@ -7,3 +7,4 @@ pub mod Plain
 pub mod GoodInput
 pub mod Passing
 pub mod CutRests
+pub mod Hyphened

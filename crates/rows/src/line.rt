@@ -1,4 +1,6 @@
 // A line is measured, placed and drawn (rule 10).
+use crate::hyphened::Hyphened;
+use crate::hyphened::hyphened_pass;
 use crate::pass::run_pass;
 use crate::resumed::is_cut_again;
 use crate::resumed::lay_rest;
@@ -107,6 +109,9 @@ fn pass_over(text: &[u8], s: Settings, at: usize, rest: Resumed, p: Placed, know
     let left = p.left;
     let spaces = p.spaces;
     let start = start_place(s, left, spaces);
+    if let Hyphened::Line(e) = hyphened_pass(text, s, start, at, rest) {
+        return e;
+    }
     run_pass(text, s, start, at, rest, nothing_measured(), known)
 }
 

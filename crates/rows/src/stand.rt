@@ -51,11 +51,24 @@ fn stand_at(
 }
 
 // At an offset, before a line that resumes a rest and has so many characters before it.
-pub fn at_offset(text: &[u8], at: Offset, before: Chars, rest: Resumed) -> Stand
+fn at_offset(text: &[u8], at: Offset, before: Chars, rest: Resumed) -> Stand
     requires { ⌜ (length (now text) ≤ textLimit) × (at .0 ≤ length (now text)) ⌝ }
     ensures { λ r. ⌜ StandsAt (now (text .entry)) at (before .0) rest r ⌝ }
 {
     stand_at(text, at, before, rest, nothing_known(), at, Chars(0))
+}
+
+// The same for one line alone, which looks for no word that the next one might begin with.
+pub fn at_one(text: &[u8], at: Offset, before: Chars, rest: Resumed) -> Stand
+    ensures { λ r. ⌜ StandsAt (now (text .entry)) at (before .0) rest r ⌝ }
+{
+    let known = nothing_known();
+    Stand {
+        at,
+        before,
+        rest,
+        known,
+    }
 }
 
 // At a text's front.

@@ -90,6 +90,9 @@ pub fn first_token(text: &[u8], at: usize, rest: Resumed, known: Known) -> Lexed
     ensures { λ r. ⌜ r ≡ lexedAt at (heldTokens (rest .chars .0) (rest .count .0) (charsFrom (now (text .entry)) at)) ⌝ }
 {
     if rest.chars.0 == 0 {
+        if known.at.0 as usize != at {
+            return token_at(text, at);
+        }
         return known_token(text, at, known, at, 0);
     }
     Lexed::Token(rest_lexeme(rest, ender_at(text, rest.end.0 as usize)))

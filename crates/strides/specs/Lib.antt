@@ -9,3 +9,4 @@ pub mod NextLaws
 pub mod WaitLaws
 pub mod GoesLaws
 pub mod MarkLaws
+pub mod LoneHyphens

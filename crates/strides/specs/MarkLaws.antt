@@ -61,7 +61,7 @@ module _ (t : List ℕ) (at : ℕ) where
   zero-read m = sym (mark-lexed t at 3 m)
 
   -- The tokens from there on.
-  hyphen-first : Mark t at 2 → tokens (charsFrom t at) ≡ softHyphen ∷ tokens (charsFrom t (at + 2))
+  pub hyphen-first : Mark t at 2 → tokens (charsFrom t at) ≡ softHyphen ∷ tokens (charsFrom t (at + 2))
   unfolding heldTokens aloneAt
   hyphen-first m =
       let y = read-pending t at _ (hyphen-read m) in
@@ -83,7 +83,7 @@ later {t = t} r to f g =
 -- ---- a soft hyphen and a word
 
 -- What a look to the next soft hyphen sees.
-look-join : (g at : ℕ) (cs : List ℕ) (e : ℕ) (ts : List Tok)
+pub look-join : (g at : ℕ) (cs : List ℕ) (e : ℕ) (ts : List Tok)
     → nextWidth g Nothing at (word cs e ∷ softHyphen ∷ ts)
     ≡ record { width = Width (record { 0 = length cs * g + g }); reach = max (at + needOf (word cs e)) (at + sizeOf (word cs e) + needOf softHyphen) }
 unfolding nextWidth added

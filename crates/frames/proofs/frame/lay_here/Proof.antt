@@ -7,7 +7,7 @@ use borrow.Author.Needs.{needs}
 use Rattle.meaning.specs.Checks.{textLimit}
 use Rattle.parser.specs.GoodText.{good-length}
 use Rattle.rows.specs.Standing.{StandsAt, stand-ready}
-use Rattle.frames.specs.Framing.{Frameable, starts, inside, few-before, line-ready, answer-laid, entry-put}
+use Rattle.frames.specs.Framing.{Frameable, starts, few-before, line-ready, answer-laid, entry-put}
 use Rattle.frames.proofs.frame.lay_here.Statement.{statement}
 use Rattle.frames.proofs.frame.lay_here.Tie as tie
 
@@ -26,8 +26,8 @@ cast-t16 c =
     let f = begin b .pre .0 in
     record { fits = omega (arith, b .chars-before .ensures, few-before f, good-length _ (f .text)) }
 
-at-offset-requires : tie.Need-at-offset-requires
-at-offset-requires c κs = let f = begin (c .before) .pre .0 in (good-length _ (f .text), inside f)
+at-one-requires : tie.Need-at-one-requires
+at-one-requires c κs = search needs
 
 lay-row-requires : tie.Need-lay-row-requires
 lay-row-requires c κs =
@@ -35,7 +35,7 @@ lay-row-requires c κs =
     let b = h .before in
     let f = begin b .pre .0 in
     stand-ready _ _ _ _ _ _ (line-ready f _ (h .resumed-in .ensures))
-    (omega (arith, b .chars-before .ensures, few-before f, good-length _ (f .text))) (c .at-offset .ensures)
+    (omega (arith, b .chars-before .ensures, few-before f, good-length _ (f .text))) (c .at-one .ensures)
 
 write-entry-requires : tie.Need-write-entry-requires
 write-entry-requires c κs = let b = c .before .before .before .before .before in omega (arith, begin b .pre .1)
@@ -54,8 +54,8 @@ returns c =
     let h = o .before in
     let b = h .before in
     let f = begin b .pre .0 in (
-      answer-laid f _ (h .resumed-in .ensures) _ (b .chars-before .ensures) _ (o .at-offset .ensures) _ (l .lay-row .ensures) _ (c .rest-in .ensures),
-      w .write-entry .ensures ∙ entry-put f _ (h .resumed-in .ensures) _ (b .chars-before .ensures) _ (o .at-offset .ensures) _ (l .lay-row .ensures) _,
+      answer-laid f _ (h .resumed-in .ensures) _ (b .chars-before .ensures) _ (o .at-one .ensures) _ (l .lay-row .ensures) _ (c .rest-in .ensures),
+      w .write-entry .ensures ∙ entry-put f _ (h .resumed-in .ensures) _ (b .chars-before .ensures) _ (o .at-one .ensures) _ (l .lay-row .ensures) _,
     )
 
 pub lay-here-spec : {M : Type 1} → statement M
@@ -65,7 +65,7 @@ lay-here-spec =
     chars-before-requires
     resumed-in-requires
     cast-t16
-    at-offset-requires
+    at-one-requires
     lay-row-requires
     write-entry-requires
     rest-in-requires
