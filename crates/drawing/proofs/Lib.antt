@@ -6,3 +6,5 @@ pub mod PassLoop
 pub mod PlainEvents
 pub mod PlainEnd
 pub mod CutRestEvents
+pub mod LoneEvents
+pub mod PastLaws

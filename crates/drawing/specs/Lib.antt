@@ -3,3 +3,5 @@ pub mod PassDrawn
 pub mod DrawingOn
 pub mod PlainDrawn
 pub mod DrawnBounds
+pub mod PastTokens
+pub mod LoneLines

@@ -1,7 +1,9 @@
 // The events of a line, drawn into a lent buffer (rule 13).
 mod inked;
+mod lone;
 mod marks;
 pub mod pass;
+mod past;
 pub mod plain;
 mod resumed;
 mod striding;

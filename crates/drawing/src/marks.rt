@@ -53,19 +53,33 @@ fn draw_zeros(
     inked_at(p, at, pen)
 }
 
-// A soft hyphen that does not show and the word behind it, or else zero width spaces.
-fn draw_marks(text: &[u8], s: Settings, p: Place, at: usize, pen: Pen, events: &mut [u32]) -> Inked
-    requires { ⌜ PenReady s p (now text) at nothingResumed pen × (p .empty ≡ false) ⌝ }
-    ensures { λ r. ⌜ Strode s (now (text .entry)) nothingResumed (now (events .entry)) p at pen (now (events .exit)) r ⌝ }
+// Soft hyphens that do not show, each with the word behind it, and then zero width spaces.
+fn draw_marks(
+    text: &[u8],
+    s: Settings,
+    start: Place,
+    from: usize,
+    first: Pen,
+    events: &mut [u32],
+) -> Inked
+    requires { ⌜ PenReady s start (now text) from nothingResumed first × (start .empty ≡ false) ⌝ }
+    ensures { λ r. ⌜ Strode s (now (text .entry)) nothingResumed (now (events .entry)) start from first (now (events .exit)) r ⌝ }
     ensures { λ r. ⌜ r .place .empty ≡ false ⌝ }
 {
-    match next_joined(text, s, p, at) {
-        Joined::None => draw_zeros(text, s, p, at, pen, events),
-        Joined::Word(word, place) => {
-            let spaces = p.spaces;
-            let end = word.end.0 as usize;
-            let printed = draw_scanned(text, at + 2, word, s.glyph.0, spaces, pen, events);
-            inked_at(place, end, printed)
+    let mut p = start;
+    let mut at = from;
+    let mut pen = first;
+    loop {
+        match next_joined(text, s, p, at) {
+            Joined::None => {
+                return draw_zeros(text, s, p, at, pen, events);
+            }
+            Joined::Word(word, place) => {
+                let spaces = p.spaces;
+                pen = draw_scanned(text, at + 2, word, s.glyph.0, spaces, pen, events);
+                at = word.end.0 as usize;
+                p = place;
+            }
         }
     }
 }
@@ -85,6 +99,9 @@ pub fn draw_past(
     ensures { λ r. ⌜ Strode s (now (text .entry)) rest (now (events .entry)) p at pen (now (events .exit)) r ⌝ }
     ensures { λ r. ⌜ ForeseesFrom s (r .place) (now (text .entry)) (r .at) rest seen ⌝ }
 {
+    if let Foreseen::Known(_) = seen {
+        return inked_at(p, at, pen);
+    }
     if p.empty {
         return inked_at(p, at, pen);
     }
@@ -92,9 +109,6 @@ pub fn draw_past(
         return inked_at(p, at, pen);
     }
     if rest.chars.0 != 0 {
-        return inked_at(p, at, pen);
-    }
-    if let Foreseen::Known(_) = seen {
         return inked_at(p, at, pen);
     }
     draw_marks(text, s, p, at, pen, events)

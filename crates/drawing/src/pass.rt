@@ -1,24 +1,23 @@
 // The events of a line: the running pass again, token by token or in strides, each drawn (rule 7, rule 8, rule 9 and rule 13).
+use crate::lone::draw_lone;
+use crate::lone::is_lone;
 use crate::marks::draw_past;
+use crate::past::past_token;
 use crate::resumed::draw_rest;
 use crate::resumed::is_cut_rest;
 use crate::striding::draw_unless;
 use crate::waiting::draw_waiting;
 use blanks::ahead::look_after;
-use blanks::token::step_token;
 use ink::pen::Pen;
 use meaning::counts::Pixels;
 use meaning::cursor::Place;
 use meaning::settings::Settings;
-use moves::measure::nothing_measured;
 use parser::lexeme::Lexed;
-use prints::tokens::draw_token;
 use steps::ending::nothing_left;
 use steps::first::Known;
 use steps::first::first_token;
 use steps::look::Foreseen;
 use steps::step::Resumed;
-use steps::step::Stepped;
 ghost use Prim.Native.Nat.{_+_};
 ghost use mathlib.Core.Path.{_≡_};
 ghost use lib.ListN.{length};
@@ -43,7 +42,6 @@ fn draw_tokens(
     ensures { λ r. ⌜ now (events .exit) ≡ putEvents (now (events .entry)) k (eventsFrom s start (now (text .entry)) from (rest .chars .0) (rest .count .0) x) ⌝ }
     ensures { λ r. ⌜ r ≡ k + length (drawnFrom s start (now (text .entry)) from (rest .chars .0) (rest .count .0)) ⌝ }
 {
-    let none = nothing_measured();
     let mut p = start;
     let mut at = from;
     let mut held = rest;
@@ -56,6 +54,10 @@ fn draw_tokens(
         let g = draw_unless(text, s, p, at, held, pen, seen, events);
         if g.waits.next.0 != 0 {
             let last = draw_waiting(text, s, g, events);
+            return last.next;
+        }
+        if is_lone(text, s, g.place, g.at, held) {
+            let last = draw_lone(text, s, g.place, g.at, held, g.pen, events);
             return last.next;
         }
         let on = draw_past(text, s, g.place, g.at, held, g.pen, seen, events);
@@ -73,12 +75,12 @@ fn draw_tokens(
             return drawn.next;
         };
         let ahead = look_after(text, s, here, to, t, seen);
-        let stepped = step_token(text, s, here, to, t, none, ahead);
-        pen = draw_token(text, s, here, to, t, none, stepped, ahead, drawn, events);
-        let Stepped::Go(q, _, _) = stepped else {
+        let past = past_token(text, s, here, to, t, ahead, drawn, events);
+        pen = past.pen;
+        if !past.goes {
             return pen.next;
-        };
-        p = q;
+        }
+        p = past.place;
         at = t.end.0 as usize;
         held = nothing_left();
         seen = ahead;

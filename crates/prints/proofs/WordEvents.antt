@@ -7,7 +7,7 @@ use mathlib.Core.List.{List, []}
 use native.Mathlib.Nat.{mul-comm, div-le-of-le-mul}
 use native.Mathlib.Omega.{arith}
 use borrow.Author.Tests.{eq-eqb, ne-eqb}
-use lib.ListN.{take}
+use lib.ListN.{length, take, length-take}
 use lib.Seq.{take-take}
 use Rattle.basis.specs.Choice.{pick, pick-cases}
 use Rattle.meaning.specs.Cursor.{roomOf, fitsIn, hasMoved}
@@ -16,11 +16,39 @@ use Rattle.meaning.specs.LineIter.{Step, wrapOn, unfitWord, cutWord, onWord, st
 use Rattle.meaning.specs.declared.settings.Settings.{Settings}
 use Rattle.meaning.specs.declared.cursor.Place.{Place}
 use Rattle.laws.specs.Steps.{too-wide}
-use Rattle.parser.specs.Lexing.{charsFrom}
+use Rattle.parser.specs.Lexing.{charsFrom, partOf}
 use Rattle.parser.specs.declared.lexeme.Lexeme.{Lexeme}
+use Rattle.parser.specs.declared.part.Part.{Part}
 use Rattle.steps.specs.WordLaws.{WordAt, wordAt}
 use Rattle.ink.specs.Sheet.{Sheet, drawnOn}
-use Rattle.prints.specs.TokenDrawn.{drawnOf, tokDrawn}
+use Rattle.ink.specs.Stretching.{WordRoom}
+use Rattle.ink.specs.declared.pen.Pen.{Pen}
+use Rattle.prints.specs.TokenDrawn.{drawnOf, tokDrawn, PartIs, DrawReady}
+
+-- ---- what is drawn of it can be drawn
+
+module _ (t : List ℕ) (at : ℕ) (x : Lexeme) (w : WordAt t at x) where
+  pub whole-part : PartIs t at (x .chars .0) (record { end = x .end; glues = x .glues })
+  unfolding partOf
+  whole-part = ((λ i. record { end = record { 0 = w .end i }; glues = record { 0 = w .glues i } }), sym (w .chars))
+
+  pub some-part : (k : ℕ) → k ≤ x .chars .0 → (part : Part) → part ≡ partOf at k (charsFrom t at) → PartIs t at k part
+  some-part k h part e = (e, omega (arith, length-take k (charsFrom t at), length-take (x .chars .0) (charsFrom t at), w .chars))
+
+module _ {s : Settings} {p : Place} {t : List ℕ} {at : ℕ} {x : Lexeme} {pen : Pen} (h : DrawReady s p t at x pen) (w : WordAt t at x) where
+  pub word-room : (n : ℕ) → n ≤ x .chars .0 → WordRoom t at n (s .glyph .0) (p .spaces) pen
+  word-room n l =
+      record {
+        short = h .short;
+        inside = omega (arith, h .stands .longer, h .stands .within);
+        many = omega (arith, w .few, h .stands .within, h .short);
+        glyph = h .settings .1;
+        spaces = h .place .1;
+        few = h .pen .few;
+        narrow = h .pen .narrow;
+      }
+
+-- ---- what is drawn of it
 
 -- A word of which no character fits waits or is dropped, and neither draws.
 unfit-draws : (s : Settings) (p : Place) (cs : List ℕ) → drawnOf (unfitWord s p cs) ≡ []

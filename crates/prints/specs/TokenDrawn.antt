@@ -15,8 +15,9 @@ use Rattle.meaning.specs.declared.settings.Settings.{Settings}
 use Rattle.meaning.specs.declared.cursor.Place.{Place}
 use Rattle.meaning.specs.declared.line.EventKind.the-variants.{Space, Printed}
 use Rattle.meaning.specs.declared.line.Measure.{Measure}
-use Rattle.parser.specs.Lexing.{charsFrom}
+use Rattle.parser.specs.Lexing.{charsFrom, partOf}
 use Rattle.parser.specs.declared.lexeme.Lexeme.{Lexeme}
+use Rattle.parser.specs.declared.part.Part.{Part}
 use Rattle.moves.specs.Fine.{FineSettings, FinePlace}
 use Rattle.steps.specs.Stepping.{tokOf}
 use Rattle.steps.specs.Ready.{Standing, Ready, stepFrom}
@@ -66,14 +67,13 @@ runDrawn t at x g =
     pick (g .whole) (drawn Space at (x .end .0) (g .count .0) (g .width .0) ∷ [])
     (pick (eqb (g .count .0) 0) [] (drawn Space at part (g .count .0) (g .width .0) ∷ []))
 
--- What was taken of a token ends there, if the whole of it ends at an offset.
-unfoldable pub takenEnd : (end : ℕ) → Stepped → ℕ
-takenEnd end (Go q n o) = end
-takenEnd end (Stop e) = e .next .0
-
--- A hyphen, or a word in which nothing glues, is one print as far as it was taken, if it has a width.
+-- A hyphen is one print, if it added a width.
 unfoldable pub printDrawn : (at to : ℕ) → Grown → List Drawn
 printDrawn at to g = pick (eqb (g .width .0) 0) [] (drawn Printed at to 0 (g .width .0) ∷ [])
+
+-- The first n characters from an offset on, of which there are as many.
+abbrev pub PartIs : List ℕ → (at n : ℕ) → Part → Type 0
+PartIs t at n part = (part ≡ partOf at n (charsFrom t at)) × (length (take n (charsFrom t at)) ≡ n)
 
 -- ---- what drawing a token takes for granted
 

@@ -4,7 +4,7 @@ use meaning::counts::Pixels;
 use meaning::line::Measure;
 use steps::step::Stepped;
 ghost use mathlib.Core.Path.{_≡_};
-ghost use Rattle.prints.specs.TokenDrawn.{measureOf, grownBy, Grows, takenEnd};
+ghost use Rattle.prints.specs.TokenDrawn.{measureOf, grownBy, Grows};
 
 // Whether the token was taken whole, and the spaces and the width that it added.
 pub struct Grown {
@@ -28,15 +28,5 @@ pub fn growth(m: Measure, stepped: Stepped) -> Grown
             count: Chars(e.measure.spaces.0 - m.spaces.0),
             width: Pixels(e.measure.pen.0 - m.pen.0),
         },
-    }
-}
-
-// Where what was taken of a token ends, if the whole of it ends at an offset.
-pub fn taken_end(end: u32, stepped: Stepped) -> u32
-    ensures { λ r. ⌜ r ≡ takenEnd end stepped ⌝ }
-{
-    match stepped {
-        Stepped::Go(_, _, _) => end,
-        Stepped::Stop(e) => e.next.0,
     }
 }

@@ -1,12 +1,10 @@
 // The events of one token (rule 8, rule 9, rule 13).
 use crate::grown::Grown;
 use crate::grown::growth;
-use crate::grown::taken_end;
 use basis::numbers::lesser;
 use blanks::spaces::draws_space;
 use ink::pen::Pen;
 use ink::pen::put_one;
-use ink::words::draw_word;
 use meaning::cursor::Place;
 use meaning::line::EventKind;
 use meaning::line::Measure;
@@ -30,35 +28,6 @@ ghost use Rattle.meaning.specs.declared.line.EventKind.the-variants.{Space, Mov
 ghost use Rattle.steps.specs.Foreseeing.{ForeseesAfter};
 ghost use Rattle.ink.specs.Sheet.{sheet, drawnOn};
 ghost use Rattle.prints.specs.TokenDrawn.{tokDrawn, runDrawn, printDrawn, PenRoom, DrawReady, TokenReady};
-
-// A word that fits; of one too wide for an empty line its longest fitting part; else nothing.
-fn draw_if_taken(
-    text: &[u8],
-    s: Settings,
-    p: Place,
-    at: usize,
-    x: Lexeme,
-    pen: Pen,
-    events: &mut [u32],
-) -> Pen
-    requires { ⌜ DrawReady s p (now text) at x pen × (x .kind ≡ Word) ⌝ }
-    ensures { λ r. ⌜ sheet (now (events .exit)) r ≡ drawnOn (sheet (now (events .entry)) pen) (tokDrawn s p (now (text .entry)) at x) ⌝ }
-{
-    let glyph = s.glyph.0;
-    let cursor = p.cursor;
-    let spaces = p.spaces;
-    if fits(cursor, x.chars.0 * glyph) {
-        return draw_word(text, at, x.chars.0, glyph, spaces, pen, events);
-    }
-    if !p.empty {
-        return pen;
-    }
-    let fitting = room(cursor) / glyph;
-    if fitting == 0 {
-        return pen;
-    }
-    draw_word(text, at, fitting, glyph, spaces, pen, events)
-}
 
 // A space run by what it added to the measure.
 fn draw_run(text: &[u8], at: usize, x: Lexeme, g: Grown, pen: Pen, events: &mut [u32]) -> Pen
@@ -105,28 +74,6 @@ fn draw_print(at: usize, to: usize, g: Grown, pen: Pen, events: &mut [u32]) -> P
     put_one(events, pen, EventKind::Printed, at, to, 0, width)
 }
 
-// A word: one print of what its step took, unless there are gluing characters in it.
-fn draw_letters(
-    text: &[u8],
-    s: Settings,
-    p: Place,
-    at: usize,
-    x: Lexeme,
-    m: Measure,
-    stepped: Stepped,
-    pen: Pen,
-    events: &mut [u32],
-) -> Pen
-    requires { ⌜ TokenReady s p (now text) at x m stepped pen × (x .kind ≡ Word) ⌝ }
-    ensures { λ r. ⌜ sheet (now (events .exit)) r ≡ drawnOn (sheet (now (events .entry)) pen) (tokDrawn s p (now (text .entry)) at x) ⌝ }
-{
-    if x.glues.0 != 0 {
-        return draw_if_taken(text, s, p, at, x, pen, events);
-    }
-    let to = taken_end(x.end.0, stepped) as usize;
-    draw_print(at, to, growth(m, stepped), pen, events)
-}
-
 // A tab before a word that does not fit is a move.
 fn tab_kind(fits: bool) -> EventKind
     ensures { λ r. ⌜ r ≡ pick fits Space Move ⌝ }
@@ -166,8 +113,8 @@ fn draw_tab(
     put_one(events, pen, EventKind::Move, at, next, 0, room(cursor))
 }
 
-// What the token x at an offset draws, after what was measured before it and what its step answered, and with what is known of the
-// look from after it.
+// What the token x at an offset draws, which is no word (words.rt), after what was measured before it and what its step answered, and
+// with what is known of the look from after it.
 pub fn draw_token(
     text: &[u8],
     s: Settings,
@@ -180,12 +127,12 @@ pub fn draw_token(
     pen: Pen,
     events: &mut [u32],
 ) -> Pen
-    requires { ⌜ TokenReady s p (now text) at x m stepped pen × ForeseesAfter s p (now text) x seen ⌝ }
+    requires { ⌜ TokenReady s p (now text) at x m stepped pen × ForeseesAfter s p (now text) x seen × (x .kind ≡ Word → ⊥) ⌝ }
     ensures { λ r. ⌜ sheet (now (events .exit)) r ≡ drawnOn (sheet (now (events .entry)) pen) (tokDrawn s p (now (text .entry)) at x) ⌝ }
 {
     let kind = x.kind;
     match kind {
-        TokenKind::Word => draw_letters(text, s, p, at, x, m, stepped, pen, events),
+        TokenKind::Word => pen,
         TokenKind::Whitespace => draw_run(text, at, x, growth(m, stepped), pen, events),
         TokenKind::Tab => draw_tab(text, s, p, at, x, seen, pen, events),
         TokenKind::Break => draw_print(at, at + 2, growth(m, stepped), pen, events),

@@ -1,15 +1,19 @@
 -- `drawing::pass::draw_tokens` meets its contract (rule 8, rule 9, rule 13).
 -- Assumes nothing.
 use Prim.Native.Nat.{_-_}
-use mathlib.Core.Path.{_≡_, refl, sym, _∙_}
+use mathlib.Core.Path.{_≡_, refl, sym, subst, _∙_}
+use mathlib.Core.Bool.{Bool, true, false}
 use native.Mathlib.Omega.{arith}
 use lib.ListN.{length}
+use borrow.Author.Tests.{not-true, not-false}
+use Rattle.meaning.specs.Line.{unmeasured}
 use Rattle.steps.specs.Ready.{Ready}
 use Rattle.steps.specs.Pending.{Pending, pending, none-pending}
 use Rattle.steps.specs.Foreseeing.{ForeseesFrom}
 use Rattle.steps.specs.Running.{none-held}
 use Rattle.blanks.specs.BeyondLaws.{step-foresees}
 use Rattle.drawing.specs.Drawn.{drawnFrom}
+use Rattle.drawing.specs.PastTokens.{Went}
 use Rattle.ink.specs.Sheet.{Sheet, sheet, drawnOn}
 use Rattle.drawing.proofs.PassLoop.{Drawing, drawing-first, drawing-strode, waits-ready, drawing-waits, pen-room, drawing-ends, token-ready, drawing-stops, drawing-goes, goal-is}
 use borrow.Author.Needs.{needs}
@@ -17,13 +21,13 @@ use Rattle.drawing.proofs.pass.draw_tokens.Statement.{statement}
 use Rattle.drawing.proofs.pass.draw_tokens.Tie as tie
 
 abbrev Inv-loop : tie.InvT-loop
-Inv-loop text s from known x events₀ k none p₀ at₀ held₀ pen₀ seen₀ events p at held pen seen =
+Inv-loop text s from known x events₀ k p₀ at₀ held₀ pen₀ seen₀ events p at held pen seen =
     Drawing text s (drawnOn (sheet events₀ pen₀) (drawnFrom s p₀ text at₀ (held₀ .chars .0) (held₀ .count .0))) events p at held pen
     × (length events ≡ length events₀)
     × ForeseesFrom s p text at held seen
 
 abbrev μ-loop : tie.MeasureT-loop
-μ-loop text s from known x events₀ k none p₀ at₀ held₀ pen₀ seen₀ events p at held pen seen = length text - at
+μ-loop text s from known x events₀ k p₀ at₀ held₀ pen₀ seen₀ events p at held pen seen = length text - at
 
 abbrev Strides : Type 0
 Strides = tie.After-draw-unless Inv-loop μ-loop
@@ -32,7 +36,7 @@ abbrev around : Strides → tie.At-loop Inv-loop μ-loop
 around c = c .before .before
 
 abbrev begin : Strides → tie.Start Inv-loop μ-loop
-begin c = around c .before .before .before .before
+begin c = around c .before .before .before
 
 -- The sheet at the end.
 abbrev goal : Strides → Sheet
@@ -55,7 +59,7 @@ Past = tie.After-draw-past Inv-loop μ-loop
 
 -- From after the marks back to the strides.
 abbrev strode : Past → Strides
-strode c = c .before .before .before .before .before .before
+strode c = c .before .before .before .before .before .before .before .before
 
 -- Where the marks came to.
 stood : (c : Past) →
@@ -80,12 +84,9 @@ pended c =
     let q = past n in
     pending _ (q .draw-past .result .at) (around (strode q) .loop .held) _ (stood q .ready .pass .rest) (sym (n .first-token .ensures) ∙ c .token .given .1)
 
-nothing-measured-requires : tie.Need-nothing-measured-requires Inv-loop μ-loop
-nothing-measured-requires c κs = search needs
-
 loop-holds : tie.Need-loop-holds Inv-loop μ-loop
 loop-holds c =
-    let s = c .before .before .before in
+    let s = c .before .before in
     let a = s .args in
     (drawing-first (a .text .now) (a .s) (a .events .now) (a .start) (a .from) (a .rest) (a .x) (a .k) (s .pre .0), refl, tt)
 
@@ -112,16 +113,43 @@ returns c =
     goal-is (a .s) (a .start) (a .text .now) (a .from) (a .rest .chars .0) (a .rest .count .0) (a .events .now) _ (a .k) (a .x) (w .draw-waiting .result)
     (drawing-waits (around o .loop .inv .0) (o .draw-unless .ensures .0) (i .if1 .taken) _ (w .draw-waiting .ensures))
 
+-- From where no word waits back to the strides.
+abbrev free : tie.Else1 Inv-loop μ-loop → Strides
+free c = c .before .before .before .before
+
+is-lone-requires : tie.Need-is-lone-requires Inv-loop μ-loop
+is-lone-requires c κs = strode-to (free c) .ready .pass
+
+draw-lone-requires : tie.Need-draw-lone-requires Inv-loop μ-loop
+draw-lone-requires c κs =
+    let i = c .before in
+    let l = i .before in
+    (strode-to (free (l .before)) .ready, l .is-lone .ensures (i .if2 .taken))
+
+-- From after the "-" back to there.
+abbrev dashed : tie.After-draw-lone Inv-loop μ-loop → Strides
+dashed c = free (c .before .before .before .before)
+
+same-length-2 : tie.Need-same-length-2 Inv-loop μ-loop
+same-length-2 c = let w = c .before .before in w .draw-lone .kept .1 .1 .1 .1 .1 .1 .0 ∙ strode-kept (dashed w)
+
+returns-2 : tie.Need-returns-2 Inv-loop μ-loop
+returns-2 c =
+    let w = c .before .before in
+    let a = begin (dashed w) .args in
+    goal-is (a .s) (a .start) (a .text .now) (a .from) (a .rest .chars .0) (a .rest .count .0) (a .events .now) _ (a .k) (a .x) (w .draw-lone .result)
+    (w .draw-lone .ensures ∙ strode-to (dashed w) .draws)
+
 draw-past-requires : tie.Need-draw-past-requires Inv-loop μ-loop
 draw-past-requires c κs =
-    let o = c .before .before .before .before .before in
+    let o = free (c .before .before .before) in
     (strode-to o .ready, o .draw-unless .ensures .1)
 
 loop-less : tie.Need-loop-less Inv-loop μ-loop
 loop-less c =
     let q = c .before .before .before .before .before .before in
     let on = q .draw-past .ensures .0 .onward in
-    omega (arith, c .if2 .taken, on .forward, on .ready .pass .inside, strode q .draw-unless .ensures .0 .onward .forward)
+    omega (arith, c .if3 .taken, on .forward, on .ready .pass .inside, strode q .draw-unless .ensures .0 .onward .forward)
 
 loop-again : tie.Need-loop-again Inv-loop μ-loop
 loop-again c =
@@ -140,11 +168,11 @@ enum-known-token c = search needs
 enum-told : tie.Need-enum-told Inv-loop μ-loop
 enum-told c = search needs
 
-same-length-2 : tie.Need-same-length-2 Inv-loop μ-loop
-same-length-2 c = kept (past (c .before .before))
+same-length-3 : tie.Need-same-length-3 Inv-loop μ-loop
+same-length-3 c = kept (past (c .before .before))
 
-returns-2 : tie.Need-returns-2 Inv-loop μ-loop
-returns-2 c =
+returns-3 : tie.Need-returns-3 Inv-loop μ-loop
+returns-3 c =
     let n = c .before .before in
     let q = past n in
     let a = begin (strode q) .args in
@@ -155,14 +183,12 @@ returns-2 c =
 ready : (c : tie.After-known-told Inv-loop μ-loop) →
     let k = c .before in
     let q = past (k .before .before) in
-    let o = strode q in
-    let a = begin o .args in
+    let a = begin (strode q) .args in
     let g = q .draw-past .result in
-    Ready (a .s) (g .place) (a .text .now) (g .at) (k .token .given .0 .0) (around o .before .nothing-measured .result)
+    Ready (a .s) (g .place) (a .text .now) (g .at) (k .token .given .0 .0) unmeasured
 ready c =
     let k = c .before in
-    let q = past (k .before .before) in
-    token-ready (stood q) (k .token .given .0 .0) (pended k) _ (around (strode q) .before .nothing-measured .ensures)
+    token-ready (stood (past (k .before .before))) (k .token .given .0 .0) (pended k) unmeasured refl
 
 look-after-requires : tie.Need-look-after-requires Inv-loop μ-loop
 look-after-requires c κs =
@@ -172,41 +198,44 @@ look-after-requires c κs =
     let r = stood q .ready .pass in
     record { settings = r .settings; place = r .place; short = r .short; stands = y .stands; sees = rw (y .first) at (q .draw-past .ensures .1) }
 
-step-token-requires : tie.Need-step-token-requires Inv-loop μ-loop
-step-token-requires c κs = (ready (c .before), c .look-after .ensures)
-
-draw-token-requires : tie.Need-draw-token-requires Inv-loop μ-loop
-draw-token-requires c κs =
-    let f = c .before in
-    let u = f .before in
+past-token-requires : tie.Need-past-token-requires Inv-loop μ-loop
+past-token-requires c κs =
+    let u = c .before in
     let q = past (u .before .before .before .before) in
-    (record { ready = ready (u .before); stepped = f .step-token .ensures; pen = pen-room (stood q) }, u .look-after .ensures)
-
-enum-known-stepped : tie.Need-enum-known-stepped Inv-loop μ-loop
-enum-known-stepped c = search needs
-
-enum-told-2 : tie.Need-enum-told-2 Inv-loop μ-loop
-enum-told-2 c = search needs
+    (ready (u .before), pen-room (stood q), u .look-after .ensures)
 
 -- From the token that was drawn back to where it was read.
-abbrev told : tie.After-draw-token Inv-loop μ-loop → tie.After-token Inv-loop μ-loop
-told c = c .before .before .before .before .before
+abbrev told : tie.After-past-token Inv-loop μ-loop → tie.After-token Inv-loop μ-loop
+told c = c .before .before .before .before
 
-same-length-3 : tie.Need-same-length-3 Inv-loop μ-loop
-same-length-3 c =
-    let w = c .before .before .before .before in
-    w .draw-token .kept .1 .1 .1 .1 .1 .1 .1 .1 .1 .0 ∙ kept (past (told w .before .before))
+-- How the pass goes on from it.
+went : (c : tie.After-past-token Inv-loop μ-loop) (b : Bool) → c .past-token .result .goes ≡ b →
+    let k = told c in
+    let q = past (k .before .before) in
+    let a = begin (strode q) .args in
+    let g = q .draw-past .result in
+    Went (a .s) (g .place) (a .text .now) (g .at) (k .token .given .0 .0) b (c .past-token .result .place)
+went c b e =
+    let k = told c in
+    let q = past (k .before .before) in
+    let a = begin (strode q) .args in
+    let g = q .draw-past .result in
+    subst (λ (d : Bool). Went (a .s) (g .place) (a .text .now) (g .at) (k .token .given .0 .0) d (c .past-token .result .place)) e (c .past-token .ensures .1)
 
-returns-3 : tie.Need-returns-3 Inv-loop μ-loop
-returns-3 c =
-    let w = c .before .before .before .before in
+same-length-4 : tie.Need-same-length-4 Inv-loop μ-loop
+same-length-4 c =
+    let w = c .before .before .before .before .before in
+    w .past-token .kept .1 .1 .1 .1 .1 .1 .1 .0 ∙ kept (past (told w .before .before))
+
+returns-4 : tie.Need-returns-4 Inv-loop μ-loop
+returns-4 c =
+    let w = c .before .before .before .before .before in
     let k = told w in
     let q = past (k .before .before) in
-    let o = strode q in
-    let a = begin o .args in
-    goal-is (a .s) (a .start) (a .text .now) (a .from) (a .rest .chars .0) (a .rest .count .0) (a .events .now) _ (a .k) (a .x) (w .draw-token .result)
-    (drawing-stops (stood q) (k .token .given .0 .0) (pended k) _ (around o .before .nothing-measured .ensures) _ (w .draw-token .result) (w .draw-token .ensures)
-    _ (sym (w .before .before .step-token .ensures) ∙ c .enum-told2 .given .1))
+    let a = begin (strode q) .args in
+    let v = w .past-token .result .pen in
+    goal-is (a .s) (a .start) (a .text .now) (a .from) (a .rest .chars .0) (a .rest .count .0) (a .events .now) _ (a .k) (a .x) v
+    (drawing-stops (stood q) (k .token .given .0 .0) (pended k) unmeasured refl _ v (w .past-token .ensures .0) _ (went w false (not-true _ (c .if4 .taken)) .is))
 
 cast-at : tie.Need-cast-at Inv-loop μ-loop
 cast-at c = search needs
@@ -214,26 +243,29 @@ cast-at c = search needs
 nothing-left-requires : tie.Need-nothing-left-requires Inv-loop μ-loop
 nothing-left-requires c κs = search needs
 
+-- From where the loop goes on back to where the token was drawn.
+abbrev gone : tie.Else4 Inv-loop μ-loop → tie.After-past-token Inv-loop μ-loop
+gone c = c .before .before .before .before .before
+
 loop-less-2 : tie.Need-loop-less-2 Inv-loop μ-loop
 loop-less-2 c =
-    let k = told (c .before .before .before .before .before .before .before) in
+    let k = told (gone (c .before .before .before)) in
     let y = pended k .stands in
     let q = past (k .before .before) in
     omega (arith, y .longer, y .within, q .draw-past .ensures .0 .onward .forward, strode q .draw-unless .ensures .0 .onward .forward)
 
 loop-again-2 : tie.Need-loop-again-2 Inv-loop μ-loop
 loop-again-2 c =
-    let w = c .before .before .before .before .before .before .before in
-    let d = w .before .before in
-    let u = d .before in
+    let e = c .before .before .before in
+    let w = gone e in
+    let u = w .before .before in
     let k = told w in
     let q = past (k .before .before) in
-    let o = strode q in
     let x = k .token .given .0 .0 in
-    let e = sym (d .step-token .ensures) ∙ c .before .before .before .stepped .given .1 in (
-      drawing-goes (stood q) x (pended k) _ (around o .before .nothing-measured .ensures) _ (w .draw-token .result) (w .draw-token .ensures) _ _ _ e _ (c .nothing-left .ensures),
-      w .draw-token .kept .1 .1 .1 .1 .1 .1 .1 .1 .1 .0 ∙ kept q,
-      rw (none-held _ (x .end .0) _ (c .nothing-left .ensures)) (step-foresees (ready (u .before)) _ _ _ e (u .look-after .result) (u .look-after .ensures)),
+    let g = went w true (not-false _ (e .if4 .left)) in (
+      drawing-goes (stood q) x (pended k) unmeasured refl _ (w .past-token .result .pen) (w .past-token .ensures .0) _ _ _ (g .is) _ (c .nothing-left .ensures),
+      w .past-token .kept .1 .1 .1 .1 .1 .1 .1 .0 ∙ kept q,
+      rw (none-held _ (x .end .0) _ (c .nothing-left .ensures)) (step-foresees (ready (u .before)) _ _ _ (g .is) (u .look-after .result) (u .look-after .ensures)),
     )
 
 pub draw-tokens-spec : {M : Type 1} → statement M
@@ -242,27 +274,27 @@ draw-tokens-spec =
     (tie.spec
     Inv-loop
     μ-loop
-    nothing-measured-requires
     loop-holds
     draw-unless-requires
     draw-waiting-requires
     same-length
     returns
+    is-lone-requires
+    draw-lone-requires
+    same-length-2
+    returns-2
     draw-past-requires
     loop-less
     loop-again
     first-token-requires
     enum-known-token
     enum-told
-    same-length-2
-    returns-2
-    look-after-requires
-    step-token-requires
-    draw-token-requires
-    enum-known-stepped
-    enum-told-2
     same-length-3
     returns-3
+    look-after-requires
+    past-token-requires
+    same-length-4
+    returns-4
     cast-at
     nothing-left-requires
     loop-less-2

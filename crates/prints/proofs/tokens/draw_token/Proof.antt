@@ -12,9 +12,6 @@ use Rattle.prints.proofs.tokens.draw_token.Tie as tie
 enum-told : tie.Need-enum-told
 enum-told c = search needs
 
-draw-letters-requires : tie.Need-draw-letters-requires
-draw-letters-requires c κs = search needs
-
 enum-told-2 : tie.Need-enum-told-2
 enum-told-2 c = search needs
 
@@ -79,14 +76,11 @@ add-put-one-2 c = search needs
 put-one-requires-2 : tie.Need-put-one-requires-2
 put-one-requires-2 c κs = search needs
 
+returns : tie.Need-returns
+returns c = absurd (c .before .before .before .before .pre .2 (c .enum-told .given .1))
+
 same-length : tie.Need-same-length
 same-length c = search needs
-
-returns : tie.Need-returns
-returns c = search needs
-
-same-length-2 : tie.Need-same-length-2
-same-length-2 c = search needs
 
 returns-2 : tie.Need-returns-2
 returns-2 c =
@@ -97,14 +91,14 @@ returns-2 c =
     f .draw-run .ensures
     ∙ run-events (a .s) (a .p) (a .text .now) (a .at) (a .x) (a .m) (a .stepped) (s .pre .0 .ready) (s .pre .0 .stepped) (g .growth .result) (g .growth .ensures) (sheet (a .events .now) (a .pen)) (g .before .enum-told2 .given .1)
 
-same-length-3 : tie.Need-same-length-3
-same-length-3 c = search needs
+same-length-2 : tie.Need-same-length-2
+same-length-2 c = search needs
 
 returns-3 : tie.Need-returns-3
 returns-3 c = search needs
 
-same-length-4 : tie.Need-same-length-4
-same-length-4 c = search needs
+same-length-3 : tie.Need-same-length-3
+same-length-3 c = search needs
 
 returns-4 : tie.Need-returns-4
 returns-4 c =
@@ -115,8 +109,8 @@ returns-4 c =
     f .draw-print .ensures
     ∙ hyphen-events (a .s) (a .p) (a .text .now) (a .at) (a .x) (a .m) (a .stepped) (s .pre .0 .ready) (s .pre .0 .stepped) (g .growth2 .result) (g .growth2 .ensures) (sheet (a .events .now) (a .pen)) (g .before .enum-told4 .given .1)
 
-same-length-5 : tie.Need-same-length-5
-same-length-5 c = search needs
+same-length-4 : tie.Need-same-length-4
+same-length-4 c = search needs
 
 returns-5 : tie.Need-returns-5
 returns-5 c =
@@ -126,8 +120,8 @@ returns-5 c =
     f .put-one .ensures
     ∙ ap (drawnOn (sheet (a .events .now) (a .pen))) (sym (line-drawn (a .s) (a .p) (a .text .now) (a .at) (a .x) (f .before .before .enum-told5 .given .1)))
 
-same-length-6 : tie.Need-same-length-6
-same-length-6 c = search needs
+same-length-5 : tie.Need-same-length-5
+same-length-5 c = search needs
 
 returns-6 : tie.Need-returns-6
 returns-6 c =
@@ -142,7 +136,6 @@ draw-token-spec =
     tie.close
     (tie.spec
     enum-told
-    draw-letters-requires
     enum-told-2
     growth-requires
     draw-run-requires
@@ -158,15 +151,14 @@ draw-token-spec =
     enum-told-6
     add-put-one-2
     put-one-requires-2
-    same-length
     returns
-    same-length-2
+    same-length
     returns-2
-    same-length-3
+    same-length-2
     returns-3
-    same-length-4
+    same-length-3
     returns-4
-    same-length-5
+    same-length-4
     returns-5
-    same-length-6
+    same-length-5
     returns-6)
