@@ -1,5 +1,6 @@
 pub mod EventsFrom
 pub mod DrawTurns
 pub mod DrawGoing
+pub mod DrawFound
 pub mod Checking
 pub mod Answering

@@ -1,49 +1,18 @@
 // The events of a text's lines, one line after the other: counted, and drawn as each line is written (rule 10, rule 13).
-use crate::plain::draw_on;
-use drawing::pass::draw_pass;
-use meaning::cursor::Spaces;
-use meaning::line::Entry;
+use crate::found::draw_on;
+use crate::line::draw_line;
 use meaning::settings::Settings;
-use moves::place::start_place;
-use rows::stand::Stand;
 use rows::stand::at_start;
 use rows::stand::lay_row;
 use rows::stand::next_stand;
 use table::entries::write_entry;
-ghost use Prim.Native.Nat.{_+_, _*_, _≤_};
+ghost use Prim.Native.Nat.{_*_, _≤_};
 ghost use mathlib.Core.Path.{_≡_};
 ghost use lib.ListN.{length};
 ghost use Rattle.meaning.specs.Table.{entryNumbers, ofEntry, ofAll, written};
 ghost use Rattle.table.specs.Numbers.{putEvents};
 ghost use Rattle.rows.specs.RowsFrom.{TextReady, entriesOf};
-ghost use Rattle.layout.specs.EventsFrom.{eventsOf, lineEvents, DrawReady};
-
-// The events of the line at a stand, from its entry: events number k and on. How many there are with those before.
-fn draw_line(
-    text: &[u8],
-    s: Settings,
-    stand: Stand,
-    e: Entry,
-    events: &mut [u32],
-    k: usize,
-) -> usize
-    requires { ⌜ DrawReady s (now text) stand e k ⌝ }
-    ensures { λ r. ⌜ now (events .exit) ≡ putEvents (now (events .entry)) k (lineEvents s (now (text .entry)) stand e) ⌝ }
-    ensures { λ r. ⌜ r ≡ k + length (lineEvents s (now (text .entry)) stand e) ⌝ }
-{
-    let left = e.left;
-    let space = e.space;
-    let extra = e.extra;
-    let spaces = Spaces {
-        width: space,
-        extra,
-    };
-    let start = start_place(s, left, spaces);
-    let at = stand.at.0 as usize;
-    let rest = stand.rest;
-    let known = stand.known;
-    draw_pass(text, s, start, at, rest, known, left.0, events, k)
-}
+ghost use Rattle.layout.specs.EventsFrom.{eventsOf};
 
 // The events of all lines of a text, put into a buffer as far as it has room. How many there are.
 pub fn draw_lines(text: &[u8], s: Settings, events: &mut [u32]) -> usize
@@ -108,7 +77,7 @@ fn draw_each(text: &[u8], s: Settings, table: &mut [u32], events: &mut [u32]) ->
     }
 }
 
-// The same by settings that justify no line: those of plain words as they are found.
+// The same by settings that justify no line: those that are found so, and the others by the step.
 fn draw_found(text: &[u8], s: Settings, table: &mut [u32], events: &mut [u32]) -> Both
     requires { ⌜ TextReady s (now text) × (s .alignment ≤ 2) ⌝ }
     requires { ⌜ entryNumbers * length (entriesOf s (now text)) ≤ length (now table) ⌝ }
@@ -122,8 +91,14 @@ fn draw_found(text: &[u8], s: Settings, table: &mut [u32], events: &mut [u32]) -
     let mut stand = at_start(text);
     loop {
         let far = draw_on(text, s, table, lines, events, drawn, stand);
-        let here = far.stand;
         lines = far.lines;
+        if far.done {
+            return Both {
+                lines,
+                events: far.events,
+            };
+        }
+        let here = far.stand;
         let row = lay_row(text, s, here);
         let entry = row.entry;
         write_entry(table, lines, entry);

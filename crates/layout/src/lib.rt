@@ -2,5 +2,7 @@
 pub mod checked;
 pub mod drawn;
 mod events;
+pub mod found;
 pub mod fresh;
+mod line;
 pub mod plain;

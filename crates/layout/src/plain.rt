@@ -5,25 +5,25 @@ use meaning::counts::Offset;
 use meaning::settings::Settings;
 use placing::plain::plain_entry;
 use placing::plain::plain_row;
-use rows::plain::may_be_plain;
-use rows::plain::plain_stand;
-use rows::stand::Stand;
 use table::entries::write_entry;
 ghost use Prim.Native.Nat.{_≤_};
 ghost use Rattle.rows.specs.Standing.{StandReady};
 ghost use Rattle.rows.specs.Going.{Went, RoomFrom};
-ghost use Rattle.rows.specs.Plain.{plainStand};
+ghost use Rattle.rows.specs.Found.{plainStand};
 ghost use Rattle.layout.specs.DrawGoing.{DrewTo, FewFrom};
 
-// How many lines are in the table, how many events in the buffer, and where the next line is to be laid.
-pub struct Drawn {
+// How many lines are in the table, how many events in the buffer, where the next line starts, the characters before it, and a guess
+// that its first word is too long for it.
+pub struct Passed {
     pub lines: usize,
     pub events: usize,
-    pub stand: Stand,
+    pub at: Offset,
+    pub before: Chars,
+    pub long: bool,
 }
 
 // As many such lines as follow one another from an offset on, behind so many characters, so many lines and so many events.
-fn draw_plain_lines(
+pub fn draw_plain_lines(
     text: &[u8],
     s: Settings,
     table: &mut [u32],
@@ -32,12 +32,12 @@ fn draw_plain_lines(
     drawn: usize,
     start: Offset,
     chars: Chars,
-) -> Drawn
+) -> Passed
     requires { ⌜ StandReady s (now text) (plainStand (start .0) (chars .0)) × (s .alignment ≤ 2) ⌝ }
     requires { ⌜ RoomFrom s (now text) (now table) lines (plainStand (start .0) (chars .0)) ⌝ }
     requires { ⌜ FewFrom s (now text) drawn (plainStand (start .0) (chars .0)) ⌝ }
-    ensures { λ r. ⌜ Went s (now (text .entry)) (now (table .entry)) lines (plainStand (start .0) (chars .0)) (now (table .exit)) (r .lines) (r .stand) ⌝ }
-    ensures { λ r. ⌜ DrewTo s (now (text .entry)) (now (events .entry)) drawn (plainStand (start .0) (chars .0)) (now (events .exit)) (r .events) (r .stand) ⌝ }
+    ensures { λ r. ⌜ Went s (now (text .entry)) (now (table .entry)) lines (plainStand (start .0) (chars .0)) (now (table .exit)) (r .lines) (plainStand (r .at .0) (r .before .0)) ⌝ }
+    ensures { λ r. ⌜ DrewTo s (now (text .entry)) (now (events .entry)) drawn (plainStand (start .0) (chars .0)) (now (events .exit)) (r .events) (plainStand (r .at .0) (r .before .0)) ⌝ }
 {
     let most = s.width.0 / s.glyph.0;
     let mut n = lines;
@@ -47,16 +47,18 @@ fn draw_plain_lines(
     loop {
         let line = plain_row(text, at as usize, most);
         let end = line.end.0;
+        let reach = line.reach;
         if end == 0 {
-            let stand = plain_stand(Offset(at), Chars(before));
-            return Drawn {
+            let long = reach.0 != 0;
+            return Passed {
                 lines: n,
                 events: k,
-                stand,
+                at: Offset(at),
+                before: Chars(before),
+                long,
             };
         }
         let columns = end - at;
-        let reach = line.reach;
         let entry = plain_entry(s, Offset(at), columns, reach, Chars(before));
         let left = entry.left.0;
         write_entry(table, n, entry);
@@ -65,30 +67,4 @@ fn draw_plain_lines(
         at = end + 1;
         before += columns + 1;
     }
-}
-
-// As many such lines as follow from a stand on, which may be none.
-pub fn draw_on(
-    text: &[u8],
-    s: Settings,
-    table: &mut [u32],
-    lines: usize,
-    events: &mut [u32],
-    drawn: usize,
-    stand: Stand,
-) -> Drawn
-    requires { ⌜ StandReady s (now text) stand × RoomFrom s (now text) (now table) lines stand × FewFrom s (now text) drawn stand × (s .alignment ≤ 2) ⌝ }
-    ensures { λ r. ⌜ Went s (now (text .entry)) (now (table .entry)) lines stand (now (table .exit)) (r .lines) (r .stand) ⌝ }
-    ensures { λ r. ⌜ DrewTo s (now (text .entry)) (now (events .entry)) drawn stand (now (events .exit)) (r .events) (r .stand) ⌝ }
-{
-    if !may_be_plain(stand) {
-        return Drawn {
-            lines,
-            events: drawn,
-            stand,
-        };
-    }
-    let at = stand.at;
-    let before = stand.before;
-    draw_plain_lines(text, s, table, lines, events, drawn, at, before)
 }

@@ -148,13 +148,13 @@ module _ {s : Settings} {t : List ℕ} {at : ℕ} (h : LineReady s t at nothingR
 
     -- ---- before a line feed, and at the text's end
 
-    feeds-alike : feedAt t to ≡ true → DrawnAlike s t at (endsBefore NewLine printed (to + 1) 0 (to + 1))
+    pub feeds-alike : feedAt t to ≡ true → DrawnAlike s t at (endsBefore NewLine printed (to + 1) 0 (to + 1))
     unfolding endsBefore
     feeds-alike b =
         alike (endsBefore NewLine printed (to + 1) 0 (to + 1)) (feed-ends (c .plain .ready) b) (words-measured s columns spaces) λ p f v.
         subst (SameEnd _) (feed-ends (v .onward .ready) b) (same-before NewLine printed (v .measure) (to + 1) (to + 1))
 
-    ends-alike : length t ≤ to → DrawnAlike s t at (endsBefore EndOfText printed to 0 (to + 1))
+    pub ends-alike : length t ≤ to → DrawnAlike s t at (endsBefore EndOfText printed to 0 (to + 1))
     unfolding endsBefore
     ends-alike l =
         alike (endsBefore EndOfText printed to 0 (to + 1)) (text-ends s here t to printed l) (words-measured s columns spaces) λ p f v.

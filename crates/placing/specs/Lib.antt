@@ -8,3 +8,4 @@ pub mod Quick
 pub mod FairLaws
 pub mod LayLaws
 pub mod Plain
+pub mod Told

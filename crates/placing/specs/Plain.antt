@@ -1,11 +1,14 @@
--- A line of plain words before a word that waits: what its entry is, and where the next line starts (rule 6, rule 12).
+-- A line that is found, of plain words or of others: what its entry is, and where the next line starts (rule 6, rule 12).
 -- Assumes nothing.
 use mathlib.Core.Path.{_≡_}
 use mathlib.Core.List.{List}
-use Prim.Native.Nat.{ℕ, _+_, _-_, _*_, _/_, _≤_}
+use Prim.Native.Nat.{ℕ, _+_, _-_, _*_, _/_, _≤_, _<_}
 use lib.Dec.{eqb}
+use lib.ListN.{length}
 use Rattle.basis.specs.Choice.{pick}
+use Rattle.meaning.specs.Line.{endNumber}
 use Rattle.meaning.specs.declared.settings.Settings.{Settings}
+use Rattle.meaning.specs.declared.line.LineEnd.{LineEnd}
 use Rattle.meaning.specs.declared.line.LineEnd.the-variants.{LineBreak}
 use Rattle.meaning.specs.declared.line.Entry.{Entry}
 use Rattle.pairs.specs.Stretches.{PlainLine}
@@ -17,13 +20,13 @@ use Rattle.placing.specs.Laying.{LineReady}
 unfoldable pub leftOf : (alignment room : ℕ) → ℕ
 leftOf alignment room = pick (eqb alignment 0) 0 (pick (eqb alignment 1) ((room + 1) / 2) room)
 
--- The entry of a line of so many characters, all of them drawn a glyph wide, that ends before a word.
-unfoldable pub plainEntry : Settings → (start columns reach before : ℕ) → Entry
-plainEntry s start columns reach before =
+-- The entry of a line of so many characters, all of them drawn a glyph wide, that ends so.
+unfoldable pub endedEntry : LineEnd → Settings → (start columns reach before : ℕ) → Entry
+endedEntry ended s start columns reach before =
     record {
       start = record { 0 = start };
       rest = record { end = record { 0 = 0 }; count = record { 0 = 0 } };
-      ending = 3;
+      ending = endNumber ended;
       left = record { 0 = leftOf (s .alignment) (s .width .0 - columns * s .glyph .0) };
       space = s .glyph;
       extra = record { 0 = 0 };
@@ -33,19 +36,39 @@ plainEntry s start columns reach before =
       before = record { 0 = before };
     }
 
--- The line whose words end at the space before the next line.
-abbrev pub plainLineAt : Settings → (at before end reach : ℕ) → LineAt
-plainLineAt s at before end reach =
+-- The entry of one that ends before a word.
+abbrev pub plainEntry : Settings → (start columns reach before : ℕ) → Entry
+plainEntry s start columns reach before = endedEntry LineBreak s start columns reach before
+
+-- The line of so many characters that ends so, takes so many, and is followed by one at an offset.
+abbrev pub endedLineAt : LineEnd → Settings → (at before columns next taken reach : ℕ) → LineAt
+endedLineAt ended s at before columns next taken reach =
     record {
-      entry = plainEntry s at (end - at) reach before;
-      ended = LineBreak;
-      next = record { 0 = end + 1 };
-      chars = record { 0 = end - at + 1 };
+      entry = endedEntry ended s at columns reach before;
+      ended = ended;
+      next = record { 0 = next };
+      chars = record { 0 = taken };
       rest = nothingResumed;
     }
 
+abbrev pub foundLineAt : Settings → (at before columns next taken reach : ℕ) → LineAt
+foundLineAt s at before columns next taken reach = endedLineAt LineBreak s at before columns next taken reach
+
 -- It is the line at an offset, whatever stands before it, by settings that justify no line and whose box has room for so many characters.
+pub record EndedRow (ended : LineEnd) (t : List ℕ) (at most columns next taken reach : ℕ) : Type 0 where
+  pub some : 1 ≤ columns
+  pub few : columns ≤ most
+  pub forward : at < next
+  pub inside : next ≤ length t
+  pub near : taken ≤ columns + 1
+  pub laid : (s : Settings) → LineReady s t at nothingResumed → most ≡ s .width .0 / s .glyph .0 → s .alignment ≤ 2 → (before : ℕ)
+      → endedLineAt ended s at before columns next taken reach ≡ lineFrom s t at before nothingResumed
+
+-- One that ends before a word, or within one.
+abbrev pub FoundRow : List ℕ → (at most columns next taken reach : ℕ) → Type 0
+FoundRow t at most columns next taken reach = EndedRow LineBreak t at most columns next taken reach
+
+-- One of plain words, which end at the space before the next line.
 pub record PlainRow (t : List ℕ) (at most end reach : ℕ) : Type 0 where
   pub line : PlainLine t at most end reach
-  pub laid : (s : Settings) → LineReady s t at nothingResumed → most ≡ s .width .0 / s .glyph .0 → s .alignment ≤ 2 → (before : ℕ)
-      → plainLineAt s at before end reach ≡ lineFrom s t at before nothingResumed
+  pub row : FoundRow t at most (end - at) (end + 1) (end - at + 1) reach

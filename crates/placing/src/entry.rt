@@ -14,7 +14,7 @@ ghost use Rattle.meaning.specs.Line.{endNumber};
 ghost use Rattle.placing.specs.Laying.{restIn, laidAt};
 
 // The number of a line's end.
-fn end_number(e: LineEnd) -> u32
+pub fn end_number(e: LineEnd) -> u32
     ensures { λ r. ⌜ r ≡ endNumber e ⌝ }
 {
     match e {

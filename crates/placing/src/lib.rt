@@ -6,3 +6,4 @@ pub mod entry;
 pub mod plain;
 pub mod quick;
 pub mod taken;
+pub mod told;

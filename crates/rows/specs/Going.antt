@@ -3,16 +3,16 @@
 use Prim.Native.Nat.{ℕ, _+_, _*_, _≤_}
 use native.Mathlib.Omega.{arith}
 use mathlib.Core.Path.{_≡_, refl, sym, ap, _∙_}
-use mathlib.Core.Bool.{false}
-use mathlib.Core.List.{List, _∷_}
+use mathlib.Core.Bool.{Bool, true, false, false≢true}
+use mathlib.Core.List.{List, [], _∷_}
 use lib.ListN.{length}
 use Rattle.meaning.specs.Checks.{textLimit}
-use Rattle.meaning.specs.Table.{entryNumbers, ofEntry}
+use Rattle.meaning.specs.Table.{entryNumbers, ofEntry, ofAll, written}
 use Rattle.meaning.specs.declared.settings.Settings.{Settings}
 use Rattle.table.specs.Numbers.{putNumbers}
 use Rattle.rows.specs.Standing.{StandsAt, StandReady, laidRow, ready-next, further}
-use Rattle.rows.specs.RowsFrom.{entriesOf, entriesFrom, entry-here, some-entries, few-entries, more-entries}
-use Rattle.rows.specs.Writing.{linesPut, first-put}
+use Rattle.rows.specs.RowsFrom.{entriesOf, entriesFrom, entry-here, some-entries, few-entries, last-entry, more-entries}
+use Rattle.rows.specs.Writing.{linesPut, none-put, first-put}
 use Rattle.rows.specs.Turns.{Counted, Wrote}
 use Rattle.rows.specs.declared.stand.Stand.{Stand}
 use Rattle.rows.specs.declared.line.LaidRow.{LaidRow}
@@ -24,6 +24,17 @@ pub record Went (s : Settings) (t u : List ℕ) (n : ℕ) (p : Stand) (v : List 
   pub same : length v ≡ length u
   pub left : linesPut v m (entriesFrom s t 0 q) ≡ linesPut u n (entriesFrom s t 0 p)
   pub forward : p .at .0 ≤ q .at .0
+
+-- All lines from the stand p on are written, behind n others in the table u: it is v now, and has m lines.
+pub record AllWritten (s : Settings) (t u : List ℕ) (n : ℕ) (p : Stand) (v : List ℕ) (m : ℕ) : Type 0 where
+  pub count : m ≡ n + length (entriesFrom s t 0 p)
+  pub put : v ≡ linesPut u n (entriesFrom s t 0 p)
+
+-- The one, or the other.
+pub record Reaches (s : Settings) (t u : List ℕ) (n : ℕ) (p : Stand) (v : List ℕ) (m : ℕ) (q : Stand) (done : Bool) : Type 0 where
+  pub same : length v ≡ length u
+  pub on : done ≡ false → Went s t u n p v m q
+  pub all : done ≡ true → AllWritten s t u n p v m
 
 -- There is room in a table for all lines from a stand on, behind n others, and no count of them wraps.
 abbrev pub RoomFrom : Settings → List ℕ → List ℕ → (n : ℕ) → Stand → Type 0
@@ -38,6 +49,24 @@ module _ (s : Settings) (t u : List ℕ) (n : ℕ) (p : Stand) where
   module _ (v : List ℕ) (m : ℕ) (q : Stand) (g : Went s t u n p v m q) where
     pub went-room : RoomFrom s t u n p → entryNumbers * m + entryNumbers ≤ length v
     went-room room = omega (arith, g .count, g .same, room .0, some-entries s t 0 q)
+
+    -- There is room for those that are left, too.
+    pub room-on : RoomFrom s t u n p → RoomFrom s t v m q
+    room-on room = (omega (arith, g .count, g .same, room .0), omega (arith, g .count, room .1))
+
+    -- From there on to another stand.
+    pub went-then : (w : List ℕ) (k : ℕ) (next : Stand) → Went s t v m q w k next → Went s t u n p w k next
+    went-then w k next h =
+        record {
+          ready = h .ready;
+          count = h .count ∙ g .count;
+          same = h .same ∙ g .same;
+          left = h .left ∙ g .left;
+          forward = omega (arith, g .forward, h .forward);
+        }
+
+    pub reaches-on : Reaches s t u n p v m q false
+    reaches-on = record { same = g .same; on = λ _. g; all = λ e. absurd (false≢true e) }
 
     pub went-few : RoomFrom s t u n p → m ≤ textLimit
     went-few room = omega (arith, g .count, room .1, some-entries s t 0 q)
@@ -64,6 +93,29 @@ module _ (s : Settings) (t u : List ℕ) (n : ℕ) (p : Stand) where
               forward = omega (arith, g .forward, further s t q (g .ready) x is next on goes);
             }
 
+    -- The last line.
+    module _ (room : RoomFrom s t u n p) (x : LaidRow) (is : x ≡ laidRow s t q) (w : List ℕ)
+        (put : w ≡ putNumbers v (entryNumbers * m) (ofEntry (x .entry))) (kept : length w ≡ length v) (ends : x .last ≡ true)
+      where
+        only : entriesFrom s t 0 q ≡ x .entry ∷ []
+        only = last-entry s t 0 q (g .ready) x is (x .entry) (entry-here s t q (g .ready) x is) ends
+
+        pub went-last : AllWritten s t u n p w (m + 1)
+        went-last =
+            record {
+              count = omega (arith, g .count, ap length only);
+              put =
+                  put
+                  ∙ sym (none-put (putNumbers v (entryNumbers * m) (ofEntry (x .entry))) (m + 1))
+                  ∙ sym (first-put v m (x .entry) [] (omega (arith, went-room room)))
+                  ∙ ap (linesPut v m) (sym only)
+                  ∙ g .left;
+            }
+
+pub reaches-all : (s : Settings) (t u : List ℕ) (n : ℕ) (p : Stand) (v : List ℕ) (m : ℕ) (q : Stand) → length v ≡ length u → AllWritten s t u n p v m
+    → Reaches s t u n p v m q true
+reaches-all s t u n p v m q same a = record { same = same; on = λ e. absurd (false≢true (sym e)); all = λ _. a }
+
 -- What the loop over all lines keeps is kept so.
 pub wrote-on : (s : Settings) (t t₀ u : List ℕ) (n : ℕ) (p : Stand) (v : List ℕ) (m : ℕ) (q : Stand) → Wrote s t t₀ u n p → Went s t u n p v m q → Wrote s t t₀ v m q
 wrote-on s t t₀ u n p v m q w g =
@@ -77,3 +129,8 @@ pub wrote-room : (s : Settings) (t t₀ u : List ℕ) (n : ℕ) (p : Stand) → 
 wrote-room s t t₀ u n p w room =
     let c = w .counted in
     (omega (arith, c .left, w .same, room), omega (arith, c .left, few-entries s t, c .ready .line .short))
+
+-- And where all lines are written it is done.
+pub wrote-all : (s : Settings) (t t₀ u : List ℕ) (n : ℕ) (p : Stand) (v : List ℕ) (m : ℕ) → Wrote s t t₀ u n p → AllWritten s t u n p v m
+    → (m ≡ length (entriesOf s t)) × (v ≡ written t₀ (ofAll ofEntry (entriesOf s t)))
+wrote-all s t t₀ u n p v m w a = (a .count ∙ w .counted .left, a .put ∙ w .left)

@@ -3,7 +3,7 @@ pub mod RowsFrom
 pub mod Writing
 pub mod Turns
 pub mod Going
-pub mod Plain
+pub mod Found
 pub mod GoodInput
 pub mod Passing
 pub mod CutRests

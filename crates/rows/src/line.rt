@@ -54,7 +54,7 @@ pub struct Passes {
 }
 
 // Nothing follows the line that ends the text.
-fn is_last(ended: LineEnd) -> bool
+pub fn is_last(ended: LineEnd) -> bool
     ensures { λ r. ⌜ r ≡ isLast ended ⌝ }
 {
     match ended {

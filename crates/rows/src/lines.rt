@@ -1,5 +1,5 @@
 // The lines of a text, one after the other: counted, and written to a table (rule 10).
-use crate::plain::write_on;
+use crate::found::write_on;
 use crate::stand::at_start;
 use crate::stand::lay_row;
 use crate::stand::next_stand;
@@ -49,7 +49,7 @@ fn write_each(text: &[u8], s: Settings, table: &mut [u32]) -> usize
     }
 }
 
-// The same by settings that justify no line: those of plain words as they are found, and the others by the step.
+// The same by settings that justify no line: those that are found so, and the others by the step.
 fn write_found(text: &[u8], s: Settings, table: &mut [u32]) -> usize
     requires { ⌜ TextReady s (now text) × (s .alignment ≤ 2) ⌝ }
     requires { ⌜ entryNumbers * length (entriesOf s (now text)) ≤ length (now table) ⌝ }
@@ -60,8 +60,11 @@ fn write_found(text: &[u8], s: Settings, table: &mut [u32]) -> usize
     let mut stand = at_start(text);
     loop {
         let far = write_on(text, s, table, n, stand);
-        let here = far.stand;
         n = far.lines;
+        if far.done {
+            return n;
+        }
+        let here = far.stand;
         let row = lay_row(text, s, here);
         let entry = row.entry;
         write_entry(table, n, entry);

@@ -3,7 +3,6 @@ use crate::stand::Stand;
 use meaning::counts::Chars;
 use meaning::counts::Offset;
 use meaning::settings::Settings;
-use parser::lexeme::Lexed;
 use placing::plain::plain_entry;
 use placing::plain::plain_row;
 use steps::ending::nothing_left;
@@ -11,15 +10,16 @@ use steps::first::nothing_known;
 use table::entries::write_entry;
 ghost use Prim.Native.Nat.{_≤_};
 ghost use mathlib.Core.Path.{_≡_};
-ghost use mathlib.Core.Bool.{true};
 ghost use Rattle.rows.specs.Standing.{StandReady};
 ghost use Rattle.rows.specs.Going.{RoomFrom};
-ghost use Rattle.rows.specs.Plain.{plainStand, WentTo};
+ghost use Rattle.rows.specs.Found.{plainStand, WentPast};
 
-// How many lines are in the table, and where the next one is to be laid.
-pub struct Reached {
+// How many lines are in the table, where the next one starts, the characters before it, and a guess that its first word is too long for it.
+pub struct Passed {
     pub lines: usize,
-    pub stand: Stand,
+    pub at: Offset,
+    pub before: Chars,
+    pub long: bool,
 }
 
 // Before a line that resumes nothing, where no word is known.
@@ -37,17 +37,17 @@ pub fn plain_stand(at: Offset, before: Chars) -> Stand
 }
 
 // As many such lines as follow one another from an offset on, behind so many characters and so many lines.
-fn write_plain(
+pub fn write_plain(
     text: &[u8],
     s: Settings,
     table: &mut [u32],
     lines: usize,
     start: Offset,
     chars: Chars,
-) -> Reached
+) -> Passed
     requires { ⌜ StandReady s (now text) (plainStand (start .0) (chars .0)) × (s .alignment ≤ 2) ⌝ }
     requires { ⌜ RoomFrom s (now text) (now table) lines (plainStand (start .0) (chars .0)) ⌝ }
-    ensures { λ r. ⌜ WentTo s (now (text .entry)) (now (table .entry)) lines (plainStand (start .0) (chars .0)) (now (table .exit)) r ⌝ }
+    ensures { λ r. ⌜ WentPast s (now (text .entry)) (now (table .entry)) lines (plainStand (start .0) (chars .0)) (now (table .exit)) r ⌝ }
 {
     let most = s.width.0 / s.glyph.0;
     let mut n = lines;
@@ -56,44 +56,21 @@ fn write_plain(
     loop {
         let line = plain_row(text, at as usize, most);
         let end = line.end.0;
+        let reach = line.reach;
         if end == 0 {
-            let stand = plain_stand(Offset(at), Chars(before));
-            return Reached { lines: n, stand };
+            let long = reach.0 != 0;
+            return Passed {
+                lines: n,
+                at: Offset(at),
+                before: Chars(before),
+                long,
+            };
         }
         let columns = end - at;
-        let reach = line.reach;
         let entry = plain_entry(s, Offset(at), columns, reach, Chars(before));
         write_entry(table, n, entry);
         n += 1;
         at = end + 1;
         before += columns + 1;
     }
-}
-
-// May such lines follow from a stand on: none does where a rest is resumed, and few where a word is known.
-pub fn may_be_plain(stand: Stand) -> bool
-    ensures { λ r. ⌜ (r ≡ true → stand .rest .chars .0 ≡ 0) ⌝ }
-{
-    if stand.rest.chars.0 != 0 {
-        return false;
-    }
-    let known = stand.known;
-    let first = known.first;
-    match first {
-        Lexed::Token(_) => false,
-        Lexed::End => true,
-    }
-}
-
-// As many such lines as follow from a stand on, which may be none.
-pub fn write_on(text: &[u8], s: Settings, table: &mut [u32], lines: usize, stand: Stand) -> Reached
-    requires { ⌜ StandReady s (now text) stand × RoomFrom s (now text) (now table) lines stand × (s .alignment ≤ 2) ⌝ }
-    ensures { λ r. ⌜ WentTo s (now (text .entry)) (now (table .entry)) lines stand (now (table .exit)) r ⌝ }
-{
-    if !may_be_plain(stand) {
-        return Reached { lines, stand };
-    }
-    let at = stand.at;
-    let before = stand.before;
-    write_plain(text, s, table, lines, at, before)
 }

@@ -7,9 +7,10 @@ use mathlib.Core.Path.{_∙_}
 use lib.ListN.{length}
 use Rattle.rows.specs.Standing.{next-ready, further, stays}
 use Rattle.rows.specs.Turns.{Wrote, write-start, room-left, count-low, count-last, write-last, write-next}
-use Rattle.rows.specs.Going.{wrote-on, wrote-room}
+use Rattle.rows.specs.Going.{Went, wrote-on, wrote-room, wrote-all}
 use Rattle.layout.specs.DrawTurns.{Drew, draw-start, draw-ready, draw-last, draw-next}
-use Rattle.layout.specs.DrawGoing.{drew-on, drew-few}
+use Rattle.layout.specs.DrawGoing.{DrewTo, drew-on, drew-few}
+use Rattle.layout.specs.DrawFound.{drew-all}
 use Rattle.layout.proofs.events.draw_found.Statement.{statement}
 use Rattle.layout.proofs.events.draw_found.Tie as tie
 
@@ -37,22 +38,52 @@ draw-on-requires c κs =
     let i = l .loop .inv in
     (i .1 .ready, wrote-room _ _ _ _ _ _ (i .0) (begin l .pre .1), drew-few _ _ _ _ _ _ (i .1), begin l .pre .0 .1)
 
--- ---- after the plain lines, if there were any
+-- ---- after the lines that were found, if there were any
 
+abbrev found : tie.After-slice-known4 Inv-loop μ-loop → tie.After-draw-on Inv-loop μ-loop
+found c = c .before .before .before .before
+
+abbrev come : tie.After-slice-known4 Inv-loop μ-loop → tie.At-loop Inv-loop μ-loop
+come c = found c .before .before .before
+
+-- They were all.
+same-length : tie.Need-same-length Inv-loop μ-loop
+same-length c = let k = c .before in found k .draw-on .ensures .0 .same ∙ come k .loop .inv .0 .same
+
+same-length-2 : tie.Need-same-length-2 Inv-loop μ-loop
+same-length-2 c = let k = c .before in found k .draw-on .ensures .1 .same ∙ come k .loop .inv .1 .same
+
+returns : tie.Need-returns Inv-loop μ-loop
+returns c =
+    let k = c .before in
+    let d = found k .draw-on .ensures in
+    let i = come k .loop .inv in
+    let a = wrote-all _ _ _ _ _ _ _ _ (i .0) (d .0 .all (c .if1 .taken)) in
+    let b = drew-all _ _ _ _ _ _ _ _ (i .1) (d .1 .all (c .if1 .taken)) in
+    (a .0, (b .0, (a .1, b .1)))
+
+-- Or others follow.
 abbrev Here : Type 0
 Here = tie.After-here Inv-loop μ-loop
 
 abbrev gone : Here → tie.After-draw-on Inv-loop μ-loop
-gone c = c .before .before .before .before .before
+gone c = found (c .before .before)
 
 abbrev turn : Here → tie.At-loop Inv-loop μ-loop
 turn c = gone c .before .before .before
+
+went : (c : Here) →
+    let d = gone c .draw-on in
+    let l = turn c in
+    let a = begin l .args in
+    Went (a .s) (a .text .now) (l .loop .table) (l .loop .lines) (l .loop .stand) (d .last .1 .1 .0) (d .result .lines) (d .result .stand)
+went c = gone c .draw-on .ensures .0 .on (c .before .if1 .left)
 
 wrote : (c : Here) →
     let d = gone c .draw-on in
     let a = begin (turn c) .args in
     Wrote (a .s) (a .text .now) (a .table .now) (d .last .1 .1 .0) (d .result .lines) (d .result .stand)
-wrote c = wrote-on _ _ _ _ _ _ _ _ _ (turn c .loop .inv .0) (gone c .draw-on .ensures .0)
+wrote c = wrote-on _ _ _ _ _ _ _ _ _ (turn c .loop .inv .0) (went c)
 
 drew : (c : Here) →
     let d = gone c .draw-on in
@@ -60,7 +91,7 @@ drew : (c : Here) →
     Drew (a .s) (a .text .now) (a .events .now) (d .last .1 .1 .1 .1 .0) (d .result .events) (d .result .stand)
 drew c =
     let d = gone c .draw-on in
-    drew-on _ _ _ _ _ _ _ _ _ (d .ensures .0 .ready) (turn c .loop .inv .1) (d .ensures .1)
+    drew-on _ _ _ _ _ _ _ _ _ (went c .ready) (turn c .loop .inv .1) (d .ensures .1 .on (c .before .if1 .left))
 
 abbrev room : (c : Here) → tie.Start Inv-loop μ-loop
 room c = begin (turn c)
@@ -91,19 +122,19 @@ draw-line-requires c κs =
     let r = c .before .before .before .before .before .before in
     draw-ready _ _ _ _ _ _ (drew (r .before)) _ (r .lay-row .ensures)
 
-same-length : tie.Need-same-length Inv-loop μ-loop
-same-length c = let d = c .before .before .before in written d .write-entry .kept .0 ∙ wrote (laid d .before) .same
+same-length-3 : tie.Need-same-length-3 Inv-loop μ-loop
+same-length-3 c = let d = c .before .before .before in written d .write-entry .kept .0 ∙ wrote (laid d .before) .same
 
-same-length-2 : tie.Need-same-length-2 Inv-loop μ-loop
-same-length-2 c = let d = c .before .before .before in d .draw-line .kept .1 .1 .1 .1 .0 ∙ drew (laid d .before) .same
+same-length-4 : tie.Need-same-length-4 Inv-loop μ-loop
+same-length-4 c = let d = c .before .before .before in d .draw-line .kept .1 .1 .1 .1 .0 ∙ drew (laid d .before) .same
 
-returns : tie.Need-returns Inv-loop μ-loop
-returns c =
+returns-2 : tie.Need-returns-2 Inv-loop μ-loop
+returns-2 c =
     let d = c .before .before .before in
     let w = written d in
     let r = laid d in
     let b = r .before in
-    let h = c .if1 .taken in
+    let h = c .if2 .taken in
     let is = r .lay-row .ensures in
     let last-drawn = draw-last _ _ _ _ _ _ (drew b) _ is _ _ (d .draw-line .ensures .0) (d .draw-line .ensures .1) (d .draw-line .kept .1 .1 .1 .1 .0) h in
     let last-written = write-last _ _ _ _ _ _ (wrote b) (room b .pre .1) _ is _ (w .write-entry .ensures) (w .write-entry .kept .0) h in
@@ -121,7 +152,7 @@ loop-less c =
     let b = r .before in
     let i = drew b .ready in
     let is = r .lay-row .ensures in
-    omega (arith, gone b .draw-on .ensures .0 .forward, further _ _ _ i _ is _ (c .next-stand .ensures) (e .if1 .left), stays _ _ _ i _ is _ (c .next-stand .ensures))
+    omega (arith, went b .forward, further _ _ _ i _ is _ (c .next-stand .ensures) (e .if2 .left), stays _ _ _ i _ is _ (c .next-stand .ensures))
 
 loop-again : tie.Need-loop-again Inv-loop μ-loop
 loop-again c =
@@ -132,9 +163,9 @@ loop-again c =
     let b = r .before in
     let is = r .lay-row .ensures in
     let on = c .next-stand .ensures in (
-      write-next _ _ _ _ _ _ (wrote b) (room b .pre .1) _ is _ (w .write-entry .ensures) (w .write-entry .kept .0) _ on (e .if1 .left),
+      write-next _ _ _ _ _ _ (wrote b) (room b .pre .1) _ is _ (w .write-entry .ensures) (w .write-entry .kept .0) _ on (e .if2 .left),
       draw-next _ _ _ _ _ _ (drew b) _ is _ _ (d .draw-line .ensures .0) (d .draw-line .ensures .1) (d .draw-line .kept .1 .1 .1 .1 .0) _ on
-          (e .if1 .left),
+          (e .if2 .left),
     )
 
 pub draw-found-spec : {M : Type 1} → statement M
@@ -146,13 +177,16 @@ draw-found-spec =
     at-start-requires
     loop-holds
     draw-on-requires
+    same-length
+    same-length-2
+    returns
     lay-row-requires
     write-entry-requires
     add-lines
     draw-line-requires
-    same-length
-    same-length-2
-    returns
+    same-length-3
+    same-length-4
+    returns-2
     next-stand-requires
     loop-less
     loop-again)

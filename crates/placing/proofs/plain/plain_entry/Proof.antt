@@ -1,25 +1,14 @@
 -- `placing::plain::plain_entry` meets its contract (rule 12).
 -- Assumes nothing.
-use native.Mathlib.Omega.{arith}
-use mathlib.Core.Path.{refl}
 use borrow.Author.Needs.{needs}
-use Rattle.placing.specs.Plain.{plainEntry}
 use Rattle.placing.proofs.plain.plain_entry.Statement.{statement}
 use Rattle.placing.proofs.plain.plain_entry.Tie as tie
 
-mul-wide : tie.Need-mul-wide
-mul-wide c = record { fits = omega (arith, c .before .before .pre .0, c .before .before .pre .1) }
-
-sub-left-of : tie.Need-sub-left-of
-sub-left-of c = search needs
-
-left-of-requires : tie.Need-left-of-requires
-left-of-requires c κs = search needs
+ended-entry-requires : tie.Need-ended-entry-requires
+ended-entry-requires c κs = search needs
 
 returns : tie.Need-returns
-unfolding plainEntry
-returns c = rw (c .left-of .ensures)
+returns c = c .ended-entry .ensures
 
 pub plain-entry-spec : {M : Type 1} → statement M
-plain-entry-spec =
-    tie.close (tie.spec mul-wide sub-left-of left-of-requires returns)
+plain-entry-spec = tie.close (tie.spec ended-entry-requires returns)

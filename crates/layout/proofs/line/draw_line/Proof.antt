@@ -1,12 +1,12 @@
--- `layout::events::draw_line` meets its contract (rule 10, rule 13).
+-- `layout::line::draw_line` meets its contract (rule 10, rule 13).
 -- Assumes nothing.
 use Prim.Native.Nat.{ℕ, _+_}
 use mathlib.Core.Path.{ap, _∙_}
 use Rattle.table.specs.Numbers.{putEvents}
 use Rattle.layout.specs.EventsFrom.{place-room, place-events, place-length}
 use borrow.Author.Needs.{needs}
-use Rattle.layout.proofs.events.draw_line.Statement.{statement}
-use Rattle.layout.proofs.events.draw_line.Tie as tie
+use Rattle.layout.proofs.line.draw_line.Statement.{statement}
+use Rattle.layout.proofs.line.draw_line.Tie as tie
 
 start-place-requires : tie.Need-start-place-requires
 start-place-requires c κs = search needs
