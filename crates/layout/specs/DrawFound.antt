@@ -6,7 +6,7 @@ use mathlib.Core.Path.{_≡_, refl, sym, ap, _∙_}
 use mathlib.Core.Bool.{Bool, true, false, false≢true}
 use mathlib.Core.List.{List, _++_}
 use lib.ListN.{length, length-append}
-use Rattle.basis.specs.Choice.{pick, pick-cases}
+use Rattle.basis.specs.Choice.{pick-cases}
 use lib.Dec.{eqb}
 use Rattle.meaning.specs.Checks.{textLimit}
 use Rattle.meaning.specs.Alignment.{plainSpaces}
@@ -24,7 +24,7 @@ use Rattle.drawing.specs.PassDrawn.{DrawRoom}
 use Rattle.drawing.specs.PlainDrawn.{plainStart, PlainToDraw}
 use Rattle.placing.specs.Plain.{leftOf, endedEntry, plainEntry, EndedRow, PlainRow}
 use Rattle.placing.specs.declared.told.ToldRow.{ToldRow}
-use Rattle.rows.specs.Standing.{StandsAt, StandReady, isLast, lineAt, laidRow}
+use Rattle.rows.specs.Standing.{StandReady, isLast, lineAt, laidRow}
 use Rattle.rows.specs.Found.{plainStand, foundRow, found-step, found-next, found-fits, rows-here}
 use Rattle.rows.specs.declared.stand.Stand.{Stand}
 use Rattle.rows.specs.declared.line.LaidRow.{LaidRow}

@@ -10,7 +10,7 @@ use Rattle.meaning.specs.declared.settings.Settings.{Settings}
 use Rattle.table.specs.Numbers.{putEvents}
 use Rattle.rows.specs.Standing.{StandReady}
 use Rattle.rows.specs.declared.stand.Stand.{Stand}
-use Rattle.layout.specs.EventsFrom.{eventsOf, eventsAfter, few-events}
+use Rattle.layout.specs.EventsFrom.{eventsAfter, few-events}
 use Rattle.layout.specs.DrawTurns.{Drew}
 
 -- From the stand p, with n events before it in the buffer u, to the stand q, with m events in the buffer v.

@@ -1,25 +1,22 @@
 -- A line of counted words is the line at its offset, whether a word waits behind them, a line feed stands there or the text ends (rule 8, rule 10).
 -- Assumes nothing.
-use mathlib.Core.Path.{_≡_, refl, sym, ap, subst, _∙_}
+use mathlib.Core.Path.{_≡_, refl, sym, subst, _∙_}
 use mathlib.Core.Bool.{true}
 use mathlib.Core.List.{List}
 use Prim.Native.Nat.{ℕ, _+_, _-_, _*_, _/_, _≤_, _<_, max}
 use native.Mathlib.Nat.{add-mul}
 use native.Mathlib.Omega.{arith}
-use lib.Dec.{eqb}
 use lib.ListN.{length}
 use borrow.Author.Tests.{eq-eqb, ne-eqb}
 use Rattle.basis.specs.Choice.{pick}
 use Rattle.basis.specs.Order.{by-eq, by-lt}
 use Rattle.meaning.specs.SpaceConfig.{spacesWidth}
 use Rattle.meaning.specs.Alignment.{plainSpaces, placedLeft, place}
-use Rattle.meaning.specs.Line.{endNumber}
 use Rattle.meaning.specs.declared.settings.Settings.{Settings}
 use Rattle.meaning.specs.declared.counts.Offset.{Offset}
 use Rattle.meaning.specs.declared.line.LineEnd.{LineEnd}
 use Rattle.meaning.specs.declared.line.LineEnd.the-variants.{NewLine, EndOfText, LineBreak}
 use Rattle.meaning.specs.declared.line.Measure.{Measure}
-use Rattle.meaning.specs.declared.line.Placed.{Placed}
 use Rattle.meaning.specs.declared.tokens.TokenKind.the-variants as kind
 use Rattle.laws.specs.Measuring.{printedAt}
 use Rattle.parser.specs.Ascii.{feedAt, feed-char}
@@ -35,11 +32,11 @@ use Rattle.steps.specs.declared.step.Ended.{Ended}
 use Rattle.strides.specs.Strides.{Waits}
 use Rattle.strides.specs.declared.going.Waiting.{Waiting}
 use Rattle.placing.specs.PlaceLaws.{at-left, in-centre, at-right}
-use Rattle.placing.specs.LineFrom.{LineAt, lineFrom}
+use Rattle.placing.specs.LineFrom.{lineFrom}
 use Rattle.placing.specs.Taken.{Taken, token-taken, taken-on}
 use Rattle.placing.specs.Laying.{LineReady, restIn, placedBy, laidAt}
 use Rattle.placing.specs.LayLaws.{laid-alike}
-use Rattle.placing.specs.Quick.{plainPlace, Counts, countedAt, CountedWords}
+use Rattle.placing.specs.Quick.{plainPlace, Counts, countedAt}
 use Rattle.placing.specs.Plain.{leftOf, endedEntry, endedLineAt, foundLineAt, EndedRow, FoundRow}
 use Rattle.placing.specs.Told.{WordsTo}
 use Rattle.placing.proofs.CountingLaws.{most-within, most-over, pair-within, counting-waits}

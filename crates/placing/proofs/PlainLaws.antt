@@ -2,14 +2,13 @@
 -- Assumes nothing.
 use mathlib.Core.Path.{_≡_, refl, subst}
 use mathlib.Core.List.{List}
-use Prim.Native.Nat.{ℕ, _+_, _-_, _≤_, _<_}
+use Prim.Native.Nat.{ℕ, _+_, _-_, _≤_}
 use native.Mathlib.Omega.{arith}
 use Rattle.basis.specs.Order.{by-lt}
 use Rattle.meaning.specs.Characters.{inWord}
 use Rattle.parser.specs.Lexing.{charsFrom}
 use Rattle.parser.specs.Scanning.{glueOf, scannedAt, scanFrom, wordOf}
 use Rattle.parser.specs.LetterLaws.{letter-plain}
-use Rattle.parser.specs.declared.scan.Scanned.{Scanned}
 use Rattle.pairs.specs.Pairs.{PairAt}
 use Rattle.pairs.specs.PlainWords.{PlainWord, Stride}
 use Rattle.pairs.specs.Stretches.{PlainLine}

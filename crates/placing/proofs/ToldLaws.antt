@@ -1,10 +1,9 @@
 -- The loop over the characters of a line that is told by its bytes: its start, its turns and where it stops (rule 8, rule 10).
 -- Assumes nothing.
-use mathlib.Core.Path.{_≡_, refl, sym, ap, subst, _∙_}
+use mathlib.Core.Path.{_≡_, refl, sym, ap, subst}
 use mathlib.Core.Bool.{true, false}
 use mathlib.Core.List.{List}
 use Prim.Native.Nat.{ℕ, _+_, _-_, _≤_, _<_}
-use native.Mathlib.Nat.{zero-add}
 use native.Mathlib.Omega.{arith}
 use borrow.Author.Tests.{lt-ltb}
 use lib.Dec.{eqb}
@@ -12,12 +11,10 @@ use lib.ListN.{length, getD}
 use Rattle.basis.specs.Choice.{pick}
 use Rattle.meaning.specs.Characters.{inWord}
 use Rattle.parser.specs.Lexing.{charsFrom}
-use Rattle.parser.specs.Scanning.{glueOf, scannedAt, scanFrom, wordOf}
+use Rattle.parser.specs.Scanning.{glueOf, scannedAt, scanFrom}
 use Rattle.parser.specs.Ascii.{spaceAt, feedAt, isEnder, enderAt}
 use Rattle.parser.specs.Letters.{Letter, Lettered}
 use Rattle.parser.specs.LetterLaws.{spells-room, ends-ender}
-use Rattle.parser.specs.declared.scan.Scanned.{Scanned}
-use Rattle.pairs.specs.Pairs.{PairAt}
 use Rattle.pairs.specs.PlainWords.{Found}
 use Rattle.pairs.specs.Told.{Goes, ToldWord, told-none, told-letters, told-more, told-read}
 use Rattle.pairs.specs.PairLaws.{blank-space, pair-is}

@@ -6,7 +6,6 @@ use lib.ListN.{length}
 use Rattle.meaning.specs.declared.line.LineEnd.{LineEnd}
 use Rattle.meaning.specs.declared.line.LineEnd.the-variants.{NewLine, CarriageReturn, EndOfText, LineBreak}
 use Rattle.parser.specs.Letters.{Spells}
-use Rattle.pairs.specs.PlainWords.{Found}
 use Rattle.placing.specs.Quick.{Counting}
 use Rattle.placing.specs.Plain.{EndedRow}
 use Rattle.placing.specs.declared.told.ToldRow.{ToldRow}

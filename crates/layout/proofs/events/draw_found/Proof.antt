@@ -9,7 +9,7 @@ use Rattle.rows.specs.Standing.{next-ready, further, stays}
 use Rattle.rows.specs.Turns.{Wrote, write-start, room-left, count-low, count-last, write-last, write-next}
 use Rattle.rows.specs.Going.{Went, wrote-on, wrote-room, wrote-all}
 use Rattle.layout.specs.DrawTurns.{Drew, draw-start, draw-ready, draw-last, draw-next}
-use Rattle.layout.specs.DrawGoing.{DrewTo, drew-on, drew-few}
+use Rattle.layout.specs.DrawGoing.{drew-on, drew-few}
 use Rattle.layout.specs.DrawFound.{drew-all}
 use Rattle.layout.proofs.events.draw_found.Statement.{statement}
 use Rattle.layout.proofs.events.draw_found.Tie as tie

@@ -1,7 +1,7 @@
 -- `layout::plain::draw_plain_lines` meets its contract. The invariants: what is still to be written, and to be drawn, stays the same
 -- (rule 10, rule 13).
 -- Assumes nothing.
-use Prim.Native.Nat.{_-_, _/_, _≤_}
+use Prim.Native.Nat.{_-_, _/_}
 use native.Mathlib.Nat.{div-le-self}
 use native.Mathlib.Omega.{arith}
 use mathlib.Core.Path.{refl}

@@ -1,7 +1,6 @@
 -- `placing::plain::ended_entry` meets its contract (rule 12).
 -- Assumes nothing.
 use native.Mathlib.Omega.{arith}
-use mathlib.Core.Path.{refl}
 use borrow.Author.Needs.{needs}
 use Rattle.placing.specs.Plain.{endedEntry}
 use Rattle.placing.proofs.plain.ended_entry.Statement.{statement}

@@ -1,6 +1,5 @@
 -- `placing::told::ending_row` meets its contract (rule 10).
 -- Assumes nothing.
-use native.Mathlib.Omega.{arith}
 use borrow.Author.Needs.{needs}
 use Rattle.placing.proofs.FoundLaws.{end-row, feed-row}
 use Rattle.placing.proofs.ToldLaws.{feed-there}

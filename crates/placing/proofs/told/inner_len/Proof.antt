@@ -1,6 +1,5 @@
 -- `placing::told::inner_len` meets its contract (rule 2).
 -- Assumes nothing.
-use native.Mathlib.Omega.{arith}
 use borrow.Author.Needs.{needs}
 use Rattle.parser.specs.LetterLaws.{letter-long}
 use Rattle.placing.proofs.told.inner_len.Statement.{statement}

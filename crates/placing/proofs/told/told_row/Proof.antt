@@ -2,13 +2,13 @@
 -- Assumes nothing.
 use Prim.Native.Nat.{ℕ, _+_, _-_, _≤_, _<_}
 use native.Mathlib.Omega.{arith}
-use mathlib.Core.Path.{_≡_, refl, sym, _∙_}
-use mathlib.Core.Bool.{true, false}
+use mathlib.Core.Path.{_≡_, sym, _∙_}
+use mathlib.Core.Bool.{true}
 use mathlib.Core.List.{List}
 use lib.ListN.{length}
 use borrow.Author.Needs.{needs}
 use borrow.Author.Tests.{not-true, not-false}
-use Rattle.parser.specs.Ascii.{spaceAt, enderAt, space-inside}
+use Rattle.parser.specs.Ascii.{spaceAt, enderAt}
 use Rattle.parser.specs.Letters.{Letter}
 use Rattle.parser.specs.LetterLaws.{spells-room}
 use Rattle.placing.specs.Told.{Within}
