@@ -19,7 +19,6 @@ pub struct Passed {
     pub events: usize,
     pub at: Offset,
     pub before: Chars,
-    pub long: bool,
 }
 
 // As many such lines as follow one another from an offset on, behind so many characters, so many lines and so many events.
@@ -47,18 +46,16 @@ pub fn draw_plain_lines(
     loop {
         let line = plain_row(text, at as usize, most);
         let end = line.end.0;
-        let reach = line.reach;
         if end == 0 {
-            let long = reach.0 != 0;
             return Passed {
                 lines: n,
                 events: k,
                 at: Offset(at),
                 before: Chars(before),
-                long,
             };
         }
         let columns = end - at;
+        let reach = line.reach;
         let entry = plain_entry(s, Offset(at), columns, reach, Chars(before));
         let left = entry.left.0;
         write_entry(table, n, entry);

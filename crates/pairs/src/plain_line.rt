@@ -10,8 +10,7 @@ ghost use lib.ListN.{length};
 ghost use Rattle.pairs.specs.PlainWords.{Found};
 ghost use Rattle.pairs.specs.Stretches.{Plains, LastSpace, Waits, PlainLine};
 
-// Where the words end that fit, and how far was looked. An end of 0: there is no such line; then a reach of 1 guesses that its first word
-// alone is too long for it, and nothing rests on that.
+// Where the words end that fit, and how far was looked. An end of 0: there is no such line.
 pub struct FoundLine {
     pub end: Offset,
     pub reach: Offset,
@@ -78,7 +77,7 @@ pub fn plain_line(text: &[u8], at: usize, most: u32) -> FoundLine
     }
     let end = last_space(text, at, limit);
     if end == at {
-        return plain_found(0, 1);
+        return plain_found(0, 0);
     }
     waits_behind(text, end, limit)
 }

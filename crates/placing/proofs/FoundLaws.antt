@@ -56,7 +56,7 @@ module _ (s : Settings) (plain : s .alignment ≤ 2) where
       rw (ne-eqb (s .alignment) 0 l, ne-eqb (s .alignment) 1 m) (at-right s ended width n room sp refl refl (omega arith))
 
   -- The line of a pass that ends so, and drops nothing.
-  ended-formed : (ended : LineEnd) (at before columns next taken reach : ℕ) (e : Ended) → e .ended ≡ ended → e .next ≡ record { 0 = next }
+  pub ended-formed : (ended : LineEnd) (at before columns next taken reach : ℕ) (e : Ended) → e .ended ≡ ended → e .next ≡ record { 0 = next }
       → e .rest ≡ nothingResumed → e .dropped ≡ record { 0 = 0 } → e .reach .0 ≡ reach → e .measure .width .0 ≡ columns * s .glyph .0
       → endedLineAt ended s at before columns next taken reach
       ≡ laidAt at before nothingResumed (placedBy s e) (e .measure .width .0) (e .reach .0) e taken

@@ -5,4 +5,6 @@ pub mod QuickLaws
 pub mod FoundLaws
 pub mod PlainLaws
 pub mod ToldLaws
+pub mod LongWordLaws
+pub mod CutRowLaws
 pub mod TakenLaws

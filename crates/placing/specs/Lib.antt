@@ -9,3 +9,6 @@ pub mod FairLaws
 pub mod LayLaws
 pub mod Plain
 pub mod Told
+pub mod Leads
+pub mod LeftWords
+pub mod LeftWordLaws

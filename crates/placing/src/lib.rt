@@ -2,7 +2,9 @@
 pub mod alignment;
 pub mod counting;
 pub mod cut;
+pub mod cuts;
 pub mod entry;
+pub mod long_word;
 pub mod plain;
 pub mod quick;
 pub mod taken;

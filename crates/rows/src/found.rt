@@ -1,4 +1,6 @@
 // Lines that are found and not walked, written one after the other (rule 10).
+use crate::cuts::write_cuts;
+use crate::cuts::write_long;
 use crate::line::is_last;
 use crate::plain::plain_stand;
 use crate::plain::write_plain;
@@ -7,12 +9,13 @@ use meaning::counts::Chars;
 use meaning::counts::Offset;
 use meaning::settings::Settings;
 use parser::lexeme::Lexed;
+use placing::long_word::long_known;
 use placing::plain::ended_entry;
 use placing::told::told_row;
+use steps::first::Known;
 use table::entries::write_entry;
 ghost use Prim.Native.Nat.{_≤_};
 ghost use mathlib.Core.Path.{_≡_};
-ghost use mathlib.Core.Bool.{true};
 ghost use Rattle.rows.specs.Standing.{StandReady};
 ghost use Rattle.rows.specs.Going.{RoomFrom};
 ghost use Rattle.rows.specs.Found.{plainStand, reachedAt, ReachedFrom};
@@ -32,7 +35,7 @@ fn reached_at(lines: usize, at: u32, before: u32, done: bool) -> Reached
 }
 
 // As many lines as follow one another from an offset on and are told by their bytes: those of plain words as many as there are, then
-// one of others, and so on.
+// those of a word that is wider than the box, or one of others, and so on.
 fn write_told(
     text: &[u8],
     s: Settings,
@@ -54,8 +57,12 @@ fn write_told(
         n = far.lines;
         at = far.at.0;
         before = far.before.0;
-        if far.long {
-            return reached_at(n, at, before, false);
+        let cut = write_long(text, s, table, n, at, before, most);
+        n = cut.lines;
+        at = cut.at;
+        before = cut.before;
+        if far.at.0 < at {
+            continue;
         }
         let row = told_row(text, at as usize, most);
         let next = row.next.0;
@@ -76,19 +83,34 @@ fn write_told(
     }
 }
 
-// May such lines follow from a stand on: none does where a rest is resumed, and few where a word is known.
-pub fn may_be_found(stand: Stand) -> bool
-    ensures { λ r. ⌜ (r ≡ true → stand .rest .chars .0 ≡ 0) ⌝ }
-{
-    if stand.rest.chars.0 != 0 {
-        return false;
-    }
-    let known = stand.known;
+// Is a word known, or another token.
+pub fn is_known(known: Known) -> bool {
     let first = known.first;
     match first {
-        Lexed::Token(_) => false,
-        Lexed::End => true,
+        Lexed::Token(_) => true,
+        Lexed::End => false,
     }
+}
+
+// The lines that a known word fills, which may be none.
+fn write_known(text: &[u8], s: Settings, table: &mut [u32], lines: usize, stand: Stand) -> Reached
+    requires { ⌜ StandReady s (now text) stand × RoomFrom s (now text) (now table) lines stand × (s .alignment ≤ 2) ⌝ }
+    requires { ⌜ stand .rest .chars .0 ≡ 0 ⌝ }
+    ensures { λ r. ⌜ ReachedFrom s (now (text .entry)) (now (table .entry)) lines stand (now (table .exit)) r ⌝ }
+{
+    let most = s.width.0 / s.glyph.0;
+    let at = stand.at.0;
+    let known = stand.known;
+    let word = long_known(text, at as usize, known, most);
+    if word.chars.0 == 0 {
+        return Reached {
+            lines,
+            stand,
+            done: false,
+        };
+    }
+    let far = write_cuts(text, s, table, lines, at, stand.before.0, most, word);
+    reached_at(far.lines, far.at, far.before, false)
 }
 
 // As many such lines as follow from a stand on, which may be none.
@@ -96,12 +118,15 @@ pub fn write_on(text: &[u8], s: Settings, table: &mut [u32], lines: usize, stand
     requires { ⌜ StandReady s (now text) stand × RoomFrom s (now text) (now table) lines stand × (s .alignment ≤ 2) ⌝ }
     ensures { λ r. ⌜ ReachedFrom s (now (text .entry)) (now (table .entry)) lines stand (now (table .exit)) r ⌝ }
 {
-    if !may_be_found(stand) {
+    if stand.rest.chars.0 != 0 {
         return Reached {
             lines,
             stand,
             done: false,
         };
+    }
+    if is_known(stand.known) {
+        return write_known(text, s, table, lines, stand);
     }
     let at = stand.at;
     let before = stand.before;

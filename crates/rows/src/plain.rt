@@ -14,12 +14,11 @@ ghost use Rattle.rows.specs.Standing.{StandReady};
 ghost use Rattle.rows.specs.Going.{RoomFrom};
 ghost use Rattle.rows.specs.Found.{plainStand, WentPast};
 
-// How many lines are in the table, where the next one starts, the characters before it, and a guess that its first word is too long for it.
+// How many lines are in the table, where the next one starts, and the characters before it.
 pub struct Passed {
     pub lines: usize,
     pub at: Offset,
     pub before: Chars,
-    pub long: bool,
 }
 
 // Before a line that resumes nothing, where no word is known.
@@ -56,17 +55,15 @@ pub fn write_plain(
     loop {
         let line = plain_row(text, at as usize, most);
         let end = line.end.0;
-        let reach = line.reach;
         if end == 0 {
-            let long = reach.0 != 0;
             return Passed {
                 lines: n,
                 at: Offset(at),
                 before: Chars(before),
-                long,
             };
         }
         let columns = end - at;
+        let reach = line.reach;
         let entry = plain_entry(s, Offset(at), columns, reach, Chars(before));
         write_entry(table, n, entry);
         n += 1;

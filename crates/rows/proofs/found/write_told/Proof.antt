@@ -35,30 +35,53 @@ write-plain-requires c κs =
 
 -- ---- behind the lines of plain words
 
-abbrev Behind : Type 0
-Behind = tie.After-slice-known2 Inv-loop μ-loop
-
-abbrev gone : Behind → tie.After-write-plain Inv-loop μ-loop
+abbrev gone : tie.After-slice-known2 Inv-loop μ-loop → tie.After-write-plain Inv-loop μ-loop
 gone c = c .before .before
 
-abbrev first : Behind → tie.Start Inv-loop μ-loop
-first c = begin (gone c .before .before)
+abbrev begun : tie.After-slice-known2 Inv-loop μ-loop → tie.Start Inv-loop μ-loop
+begun c = begin (gone c .before .before)
 
-went : (c : Behind) →
+passed : (c : tie.After-slice-known2 Inv-loop μ-loop) →
     let w = gone c .write-plain in
-    let a = first c .args in
+    let a = begun c .args in
     let r = w .result in
     Went (a .s) (a .text .now) (a .table .now) (a .lines) (plainStand (a .start .0) (a .chars .0)) (w .last .1 .1 .0) (r .lines) (plainStand (r .at .0) (r .before .0))
-went c = let w = gone c in went-then _ _ _ _ _ _ _ _ (w .before .before .loop .inv) _ _ _ (w .write-plain .ensures)
+passed c = let w = gone c in went-then _ _ _ _ _ _ _ _ (w .before .before .loop .inv) _ _ _ (w .write-plain .ensures)
 
-reached-at-requires : tie.Need-reached-at-requires Inv-loop μ-loop
-reached-at-requires c κs = search needs
+write-long-requires : tie.Need-write-long-requires Inv-loop μ-loop
+write-long-requires c κs =
+    let l = c .before in
+    let b = begun l in
+    ((passed l .ready, b .pre .0 .1, refl), room-on _ _ _ _ _ _ _ _ (passed l) (b .pre .1))
 
-same-length : tie.Need-same-length Inv-loop μ-loop
-same-length c = went (c .before .before) .same
+-- ---- and behind those of a word that is wider than the box
 
-returns : tie.Need-returns Inv-loop μ-loop
-returns c = rw (c .reached-at .ensures) (reaches-on _ _ _ _ _ _ _ _ (went (c .before .before)))
+abbrev Behind : Type 0
+Behind = tie.After-struct-known2 Inv-loop μ-loop
+
+abbrev cut : Behind → tie.After-write-long Inv-loop μ-loop
+cut c = c .before .before .before
+
+abbrev plain : Behind → tie.After-slice-known2 Inv-loop μ-loop
+plain c = cut c .before .before
+
+abbrev first : Behind → tie.Start Inv-loop μ-loop
+first c = begun (plain c)
+
+went : (c : Behind) →
+    let w = cut c .write-long in
+    let a = first c .args in
+    let r = w .result in
+    Went (a .s) (a .text .now) (a .table .now) (a .lines) (plainStand (a .start .0) (a .chars .0)) (w .last .1 .1 .0) (r .lines) (plainStand (r .at) (r .before))
+went c = went-then _ _ _ _ _ _ _ _ (passed (plain c)) _ _ _ (cut c .write-long .ensures)
+
+loop-less : tie.Need-loop-less Inv-loop μ-loop
+loop-less c =
+    let w = cut (c .before) in
+    omega (arith, c .if1 .taken, gone (plain (c .before)) .write-plain .ensures .forward, w .write-long .ensures .ready .line .inside)
+
+loop-again : tie.Need-loop-again Inv-loop μ-loop
+loop-again c = went (c .before)
 
 cast-told-row : tie.Need-cast-told-row Inv-loop μ-loop
 cast-told-row c = search needs
@@ -69,14 +92,14 @@ told-row-requires c κs =
     let r = went (c .before) .ready .line in
     (r .short, omega (arith, div-le-self (a .width .0) (a .glyph .0), r .settings .2))
 
-reached-at-requires-2 : tie.Need-reached-at-requires-2 Inv-loop μ-loop
-reached-at-requires-2 c κs = search needs
+reached-at-requires : tie.Need-reached-at-requires Inv-loop μ-loop
+reached-at-requires c κs = search needs
 
-same-length-2 : tie.Need-same-length-2 Inv-loop μ-loop
-same-length-2 c = went (c .before .before .before .before) .same
+same-length : tie.Need-same-length Inv-loop μ-loop
+same-length c = went (c .before .before .before .before) .same
 
-returns-2 : tie.Need-returns-2 Inv-loop μ-loop
-returns-2 c = rw (c .reached-at2 .ensures) (reaches-on _ _ _ _ _ _ _ _ (went (c .before .before .before .before)))
+returns : tie.Need-returns Inv-loop μ-loop
+returns c = rw (c .reached-at .ensures) (reaches-on _ _ _ _ _ _ _ _ (went (c .before .before .before .before)))
 
 -- ---- the line that was found behind them
 
@@ -85,7 +108,7 @@ behind c = c .before .before .before
 
 found : (c : tie.Else2 Inv-loop μ-loop) →
     let a = first (behind c) .args in
-    RowIn (a .text .now) (gone (behind c) .write-plain .result .at .0) (a .s .width .0 / a .s .glyph .0) (c .before .told-row .result)
+    RowIn (a .text .now) (cut (behind c) .write-long .result .at) (a .s .width .0 / a .s .glyph .0) (c .before .told-row .result)
 found c = c .before .told-row .ensures (c .if2 .left)
 
 ended-entry-requires : tie.Need-ended-entry-requires Inv-loop μ-loop
@@ -102,7 +125,7 @@ write-entry-requires c κs =
 
 -- Once it is written.
 abbrev Written : Type 0
-Written = tie.After-slice-known3 Inv-loop μ-loop
+Written = tie.After-slice-known4 Inv-loop μ-loop
 
 abbrev laid : Written → tie.Else2 Inv-loop μ-loop
 laid c = c .before .before .before .before .before .before
@@ -113,16 +136,16 @@ add-n c = let b = behind (laid c) in record { fits = omega (arith, went-few _ _ 
 is-last-requires : tie.Need-is-last-requires Inv-loop μ-loop
 is-last-requires c κs = search needs
 
-reached-at-requires-3 : tie.Need-reached-at-requires-3 Inv-loop μ-loop
-reached-at-requires-3 c κs = search needs
+reached-at-requires-2 : tie.Need-reached-at-requires-2 Inv-loop μ-loop
+reached-at-requires-2 c κs = search needs
 
-same-length-3 : tie.Need-same-length-3 Inv-loop μ-loop
-same-length-3 c =
+same-length-2 : tie.Need-same-length-2 Inv-loop μ-loop
+same-length-2 c =
     let k = c .before .before .before in
     k .before .before .write-entry .kept .0 ∙ went (behind (laid k)) .same
 
-returns-3 : tie.Need-returns-3 Inv-loop μ-loop
-returns-3 c =
+returns-2 : tie.Need-returns-2 Inv-loop μ-loop
+returns-2 c =
     let t = c .before in
     let k = t .before .before in
     let w = k .before .before in
@@ -130,7 +153,7 @@ returns-3 c =
     let e = p .before .before in
     let b = behind e in
     let f = first b in
-    rw (c .reached-at3 .ensures)
+    rw (c .reached-at2 .ensures)
     (reaches-all _ _ _ _ _ _ _ _ (w .write-entry .kept .0 ∙ went b .same)
     (found-last _ _ _ _ _ _ _ _ _ (went b) (f .pre .1) _ refl (f .pre .0 .1) _ _ _ _ _ (found e) _ (p .ended-entry .ensures) _ (w .write-entry .ensures)
     (w .write-entry .kept .0) (sym (t .before .is-last .ensures) ∙ t .if3 .taken)))
@@ -148,14 +171,14 @@ add-before-2 c =
     let a = first (behind e) .args .s in
     record { fits = omega (arith, found e .few, div-le-self (a .width .0) (a .glyph .0), i .line .settings .2, i .few, i .line .inside, i .line .short) }
 
-loop-less : tie.Need-loop-less Inv-loop μ-loop
-loop-less c =
+loop-less-2 : tie.Need-loop-less-2 Inv-loop μ-loop
+loop-less-2 c =
     let e = laid (c .before .before) in
-    let w = gone (behind e) in
-    omega (arith, w .write-plain .ensures .forward, found e .forward, found e .inside)
+    let w = cut (behind e) in
+    omega (arith, gone (plain (behind e)) .write-plain .ensures .forward, w .write-long .ensures .forward, found e .forward, found e .inside)
 
-loop-again : tie.Need-loop-again Inv-loop μ-loop
-loop-again c =
+loop-again-2 : tie.Need-loop-again-2 Inv-loop μ-loop
+loop-again-2 c =
     let k = c .before .before in
     let w = k .before .before in
     let p = w .before .before in
@@ -175,22 +198,22 @@ write-told-spec =
     div-most
     loop-holds
     write-plain-requires
+    write-long-requires
+    loop-less
+    loop-again
+    cast-told-row
+    told-row-requires
     reached-at-requires
     same-length
     returns
-    cast-told-row
-    told-row-requires
-    reached-at-requires-2
-    same-length-2
-    returns-2
     ended-entry-requires
     write-entry-requires
     add-n
     is-last-requires
-    reached-at-requires-3
-    same-length-3
-    returns-3
+    reached-at-requires-2
+    same-length-2
+    returns-2
     add-before
     add-before-2
-    loop-less
-    loop-again)
+    loop-less-2
+    loop-again-2)

@@ -25,12 +25,12 @@ begin c = c .before .before .before .before
 
 -- The line that was found.
 found : (c : tie.Else1 Inv-loop μ-loop) →
-    let l = c .before .before .before in
+    let l = c .before .before in
     let a = begin l .args in
-    let r = c .before .before .plain-row .result in
+    let r = c .before .plain-row .result in
     let columns = r .end .0 - l .loop .at in
     FoundRow (a .text .now) (l .loop .at) (a .s .width .0 / a .s .glyph .0) columns (r .end .0 + 1) (columns + 1) (r .reach .0)
-found c = c .before .before .plain-row .ensures (c .if1 .left) .row
+found c = c .before .plain-row .ensures (c .if1 .left) .row
 
 div-most : tie.Need-div-most Inv-loop μ-loop
 div-most c = search needs
@@ -48,20 +48,21 @@ plain-row-requires c κs =
     (r .short, r .inside, omega (arith, div-le-self (a .width .0) (a .glyph .0), r .settings .2))
 
 same-length : tie.Need-same-length Inv-loop μ-loop
-same-length c = c .before .before .before .before .loop .inv .same
+same-length c = c .before .before .loop .inv .same
 
 returns : tie.Need-returns Inv-loop μ-loop
-returns c = c .before .before .before .before .loop .inv
+returns c = c .before .before .loop .inv
 
 sub-columns : tie.Need-sub-columns Inv-loop μ-loop
 sub-columns c = omega (arith, found c .forward)
 
 plain-entry-requires : tie.Need-plain-entry-requires Inv-loop μ-loop
 plain-entry-requires c κs =
-    let l = c .before .before .before in
+    let e = c .before in
+    let l = e .before .before in
     let a = begin l .args in
     let r = l .loop .inv .ready .line in
-    (found-fits (a .s) (a .text .now) (l .loop .at) (a .s .width .0 / a .s .glyph .0) LineBreak _ _ _ _ (found c) (r .settings .0) refl, r .settings .2)
+    (found-fits (a .s) (a .text .now) (l .loop .at) (a .s .width .0 / a .s .glyph .0) LineBreak _ _ _ _ (found e) (r .settings .0) refl, r .settings .2)
 
 write-entry-requires : tie.Need-write-entry-requires Inv-loop μ-loop
 write-entry-requires c κs =
@@ -70,10 +71,10 @@ write-entry-requires c κs =
 
 -- A found line, once it is written.
 abbrev laid : tie.After-slice-known2 Inv-loop μ-loop → tie.Else1 Inv-loop μ-loop
-laid c = c .before .before .before .before .before
+laid c = c .before .before .before .before .before .before
 
 abbrev turn : tie.After-slice-known2 Inv-loop μ-loop → tie.At-loop Inv-loop μ-loop
-turn c = laid c .before .before .before
+turn c = laid c .before .before
 
 abbrev ready : (c : tie.After-slice-known2 Inv-loop μ-loop) →
     let l = turn c in
@@ -101,8 +102,8 @@ loop-again : tie.Need-loop-again Inv-loop μ-loop
 loop-again c =
     let w = c .before .before in
     let p = w .before .before in
-    let e = p .before in
-    let l = e .before .before .before in
+    let e = p .before .before in
+    let l = e .before .before in
     let b = begin l in
     found-went _ _ _ _ _ _ _ _ _ (l .loop .inv) (b .pre .1) _ refl (b .pre .0 .1) LineBreak _ _ _ _ (found e) _ (p .plain-entry .ensures) _
     (w .write-entry .ensures) (w .write-entry .kept .0) refl
