@@ -8,3 +8,4 @@ pub mod PlainEnd
 pub mod CutRestEvents
 pub mod LoneEvents
 pub mod PastLaws
+pub mod CutEvents

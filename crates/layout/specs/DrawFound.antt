@@ -22,7 +22,7 @@ use Rattle.steps.specs.Unrolled.{nothingResumed}
 use Rattle.drawing.specs.Drawn.{drawnFrom, eventsFrom}
 use Rattle.drawing.specs.PassDrawn.{DrawRoom}
 use Rattle.drawing.specs.PlainDrawn.{plainStart, PlainToDraw}
-use Rattle.placing.specs.Plain.{leftOf, endedEntry, plainEntry, EndedRow, PlainRow}
+use Rattle.placing.specs.Plain.{leftOf, endedEntry, plainEntry, EndedRow, FoundRow, PlainRow}
 use Rattle.placing.specs.declared.told.ToldRow.{ToldRow}
 use Rattle.rows.specs.Standing.{StandReady, isLast, lineAt, laidRow}
 use Rattle.rows.specs.Found.{plainStand, foundRow, found-step, found-next, found-fits, rows-here}
@@ -121,7 +121,7 @@ module _ (s : Settings) (t : List ℕ) (at before most : ℕ) (c : StandReady s 
               put = put ∙ ap (putEvents v m) (sym (only ends)) ∙ g .puts;
             }
 
--- ---- one of plain words
+-- ---- one that is drawn with plain spaces, from its left on
 
 left-within : (alignment room : ℕ) → leftOf alignment room ≤ room
 unfolding leftOf
@@ -129,17 +129,19 @@ left-within alignment room =
     pick-cases (λ n. n ≤ room) (eqb alignment 0) (λ _. omega arith) λ _. pick-cases (λ n. n ≤ room) (eqb alignment 1) (λ _. omega arith) (λ _. omega arith)
 
 module _ (s : Settings) (t : List ℕ) (at before most : ℕ) (c : StandReady s t (plainStand at before)) (is : most ≡ s .width .0 / s .glyph .0)
-    (plain : s .alignment ≤ 2) (end reach : ℕ) (row : PlainRow t at most end reach) (e : Entry) (e-is : e ≡ plainEntry s at (end - at) reach before)
+    (plain : s .alignment ≤ 2) (columns next taken reach : ℕ) (row : FoundRow t at most columns next taken reach) (e : Entry)
+    (e-is : e ≡ plainEntry s at columns reach before)
   where
     abbrev left : ℕ
     left = e .left .0
 
-    pub plain-to-draw : PlainToDraw s t at end left
+    -- It stays in the box.
+    pub left-fits : left + columns * s .glyph .0 ≤ s .width .0
     unfolding endedEntry
-    plain-to-draw =
-        let wide = found-fits s t at most LineBreak (end - at) (end + 1) (end - at + 1) reach (row .row) (c .line .settings .0) is in
-        let inside : left ≤ s .width .0 - (end - at) * s .glyph .0 = rw e-is (left-within (s .alignment) (s .width .0 - (end - at) * s .glyph .0)) in
-        record { reach = reach; line = rw is at (row .line); fits = omega arith }
+    left-fits =
+        let wide = found-fits s t at most LineBreak columns next taken reach row (c .line .settings .0) is in
+        let inside : left ≤ s .width .0 - columns * s .glyph .0 = rw e-is (left-within (s .alignment) (s .width .0 - columns * s .glyph .0)) in
+        omega arith
 
     -- It is drawn from where its entry places it.
     place-is : plainStart s left ≡ startPlace s left (record { width = e .space; extra = e .extra })
@@ -149,18 +151,25 @@ module _ (s : Settings) (t : List ℕ) (at before most : ℕ) (c : StandReady s 
     abbrev stand : Stand
     stand = plainStand at before
 
-    pub plain-draw-room : (k : ℕ) → k ≤ textLimit → DrawRoom s (plainStart s left) t at nothingResumed left k
-    plain-draw-room k few =
-        place-room s t stand e (plainStart s left) place-is k
-        (found-ready s t at before most c is plain LineBreak (end - at) (end + 1) (end - at + 1) reach (row .row) e e-is k few .room)
+    pub placed-room : (k : ℕ) → k ≤ textLimit → DrawRoom s (plainStart s left) t at nothingResumed left k
+    placed-room k few =
+        place-room s t stand e (plainStart s left) place-is k (found-ready s t at before most c is plain LineBreak columns next taken reach row e e-is k few .room)
 
     module _ (u : List ℕ) (n : ℕ) (p : Stand) (v : List ℕ) (m : ℕ) (g : DrewTo s t u n p v m stand) where
-      pub plain-drew : (w : List ℕ) (k : ℕ) → w ≡ putEvents v m (eventsFrom s (plainStart s left) t at 0 0 left)
-          → k ≡ m + length (drawnFrom s (plainStart s left) t at 0 0) → length w ≡ length v → DrewTo s t u n p w k (plainStand (end + 1) (before + (end - at + 1)))
-      plain-drew w k put count kept =
-          found-drew s t at before most c is plain LineBreak (end - at) (end + 1) (end - at + 1) reach (row .row) e e-is u n p v m g w k
+      pub placed-drew : (w : List ℕ) (k : ℕ) → w ≡ putEvents v m (eventsFrom s (plainStart s left) t at 0 0 left)
+          → k ≡ m + length (drawnFrom s (plainStart s left) t at 0 0) → length w ≡ length v → DrewTo s t u n p w k (plainStand next (before + taken))
+      placed-drew w k put count kept =
+          found-drew s t at before most c is plain LineBreak columns next taken reach row e e-is u n p v m g w k
           (put ∙ ap (putEvents v m) (place-events s t stand e (plainStart s left) place-is))
           (count ∙ ap (λ (j : ℕ). m + j) (place-length s t stand e (plainStart s left) place-is)) kept refl
+
+-- One of plain words.
+pub plain-to-draw : (s : Settings) (t : List ℕ) (at before most : ℕ) → StandReady s t (plainStand at before) → most ≡ s .width .0 / s .glyph .0
+    → s .alignment ≤ 2 → (end reach : ℕ) → PlainRow t at most end reach → (e : Entry) → e ≡ plainEntry s at (end - at) reach before
+    → PlainToDraw s t at end (e .left .0)
+plain-to-draw s t at before most c is plain end reach row e e-is =
+    let fits = left-fits s t at before most c is plain (end - at) (end + 1) (end - at + 1) reach (row .row) e e-is in
+    record { reach = reach; line = rw is at (row .line); fits = fits }
 
 -- ---- from any stand that resumes nothing
 

@@ -1,13 +1,16 @@
 // Lines that are found and not walked, written and drawn one after the other (rule 10, rule 13).
+use crate::cuts::draw_cuts;
+use crate::cuts::draw_long;
 use crate::line::draw_line;
 use crate::plain::draw_plain_lines;
 use meaning::counts::Chars;
 use meaning::counts::Offset;
 use meaning::settings::Settings;
+use placing::long_word::long_known;
 use placing::plain::ended_entry;
 use placing::told::ToldRow;
 use placing::told::told_row;
-use rows::found::may_be_found;
+use rows::found::is_known;
 use rows::line::is_last;
 use rows::plain::plain_stand;
 use rows::stand::Stand;
@@ -74,7 +77,7 @@ fn draw_told(
 }
 
 // As many lines as follow one another from an offset on and are told by their bytes: those of plain words as many as there are, then
-// one of others, and so on.
+// those of a word that is wider than the box, or one of others, and so on.
 fn draw_told_lines(
     text: &[u8],
     s: Settings,
@@ -102,8 +105,13 @@ fn draw_told_lines(
         k = far.events;
         at = far.at.0;
         before = far.before.0;
-        if far.long {
-            return drawn_at(n, k, at, before, false);
+        let cut = draw_long(text, s, table, n, events, k, at, before, most);
+        n = cut.lines;
+        k = cut.events;
+        at = cut.at;
+        before = cut.before;
+        if far.at.0 < at {
+            continue;
         }
         let row = told_row(text, at as usize, most);
         let next = row.next.0;
@@ -121,6 +129,38 @@ fn draw_told_lines(
     }
 }
 
+// The lines that a known word fills, which may be none.
+fn draw_known(
+    text: &[u8],
+    s: Settings,
+    table: &mut [u32],
+    lines: usize,
+    events: &mut [u32],
+    drawn: usize,
+    stand: Stand,
+) -> Drawn
+    requires { ⌜ StandReady s (now text) stand × RoomFrom s (now text) (now table) lines stand × FewFrom s (now text) drawn stand × (s .alignment ≤ 2) ⌝ }
+    requires { ⌜ stand .rest .chars .0 ≡ 0 ⌝ }
+    ensures { λ r. ⌜ Reaches s (now (text .entry)) (now (table .entry)) lines stand (now (table .exit)) (r .lines) (r .stand) (r .done) ⌝ }
+    ensures { λ r. ⌜ DrawReaches s (now (text .entry)) (now (events .entry)) drawn stand (now (events .exit)) (r .events) (r .stand) (r .done) ⌝ }
+{
+    let most = s.width.0 / s.glyph.0;
+    let at = stand.at.0;
+    let known = stand.known;
+    let word = long_known(text, at as usize, known, most);
+    if word.chars.0 == 0 {
+        return Drawn {
+            lines,
+            events: drawn,
+            stand,
+            done: false,
+        };
+    }
+    let before = stand.before.0;
+    let far = draw_cuts(text, s, table, lines, events, drawn, at, before, most, word);
+    drawn_at(far.lines, far.events, far.at, far.before, false)
+}
+
 // As many such lines as follow from a stand on, which may be none.
 pub fn draw_on(
     text: &[u8],
@@ -135,13 +175,16 @@ pub fn draw_on(
     ensures { λ r. ⌜ Reaches s (now (text .entry)) (now (table .entry)) lines stand (now (table .exit)) (r .lines) (r .stand) (r .done) ⌝ }
     ensures { λ r. ⌜ DrawReaches s (now (text .entry)) (now (events .entry)) drawn stand (now (events .exit)) (r .events) (r .stand) (r .done) ⌝ }
 {
-    if !may_be_found(stand) {
+    if stand.rest.chars.0 != 0 {
         return Drawn {
             lines,
             events: drawn,
             stand,
             done: false,
         };
+    }
+    if is_known(stand.known) {
+        return draw_known(text, s, table, lines, events, drawn, stand);
     }
     let at = stand.at;
     let before = stand.before;

@@ -12,8 +12,7 @@ ghost use Rattle.rows.specs.Going.{Went, RoomFrom};
 ghost use Rattle.rows.specs.Found.{plainStand};
 ghost use Rattle.layout.specs.DrawGoing.{DrewTo, FewFrom};
 
-// How many lines are in the table, how many events in the buffer, where the next line starts, the characters before it, and a guess
-// that its first word is too long for it.
+// How many lines are in the table, how many events in the buffer, where the next line starts, and the characters before it.
 pub struct Passed {
     pub lines: usize,
     pub events: usize,

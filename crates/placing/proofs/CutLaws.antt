@@ -41,7 +41,7 @@ use Rattle.placing.proofs.CountingLaws.{most-within, most-over}
 use Rattle.placing.proofs.QuickLaws.{same-before}
 
 -- As many glyphs fit from the left of a line that has room for those that fit into the whole of it.
-room-same : (width glyph left most : ℕ) → 1 ≤ glyph → most ≡ width / glyph → left + most * glyph ≤ width → most ≡ (width - left) / glyph
+pub room-same : (width glyph left most : ℕ) → 1 ≤ glyph → most ≡ width / glyph → left + most * glyph ≤ width → most ≡ (width - left) / glyph
 room-same width glyph left most g is h =
     let fitting = (width - left) / glyph in
     let low : most ≤ fitting = le-div-iff-mul-le g .1 (omega arith) in

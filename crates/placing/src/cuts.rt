@@ -57,6 +57,7 @@ pub fn cut_row(text: &[u8], at: usize, word: Scanned, left: u32, most: u32) -> u
     requires { ⌜ LeftWord (now text) at (word .end .0) left (word .weight .0) (word .reach .0) ⌝ }
     ensures { λ r. ⌜ FoundRow (now (text .entry)) at most most r most (word .reach .0) ⌝ }
     ensures { λ r. ⌜ LeftWord (now (text .entry)) r (word .end .0) (left - most) (word .weight .0) (word .reach .0) ⌝ }
+    ensures { λ r. ⌜ Between (now (text .entry)) at r most ⌝ }
 {
     part_end(text, at, word.end.0, left, most)
 }

@@ -40,45 +40,70 @@ draw-plain-lines-requires c κs =
 
 -- ---- behind the lines of plain words
 
-abbrev Behind : Type 0
-Behind = tie.After-slice-known4 Inv-loop μ-loop
-
-abbrev gone : Behind → tie.After-draw-plain-lines Inv-loop μ-loop
+abbrev gone : tie.After-slice-known4 Inv-loop μ-loop → tie.After-draw-plain-lines Inv-loop μ-loop
 gone c = c .before .before .before .before
 
-abbrev turn : Behind → tie.At-loop Inv-loop μ-loop
+abbrev turn : tie.After-slice-known4 Inv-loop μ-loop → tie.At-loop Inv-loop μ-loop
 turn c = gone c .before .before .before
 
-abbrev first : Behind → tie.Start Inv-loop μ-loop
-first c = begin (turn c)
+abbrev begun : tie.After-slice-known4 Inv-loop μ-loop → tie.Start Inv-loop μ-loop
+begun c = begin (turn c)
 
-went : (c : Behind) →
+passed : (c : tie.After-slice-known4 Inv-loop μ-loop) →
     let d = gone c .draw-plain-lines in
-    let a = first c .args in
+    let a = begun c .args in
     let r = d .result in
     Went (a .s) (a .text .now) (a .table .now) (a .lines) (plainStand (a .start .0) (a .chars .0)) (d .last .1 .1 .0) (r .lines) (plainStand (r .at .0) (r .before .0))
-went c = went-then _ _ _ _ _ _ _ _ (turn c .loop .inv .0) _ _ _ (gone c .draw-plain-lines .ensures .0)
+passed c = went-then _ _ _ _ _ _ _ _ (turn c .loop .inv .0) _ _ _ (gone c .draw-plain-lines .ensures .0)
 
-drew : (c : Behind) →
+traced : (c : tie.After-slice-known4 Inv-loop μ-loop) →
     let d = gone c .draw-plain-lines in
-    let a = first c .args in
+    let a = begun c .args in
     let r = d .result in
     DrewTo (a .s) (a .text .now) (a .events .now) (a .drawn) (plainStand (a .start .0) (a .chars .0)) (d .last .1 .1 .1 .1 .0) (r .events) (plainStand (r .at .0) (r .before .0))
-drew c = drew-then _ _ _ _ _ _ _ _ (turn c .loop .inv .1) _ _ _ (gone c .draw-plain-lines .ensures .1)
+traced c = drew-then _ _ _ _ _ _ _ _ (turn c .loop .inv .1) _ _ _ (gone c .draw-plain-lines .ensures .1)
 
-drawn-at-requires : tie.Need-drawn-at-requires Inv-loop μ-loop
-drawn-at-requires c κs = search needs
+draw-long-requires : tie.Need-draw-long-requires Inv-loop μ-loop
+draw-long-requires c κs =
+    let l = c .before .before in
+    let b = begun l in
+    ((passed l .ready, b .pre .0 .1, refl), (room-on _ _ _ _ _ _ _ _ (passed l) (b .pre .1 .0), few-on _ _ _ _ _ _ _ _ (traced l) (b .pre .1 .1)))
 
-same-length : tie.Need-same-length Inv-loop μ-loop
-same-length c = went (c .before .before) .same
+-- ---- and behind those of a word that is wider than the box
 
-same-length-2 : tie.Need-same-length-2 Inv-loop μ-loop
-same-length-2 c = drew (c .before .before) .same
+abbrev Behind : Type 0
+Behind = tie.After-struct-known2 Inv-loop μ-loop
 
-returns : tie.Need-returns Inv-loop μ-loop
-returns c =
-    let b = c .before .before in
-    rw (c .drawn-at .ensures) (reaches-on _ _ _ _ _ _ _ _ (went b), draws-on _ _ _ _ _ _ _ _ (drew b))
+abbrev cut : Behind → tie.After-draw-long Inv-loop μ-loop
+cut c = c .before .before .before .before .before
+
+abbrev plain : Behind → tie.After-slice-known4 Inv-loop μ-loop
+plain c = cut c .before .before .before
+
+abbrev first : Behind → tie.Start Inv-loop μ-loop
+first c = begun (plain c)
+
+went : (c : Behind) →
+    let d = cut c .draw-long in
+    let a = first c .args in
+    let r = d .result in
+    Went (a .s) (a .text .now) (a .table .now) (a .lines) (plainStand (a .start .0) (a .chars .0)) (d .last .1 .1 .0) (r .lines) (plainStand (r .at) (r .before))
+went c = went-then _ _ _ _ _ _ _ _ (passed (plain c)) _ _ _ (cut c .draw-long .ensures .0)
+
+drew : (c : Behind) →
+    let d = cut c .draw-long in
+    let a = first c .args in
+    let r = d .result in
+    DrewTo (a .s) (a .text .now) (a .events .now) (a .drawn) (plainStand (a .start .0) (a .chars .0)) (d .last .1 .1 .1 .1 .0) (r .events) (plainStand (r .at) (r .before))
+drew c = drew-then _ _ _ _ _ _ _ _ (traced (plain c)) _ _ _ (cut c .draw-long .ensures .1)
+
+loop-less : tie.Need-loop-less Inv-loop μ-loop
+loop-less c =
+    let d = cut (c .before) .draw-long in
+    omega (arith, c .if1 .taken, gone (plain (c .before)) .draw-plain-lines .ensures .0 .forward, d .ensures .0 .ready .line .inside)
+
+loop-again : tie.Need-loop-again Inv-loop μ-loop
+loop-again c = (went (c .before), drew (c .before))
 
 cast-told-row : tie.Need-cast-told-row Inv-loop μ-loop
 cast-told-row c = search needs
@@ -89,19 +114,19 @@ told-row-requires c κs =
     let r = went (c .before) .ready .line in
     (r .short, omega (arith, div-le-self (a .width .0) (a .glyph .0), r .settings .2))
 
-drawn-at-requires-2 : tie.Need-drawn-at-requires-2 Inv-loop μ-loop
-drawn-at-requires-2 c κs = search needs
+drawn-at-requires : tie.Need-drawn-at-requires Inv-loop μ-loop
+drawn-at-requires c κs = search needs
 
-same-length-3 : tie.Need-same-length-3 Inv-loop μ-loop
-same-length-3 c = went (c .before .before .before .before) .same
+same-length : tie.Need-same-length Inv-loop μ-loop
+same-length c = went (c .before .before .before .before) .same
 
-same-length-4 : tie.Need-same-length-4 Inv-loop μ-loop
-same-length-4 c = drew (c .before .before .before .before) .same
+same-length-2 : tie.Need-same-length-2 Inv-loop μ-loop
+same-length-2 c = drew (c .before .before .before .before) .same
 
-returns-2 : tie.Need-returns-2 Inv-loop μ-loop
-returns-2 c =
+returns : tie.Need-returns Inv-loop μ-loop
+returns c =
     let b = c .before .before .before .before in
-    rw (c .drawn-at2 .ensures) (reaches-on _ _ _ _ _ _ _ _ (went b), draws-on _ _ _ _ _ _ _ _ (drew b))
+    rw (c .drawn-at .ensures) (reaches-on _ _ _ _ _ _ _ _ (went b), draws-on _ _ _ _ _ _ _ _ (drew b))
 
 -- ---- the line that was found behind them
 
@@ -110,7 +135,7 @@ behind c = c .before .before .before
 
 found : (c : tie.Else2 Inv-loop μ-loop) →
     let a = first (behind c) .args in
-    RowIn (a .text .now) (gone (behind c) .draw-plain-lines .result .at .0) (a .s .width .0 / a .s .glyph .0) (c .before .told-row .result)
+    RowIn (a .text .now) (cut (behind c) .draw-long .result .at) (a .s .width .0 / a .s .glyph .0) (c .before .told-row .result)
 found c = c .before .told-row .ensures (c .if2 .left)
 
 draw-told-requires : tie.Need-draw-told-requires Inv-loop μ-loop
@@ -124,7 +149,7 @@ draw-told-requires c κs =
 
 -- Once it is written and drawn.
 abbrev Written : Type 0
-Written = tie.After-slice-known6 Inv-loop μ-loop
+Written = tie.After-slice-known8 Inv-loop μ-loop
 
 abbrev told : Written → tie.After-draw-told Inv-loop μ-loop
 told c = c .before .before .before .before
@@ -138,17 +163,17 @@ add-n c = let b = behind (laid c) in record { fits = omega (arith, went-few _ _ 
 is-last-requires : tie.Need-is-last-requires Inv-loop μ-loop
 is-last-requires c κs = search needs
 
-drawn-at-requires-3 : tie.Need-drawn-at-requires-3 Inv-loop μ-loop
-drawn-at-requires-3 c κs = search needs
+drawn-at-requires-2 : tie.Need-drawn-at-requires-2 Inv-loop μ-loop
+drawn-at-requires-2 c κs = search needs
 
-same-length-5 : tie.Need-same-length-5 Inv-loop μ-loop
-same-length-5 c = let k = c .before .before .before in told k .draw-told .kept .1 .1 .0 ∙ went (behind (laid k)) .same
+same-length-3 : tie.Need-same-length-3 Inv-loop μ-loop
+same-length-3 c = let k = c .before .before .before in told k .draw-told .kept .1 .1 .0 ∙ went (behind (laid k)) .same
 
-same-length-6 : tie.Need-same-length-6 Inv-loop μ-loop
-same-length-6 c = let k = c .before .before .before in told k .draw-told .kept .1 .1 .1 .1 .0 ∙ drew (behind (laid k)) .same
+same-length-4 : tie.Need-same-length-4 Inv-loop μ-loop
+same-length-4 c = let k = c .before .before .before in told k .draw-told .kept .1 .1 .1 .1 .0 ∙ drew (behind (laid k)) .same
 
-returns-3 : tie.Need-returns-3 Inv-loop μ-loop
-returns-3 c =
+returns-2 : tie.Need-returns-2 Inv-loop μ-loop
+returns-2 c =
     let t = c .before in
     let k = t .before .before in
     let d = told k .draw-told in
@@ -156,7 +181,7 @@ returns-3 c =
     let b = behind e in
     let f = first b in
     let ends = sym (t .before .is-last .ensures) ∙ t .if3 .taken in
-    rw (c .drawn-at3 .ensures) (
+    rw (c .drawn-at2 .ensures) (
       reaches-all _ _ _ _ _ _ _ _ (d .kept .1 .1 .0 ∙ went b .same)
           (found-last _ _ _ _ _ _ _ _ _ (went b) (f .pre .1 .0) _ refl (f .pre .0 .1) _ _ _ _ _ (found e) _ refl _ (d .ensures .0) (d .kept .1 .1 .0) ends),
       draws-all _ _ _ _ _ _ _ _ (d .kept .1 .1 .1 .1 .0 ∙ drew b .same)
@@ -177,13 +202,13 @@ add-before-2 c =
     let a = first (behind e) .args .s in
     record { fits = omega (arith, found e .few, div-le-self (a .width .0) (a .glyph .0), i .line .settings .2, i .few, i .line .inside, i .line .short) }
 
-loop-less : tie.Need-loop-less Inv-loop μ-loop
-loop-less c =
+loop-less-2 : tie.Need-loop-less-2 Inv-loop μ-loop
+loop-less-2 c =
     let e = laid (c .before .before .before) in
-    omega (arith, gone (behind e) .draw-plain-lines .ensures .0 .forward, found e .forward, found e .inside)
+    omega (arith, gone (plain (behind e)) .draw-plain-lines .ensures .0 .forward, cut (behind e) .draw-long .ensures .0 .forward, found e .forward, found e .inside)
 
-loop-again : tie.Need-loop-again Inv-loop μ-loop
-loop-again c =
+loop-again-2 : tie.Need-loop-again-2 Inv-loop μ-loop
+loop-again-2 c =
     let h = c .before in
     let k = h .before .before in
     let d = told k .draw-told in
@@ -206,24 +231,23 @@ draw-told-lines-spec =
     div-most
     loop-holds
     draw-plain-lines-requires
+    draw-long-requires
+    loop-less
+    loop-again
+    cast-told-row
+    told-row-requires
     drawn-at-requires
     same-length
     same-length-2
     returns
-    cast-told-row
-    told-row-requires
+    draw-told-requires
+    add-n
+    is-last-requires
     drawn-at-requires-2
     same-length-3
     same-length-4
     returns-2
-    draw-told-requires
-    add-n
-    is-last-requires
-    drawn-at-requires-3
-    same-length-5
-    same-length-6
-    returns-3
     add-before
     add-before-2
-    loop-less
-    loop-again)
+    loop-less-2
+    loop-again-2)

@@ -13,7 +13,7 @@ use Rattle.rows.specs.Standing.{StandReady}
 use Rattle.rows.specs.Going.{Went, went-nowhere, went-room, went-few}
 use Rattle.rows.specs.Found.{plainStand, found-fits, found-went}
 use Rattle.layout.specs.DrawGoing.{DrewTo, drew-nowhere, few-before}
-use Rattle.layout.specs.DrawFound.{plain-to-draw, plain-draw-room, plain-drew}
+use Rattle.layout.specs.DrawFound.{plain-to-draw, placed-room, placed-drew}
 use Rattle.layout.proofs.plain.draw_plain_lines.Statement.{statement}
 use Rattle.layout.proofs.plain.draw_plain_lines.Tie as tie
 
@@ -29,11 +29,11 @@ begin c = c .before .before .before .before .before
 
 -- The line that was found.
 found : (c : tie.Else1 Inv-loop μ-loop) →
-    let l = c .before .before .before in
+    let l = c .before .before in
     let a = begin l .args in
-    let r = c .before .before .plain-row .result in
+    let r = c .before .plain-row .result in
     PlainRow (a .text .now) (l .loop .at) (a .s .width .0 / a .s .glyph .0) (r .end .0) (r .reach .0)
-found c = c .before .before .plain-row .ensures (c .if1 .left)
+found c = c .before .plain-row .ensures (c .if1 .left)
 
 div-most : tie.Need-div-most Inv-loop μ-loop
 div-most c = search needs
@@ -51,23 +51,24 @@ plain-row-requires c κs =
     (r .short, r .inside, omega (arith, div-le-self (a .width .0) (a .glyph .0), r .settings .2))
 
 same-length : tie.Need-same-length Inv-loop μ-loop
-same-length c = c .before .before .before .before .loop .inv .0 .same
+same-length c = c .before .before .loop .inv .0 .same
 
 same-length-2 : tie.Need-same-length-2 Inv-loop μ-loop
-same-length-2 c = c .before .before .before .before .loop .inv .1 .same
+same-length-2 c = c .before .before .loop .inv .1 .same
 
 returns : tie.Need-returns Inv-loop μ-loop
-returns c = c .before .before .before .before .loop .inv
+returns c = c .before .before .loop .inv
 
 sub-columns : tie.Need-sub-columns Inv-loop μ-loop
 sub-columns c = omega (arith, found c .row .forward)
 
 plain-entry-requires : tie.Need-plain-entry-requires Inv-loop μ-loop
 plain-entry-requires c κs =
-    let l = c .before .before .before in
+    let e = c .before in
+    let l = e .before .before in
     let a = begin l .args in
     let r = l .loop .inv .0 .ready .line in
-    (found-fits (a .s) (a .text .now) (l .loop .at) (a .s .width .0 / a .s .glyph .0) LineBreak _ _ _ _ (found c .row) (r .settings .0) refl, r .settings .2)
+    (found-fits (a .s) (a .text .now) (l .loop .at) (a .s .width .0 / a .s .glyph .0) LineBreak _ _ _ _ (found e .row) (r .settings .0) refl, r .settings .2)
 
 write-entry-requires : tie.Need-write-entry-requires Inv-loop μ-loop
 write-entry-requires c κs =
@@ -79,8 +80,8 @@ cast-draw-plain c = search needs
 
 cast-draw-plain-2 : tie.Need-cast-draw-plain-2 Inv-loop μ-loop
 cast-draw-plain-2 c =
-    let e = c .before .before .before .before .before in
-    record { fits = omega (arith, found e .row .inside, e .before .before .before .loop .inv .0 .ready .line .short) }
+    let e = c .before .before .before .before .before .before in
+    record { fits = omega (arith, found e .row .inside, e .before .before .loop .inv .0 .ready .line .short) }
 
 -- From where it is to be drawn back to its entry.
 abbrev entered : tie.After-draw-plain-arg Inv-loop μ-loop → tie.After-plain-entry Inv-loop μ-loop
@@ -89,20 +90,20 @@ entered c = c .before .before .before .before .before
 draw-plain-requires : tie.Need-draw-plain-requires Inv-loop μ-loop
 draw-plain-requires c κs =
     let p = entered c in
-    let e = p .before in
-    let l = e .before .before .before in
+    let e = p .before .before in
+    let l = e .before .before in
     let b = begin l in
     let i = l .loop .inv in (
-      plain-draw-room _ _ _ _ _ (i .0 .ready) refl (b .pre .0 .1) _ _ (found e) _ (p .plain-entry .ensures) _ (few-before _ _ _ _ _ _ _ _ (i .1) (b .pre .1 .1)),
+      placed-room _ _ _ _ _ (i .0 .ready) refl (b .pre .0 .1) _ _ _ _ (found e .row) _ (p .plain-entry .ensures) _ (few-before _ _ _ _ _ _ _ _ (i .1) (b .pre .1 .1)),
       plain-to-draw _ _ _ _ _ (i .0 .ready) refl (b .pre .0 .1) _ _ (found e) _ (p .plain-entry .ensures),
     )
 
 -- A found line, once it is drawn.
 abbrev laid : tie.After-slice-known4 Inv-loop μ-loop → tie.Else1 Inv-loop μ-loop
-laid c = entered (c .before .before .before) .before
+laid c = entered (c .before .before .before) .before .before
 
 abbrev turn : tie.After-slice-known4 Inv-loop μ-loop → tie.At-loop Inv-loop μ-loop
-turn c = laid c .before .before .before
+turn c = laid c .before .before
 
 abbrev ready : (c : tie.After-slice-known4 Inv-loop μ-loop) →
     let l = turn c in
@@ -131,13 +132,13 @@ loop-again c =
     let d = c .before .before in
     let w = d .before .before .before .before in
     let p = w .before .before in
-    let e = p .before in
-    let l = e .before .before .before in
+    let e = p .before .before in
+    let l = e .before .before in
     let b = begin l in
     let i = l .loop .inv in (
       found-went _ _ _ _ _ _ _ _ _ (i .0) (b .pre .1 .0) _ refl (b .pre .0 .1) LineBreak _ _ _ _ (found e .row) _ (p .plain-entry .ensures) _
           (w .write-entry .ensures) (w .write-entry .kept .0) refl,
-      plain-drew _ _ _ _ _ (i .0 .ready) refl (b .pre .0 .1) _ _ (found e) _ (p .plain-entry .ensures) _ _ _ _ _ (i .1) _ _ (d .draw-plain .ensures .0)
+      placed-drew _ _ _ _ _ (i .0 .ready) refl (b .pre .0 .1) _ _ _ _ (found e .row) _ (p .plain-entry .ensures) _ _ _ _ _ (i .1) _ _ (d .draw-plain .ensures .0)
           (d .draw-plain .ensures .1) (d .draw-plain .kept .1 .1 .1 .1 .1 .0),
     )
 

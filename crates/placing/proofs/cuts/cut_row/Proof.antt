@@ -14,7 +14,7 @@ returns c =
     let s = c .before .before in
     let p = s .pre in
     let b = c .part-end .ensures in
-    (cut-row _ _ _ _ _ _ _ _ (p .1) (p .0 .1) (p .0 .2) b, part-left _ _ _ _ _ _ _ _ (p .1) (p .0 .1) (p .0 .2) b)
+    (cut-row _ _ _ _ _ _ _ _ (p .1) (p .0 .1) (p .0 .2) b, (part-left _ _ _ _ _ _ _ _ (p .1) (p .0 .1) (p .0 .2) b, b))
 
 pub cut-row-spec : {M : Type 1} → statement M
 cut-row-spec = tie.close (tie.spec part-end-requires returns)

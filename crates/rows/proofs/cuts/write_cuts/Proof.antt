@@ -97,7 +97,7 @@ loop-again c =
     let b = begin l in (
       found-went _ _ _ _ _ _ _ _ _ (l .loop .inv .0) (b .pre .1 .0) _ (b .pre .0 .2) (b .pre .0 .1) LineBreak _ _ _ _ (found e) _ (p .plain-entry .ensures) _
           (w .write-entry .ensures) (w .write-entry .kept .0) refl,
-      e .cut-row .ensures .1,
+      e .cut-row .ensures .1 .0,
       λ _. omega (arith, l .loop .inv .0 .forward, found e .forward),
     )
 
