@@ -46,3 +46,7 @@ few-on s t u n p v m q g few = omega (arith, g .left)
 pub drew-then : (s : Settings) (t u : List ℕ) (n : ℕ) (p : Stand) (v : List ℕ) (m : ℕ) (q : Stand) → DrewTo s t u n p v m q → (w : List ℕ) (k : ℕ) (next : Stand)
     → DrewTo s t v m q w k next → DrewTo s t u n p w k next
 drew-then s t u n p v m q g w k next h = record { left = h .left ∙ g .left; same = h .same ∙ g .same; puts = h .puts ∙ g .puts }
+
+-- What is kept of one buffer, count and stand is kept of the same.
+pub drew-same : (s : Settings) (t ev₀ u v : List ℕ) (n m : ℕ) (p q : Stand) → u ≡ v → n ≡ m → p ≡ q → Drew s t ev₀ v m q → Drew s t ev₀ u n p
+drew-same s t ev₀ u v n m p q buffer events stand d = rw (buffer, events, stand) d

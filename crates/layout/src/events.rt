@@ -90,27 +90,30 @@ fn draw_found(text: &[u8], s: Settings, table: &mut [u32], events: &mut [u32]) -
     let mut drawn: usize = 0;
     let mut stand = at_start(text);
     loop {
-        let far = draw_on(text, s, table, lines, events, drawn, stand);
-        lines = far.lines;
-        if far.done {
-            return Both {
-                lines,
-                events: far.events,
-            };
+        if stand.rest.chars.0 == 0 {
+            let far = draw_on(text, s, table, lines, events, drawn, stand);
+            lines = far.lines;
+            drawn = far.events;
+            if far.done {
+                return Both {
+                    lines,
+                    events: drawn,
+                };
+            }
+            stand = far.stand;
         }
-        let here = far.stand;
-        let row = lay_row(text, s, here);
+        let row = lay_row(text, s, stand);
         let entry = row.entry;
         write_entry(table, lines, entry);
         lines += 1;
-        drawn = draw_line(text, s, here, entry, events, far.events);
+        drawn = draw_line(text, s, stand, entry, events, drawn);
         if row.last {
             return Both {
                 lines,
                 events: drawn,
             };
         }
-        stand = next_stand(text, here, row);
+        stand = next_stand(text, stand, row);
     }
 }
 

@@ -161,7 +161,7 @@ fn draw_known(
     drawn_at(far.lines, far.events, far.at, far.before, false)
 }
 
-// As many such lines as follow from a stand on, which may be none.
+// As many such lines as follow from a stand on where nothing is resumed. There may be none.
 pub fn draw_on(
     text: &[u8],
     s: Settings,
@@ -172,17 +172,10 @@ pub fn draw_on(
     stand: Stand,
 ) -> Drawn
     requires { ⌜ StandReady s (now text) stand × RoomFrom s (now text) (now table) lines stand × FewFrom s (now text) drawn stand × (s .alignment ≤ 2) ⌝ }
+    requires { ⌜ stand .rest .chars .0 ≡ 0 ⌝ }
     ensures { λ r. ⌜ Reaches s (now (text .entry)) (now (table .entry)) lines stand (now (table .exit)) (r .lines) (r .stand) (r .done) ⌝ }
     ensures { λ r. ⌜ DrawReaches s (now (text .entry)) (now (events .entry)) drawn stand (now (events .exit)) (r .events) (r .stand) (r .done) ⌝ }
 {
-    if stand.rest.chars.0 != 0 {
-        return Drawn {
-            lines,
-            events: drawn,
-            stand,
-            done: false,
-        };
-    }
     if is_known(stand.known) {
         return draw_known(text, s, table, lines, events, drawn, stand);
     }

@@ -134,3 +134,7 @@ wrote-room s t t₀ u n p w room =
 pub wrote-all : (s : Settings) (t t₀ u : List ℕ) (n : ℕ) (p : Stand) (v : List ℕ) (m : ℕ) → Wrote s t t₀ u n p → AllWritten s t u n p v m
     → (m ≡ length (entriesOf s t)) × (v ≡ written t₀ (ofAll ofEntry (entriesOf s t)))
 wrote-all s t t₀ u n p v m w a = (a .count ∙ w .counted .left, a .put ∙ w .left)
+
+-- What is kept of one table, count and stand is kept of the same.
+pub wrote-same : (s : Settings) (t t₀ u v : List ℕ) (n m : ℕ) (p q : Stand) → u ≡ v → n ≡ m → p ≡ q → Wrote s t t₀ v m q → Wrote s t t₀ u n p
+wrote-same s t t₀ u v n m p q table lines stand w = rw (table, lines, stand) w

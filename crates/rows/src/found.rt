@@ -113,18 +113,12 @@ fn write_known(text: &[u8], s: Settings, table: &mut [u32], lines: usize, stand:
     reached_at(far.lines, far.at, far.before, false)
 }
 
-// As many such lines as follow from a stand on, which may be none.
+// As many such lines as follow from a stand on where nothing is resumed. There may be none.
 pub fn write_on(text: &[u8], s: Settings, table: &mut [u32], lines: usize, stand: Stand) -> Reached
     requires { ⌜ StandReady s (now text) stand × RoomFrom s (now text) (now table) lines stand × (s .alignment ≤ 2) ⌝ }
+    requires { ⌜ stand .rest .chars .0 ≡ 0 ⌝ }
     ensures { λ r. ⌜ ReachedFrom s (now (text .entry)) (now (table .entry)) lines stand (now (table .exit)) r ⌝ }
 {
-    if stand.rest.chars.0 != 0 {
-        return Reached {
-            lines,
-            stand,
-            done: false,
-        };
-    }
     if is_known(stand.known) {
         return write_known(text, s, table, lines, stand);
     }

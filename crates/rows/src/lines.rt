@@ -59,20 +59,22 @@ fn write_found(text: &[u8], s: Settings, table: &mut [u32]) -> usize
     let mut n: usize = 0;
     let mut stand = at_start(text);
     loop {
-        let far = write_on(text, s, table, n, stand);
-        n = far.lines;
-        if far.done {
-            return n;
+        if stand.rest.chars.0 == 0 {
+            let far = write_on(text, s, table, n, stand);
+            n = far.lines;
+            if far.done {
+                return n;
+            }
+            stand = far.stand;
         }
-        let here = far.stand;
-        let row = lay_row(text, s, here);
+        let row = lay_row(text, s, stand);
         let entry = row.entry;
         write_entry(table, n, entry);
         n += 1;
         if row.last {
             return n;
         }
-        stand = next_stand(text, here, row);
+        stand = next_stand(text, stand, row);
     }
 }
 

@@ -50,7 +50,7 @@ returns c =
     let b = begin (i .before) in
     let a = b .args in
     goal-is (a .s) (plainStart (a .s) (a .x)) (a .text .now) (a .at) 0 0 (a .events .now) _ (a .k) (a .x) (o .put-one .result)
-    (o .put-one .ensures ∙ one-part (b .pre .0 .pass) (b .pre .1) (i .if1 .taken) (sheet (a .events .now) (penAt (a .k) (a .x))))
+    (o .put-one .ensures ∙ one-part (b .pre .0 .pass) (b .pre .1) (omega (arith, i .if1 .taken)) (sheet (a .events .now) (penAt (a .k) (a .x))))
 
 draw-word-requires : tie.Need-draw-word-requires
 unfolding plainSpaces

@@ -18,7 +18,7 @@ abbrev μ-loop : tie.MeasureT-loop
 one : (c : tie.In-loop Inv-loop μ-loop) →
     let a = c .before .before .before .args in
     Skipped (a .text .now) (a .from) (a .count) (c .before .loop .at) (c .before .loop .left)
-one c = skip-more _ _ _ _ _ (c .before .loop .inv) (c .loop-test .taken)
+one c = skip-more _ _ _ _ _ (c .before .loop .inv) (omega (arith, c .loop-test .taken))
 
 loop-holds : tie.Need-loop-holds Inv-loop μ-loop
 loop-holds c = record { ends = refl; all = c .before .pre .1 }
@@ -45,7 +45,7 @@ loop-again c =
     subst (λ (k : ℕ). Skips (a .text .now) (a .from) (a .count) (l .loop .at + k) (l .loop .left - 1)) (sym (c .lead-len .ensures)) (one (c .before .before) .more)
 
 returns : tie.Need-returns Inv-loop μ-loop
-returns c = skip-end _ _ _ _ _ (c .before .loop .inv) (c .loop-test .left) (c .before .before .before .pre .1)
+returns c = skip-end _ _ _ _ _ (c .before .loop .inv) (omega (arith, c .loop-test .left)) (c .before .before .before .pre .1)
 
 pub skip-chars-spec : {M : Type 1} → statement M
 skip-chars-spec =

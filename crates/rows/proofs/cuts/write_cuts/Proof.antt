@@ -58,7 +58,7 @@ cast-cut-row c = search needs
 cut-row-requires : tie.Need-cut-row-requires Inv-loop μ-loop
 cut-row-requires c κs =
     let b = begin (c .before) in
-    ((c .before .loop .inv .0 .ready .line .short, b .pre .1 .1 .some, c .loop-test .taken), c .before .loop .inv .1)
+    ((c .before .loop .inv .0 .ready .line .short, b .pre .1 .1 .some, omega (arith, c .loop-test .taken)), c .before .loop .inv .1)
 
 plain-entry-requires : tie.Need-plain-entry-requires Inv-loop μ-loop
 plain-entry-requires c κs =
