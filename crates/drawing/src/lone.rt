@@ -41,10 +41,10 @@ pub fn is_lone(text: &[u8], s: Settings, p: Place, at: usize, rest: Resumed) -> 
     if !p.empty {
         return false;
     }
-    if !hyphen_at(text, at) {
+    if rest.chars.0 != 0 {
         return false;
     }
-    if rest.chars.0 != 0 {
+    if !hyphen_at(text, at) {
         return false;
     }
     let cursor = p.cursor;

@@ -18,26 +18,26 @@ use Rattle.drawing.proofs.lone.is_lone.Statement.{statement}
 use Rattle.drawing.proofs.lone.is_lone.Tie as tie
 
 -- From where it was found that no character more fits back to the tests before.
-abbrev free : tie.Else5 → tie.Else3
-free c = c .before .before .before .before
+abbrev dashed : tie.Else5 → tie.Else3
+dashed c = c .before .before .before .before
 
-abbrev dashed : tie.Else5 → tie.Else2
-dashed c = free c .before .before
+abbrev free : tie.Else5 → tie.Else2
+free c = dashed c .before .before
 
 abbrev begin : tie.Else5 → tie.Start
-begin c = dashed c .before .before .before .before .before
+begin c = free c .before .before .before .before .before
 
 hyphen : (c : tie.Else5) → Mark (begin c .args .text .now) (begin c .args .at) 2
-hyphen c = let e = dashed c in e .before .hyphen-at .ensures (not-false _ (e .if2 .left))
+hyphen c = let e = dashed c in e .before .hyphen-at .ensures (not-false _ (e .if3 .left))
 
 returns : tie.Need-returns
 returns c = λ e. absurd (false≢true e)
 
-hyphen-at-requires : tie.Need-hyphen-at-requires
-hyphen-at-requires c κs = c .before .before .before .pre .inside
-
 returns-2 : tie.Need-returns-2
 returns-2 c = λ e. absurd (false≢true e)
+
+hyphen-at-requires : tie.Need-hyphen-at-requires
+hyphen-at-requires c κs = c .before .before .before .before .before .pre .inside
 
 returns-3 : tie.Need-returns-3
 returns-3 c = λ e. absurd (false≢true e)
@@ -78,13 +78,13 @@ returns-7 c =
     let letter : Letter t from n = f .first-len .ensures (omega (arith, c .if6 .left)) in
     λ _.
     record {
-      none = free e .if3 .left;
+      none = free e .if2 .left;
       word = wordOf (scanFrom inWord glueOf (from + n) 1 0 (charsFrom t (from + n)));
       lone = record {
         hyphen = hyphen e;
         word = sym (letter-lexed t from n letter);
         kind = refl;
-        empty = not-false _ (dashed e .before .before .if1 .left);
+        empty = not-false _ (free e .before .before .if1 .left);
         shown = omega (arith, r, e .before .if4 .left);
         over = omega (arith, r, e .if5 .left);
       };
@@ -95,8 +95,8 @@ is-lone-spec =
     tie.close
     (tie.spec
     returns
-    hyphen-at-requires
     returns-2
+    hyphen-at-requires
     returns-3
     room-requires
     returns-4
