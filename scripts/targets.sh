@@ -17,7 +17,7 @@ aarch64-linux | aarch64-unknown-linux-gnu | -fPIC | aarch64-linux-gnu-gcc | gcc-
 armv7-linux | armv7-unknown-linux-gnueabihf | -fPIC | arm-linux-gnueabihf-gcc | gcc-arm-linux-gnueabihf libc6-dev-armhf-cross | qemu-arm | qemu-user
 riscv64-linux | riscv64-unknown-linux-gnu | -fPIC | riscv64-linux-gnu-gcc | gcc-riscv64-linux-gnu libc6-dev-riscv64-cross | qemu-riscv64 | qemu-user
 cortex-m4 | thumbv7em-none-eabi | -mcpu=cortex-m4 | arm-none-eabi-gcc | gcc-arm-none-eabi libnewlib-arm-none-eabi | qemu-system-arm | qemu-system-arm
-wasm32 | wasm32-unknown-unknown | | clang | clang lld wasi-libc libclang-rt-dev-wasm32 | node | nodejs
+wasm32 | wasm32-unknown-unknown | -O2 | clang | clang lld wasi-libc libclang-rt-dev-wasm32 | node | nodejs
 aarch64-android | aarch64-linux-android21 | -fPIC | clang | clang | none |
 arm64-ios | arm64-apple-ios13.0 | -fPIC | clang | clang | none |
 x86_64-windows | x86_64-pc-windows-msvc | | clang | clang | none |
@@ -54,13 +54,14 @@ find_kit_compiler() {
         die "the clang of this Rattle kit does not compile for $target ($triple)"
 }
 
-# Compiles a module for the target, as rt has it compiled for x86-64. What goes wrong leaves the archive as it was.
+# Compiles a module for the target, as rt has it compiled for x86-64, unless the table says otherwise: a browser loads the library, and
+# -O2 keeps it below 64 kB. What goes wrong leaves the archive as it was.
 compile_module() { # MODULE ARCHIVE
     made=$(dirname "$2")/new.$$
     rm -rf "$made"
     mkdir -p "$made"
     # shellcheck disable=SC2086
-    quietly "$made/clang.log" "$tools/bin/clang" --target="$triple" $told --no-default-config -O3 -ffunction-sections \
+    quietly "$made/clang.log" "$tools/bin/clang" --target="$triple" --no-default-config -O3 $told -ffunction-sections \
         -fdata-sections -mllvm -trap-unreachable -mllvm -no-trap-after-noreturn -fno-crash-diagnostics -Werror \
         -Wno-override-module -c -x ir "$1" -o "$made/bisquemop.o"
     quietly "$made/ar.log" "$tools/bin/llvm-ar" rcs "$made/libbisquemop.a" "$made/bisquemop.o"
