@@ -18,7 +18,7 @@ use Rattle.meaning.specs.declared.settings.Settings.{Settings}
 use Rattle.table.specs.Moving.{movedBy}
 use Rattle.table.specs.declared.edited.Shift.{Shift}
 use Rattle.meaning.specs.declared.line.Rest.{Rest}
-use Rattle.laws.specs.Moved.{entry-moved}
+use Rattle.again.specs.Moved.{entry-moved}
 use Rattle.laws.specs.Rests.{rest-none, rest-some}
 use Rattle.parser.specs.Lexing.{charsFrom}
 use Rattle.placing.specs.LineFrom.{heldIn, lineAtOf, lineFrom}

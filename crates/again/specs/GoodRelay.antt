@@ -27,9 +27,9 @@ use Rattle.meaning.specs.declared.refusals.Checked.the-variants.{Good, Refused}
 use Rattle.laws.specs.GoodChecks.{refuse-good}
 use Rattle.parser.specs.Lexing.{charsFrom}
 use Rattle.table.specs.LinesFrom.{linesFrom, lines-more}
-use Rattle.table.specs.GoodTable.{table-room, table-text, table-lines}
+use Rattle.look.specs.GoodTable.{table-room, table-text, table-lines}
 use Rattle.table.specs.Moving.{AllMovable}
-use Rattle.table.specs.MovableLines.{table-movable, table-few}
+use Rattle.look.specs.MovableLines.{table-movable, table-few}
 use Rattle.rows.specs.Standing.{StandsAt, textFront, StandReady, stand-ready}
 use Rattle.rows.specs.GoodInput.{fine-settings}
 use Rattle.rows.specs.declared.stand.Stand.{Stand}

@@ -15,7 +15,7 @@ use Rattle.meaning.specs.declared.settings.Settings.{Settings}
 use Rattle.meaning.specs.declared.edit.Edit.{Edit}
 use Rattle.meaning.specs.declared.line.Rest.{Rest}
 use Rattle.meaning.specs.declared.line.Entry.{Entry}
-use Rattle.laws.specs.Relaid.{countOf}
+use Rattle.again.specs.Relaid.{countOf}
 use Rattle.rows.specs.RowsFrom.{rowsFrom}
 use Rattle.rows.specs.declared.stand.Stand.{Stand}
 use Rattle.again.specs.AgainFrom.{untilKept, againFrom}

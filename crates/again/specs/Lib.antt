@@ -8,3 +8,7 @@ pub mod GoodRelay
 pub mod Written
 pub mod Answering
 pub mod Relaying
+pub mod Kept
+pub mod Meeting
+pub mod Moved
+pub mod Relaid

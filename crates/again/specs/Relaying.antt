@@ -19,13 +19,13 @@ use Rattle.meaning.specs.declared.refusals.Checked.the-variants.{Good}
 use Rattle.meaning.specs.declared.answers.Relaid.the-variants as relaid
 use Rattle.meaning.specs.declared.counts.Chars.{Chars}
 use Rattle.laws.specs.Affected.{unaffected-old}
-use Rattle.laws.specs.Relaid.{countOf}
+use Rattle.again.specs.Relaid.{countOf}
 use Rattle.laws.specs.TableLaws.{entries-length, entries-first}
 use Rattle.table.specs.LinesFrom.{linesFrom, lines-more, lines-end}
-use Rattle.table.specs.GoodTable.{table-room, table-count}
+use Rattle.look.specs.GoodTable.{table-room, table-count}
 use Rattle.table.specs.declared.edited.Shift.{Shift}
 use Rattle.table.specs.Moving.{movedBy, linesMoved, AllMovable, Movable}
-use Rattle.table.specs.MovableLines.{table-movable}
+use Rattle.look.specs.MovableLines.{table-movable}
 use Rattle.rows.specs.Standing.{StandsAt, textFront}
 use Rattle.rows.specs.RowsFrom.{entriesFrom}
 use Rattle.rows.specs.Writing.{linesPut}

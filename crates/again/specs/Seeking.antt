@@ -16,7 +16,7 @@ use Rattle.meaning.specs.declared.line.Rest.{Rest}
 use Rattle.meaning.specs.declared.line.Entry.{Entry}
 use Rattle.laws.specs.TableLaws.{entries-length}
 use Rattle.laws.specs.PassBounds.{size-take}
-use Rattle.laws.specs.Relaid.{countOf}
+use Rattle.again.specs.Relaid.{countOf}
 use Rattle.parser.specs.Lexing.{charsFrom}
 use Rattle.steps.specs.Lexed.{chars-within}
 use Rattle.table.specs.LinesFrom.{linesFrom}

@@ -6,7 +6,7 @@ use meaning::counts::Offset;
 use meaning::line::Entry;
 use steps::ending::nothing_left;
 use steps::step::Resumed;
-use table::one_line::has_no_rest;
+use look::one_line::has_no_rest;
 ghost use Prim.Native.Nat.{_≤_};
 ghost use mathlib.Core.Path.{_≡_};
 ghost use mathlib.Core.Bool.{true};

@@ -17,7 +17,7 @@ ghost use Prim.Native.Nat.{_+_, _*_, _≤_};
 ghost use mathlib.Core.Path.{_≡_};
 ghost use lib.ListN.{length};
 ghost use Rattle.meaning.specs.Table.{entryNumbers, entriesIn};
-ghost use Rattle.laws.specs.Relaid.{countOf};
+ghost use Rattle.again.specs.Relaid.{countOf};
 ghost use Rattle.table.specs.LinesFrom.{linesFrom};
 ghost use Rattle.again.specs.Behind.{restBehind, RestLow};
 ghost use Rattle.edits.specs.Pointer.{passing, meetsFirst};

@@ -71,7 +71,7 @@ use replies::writing_number;
 use replies::writing_value;
 use replies::y_number;
 use replies::y_value;
-use table::affected::first_affected;
+use look::affected::first_affected;
 use tokenizer::tokenize::tokenize;
 ghost use mathlib.Core.Path.{_≡_};
 ghost use Rattle.meaning.specs.Settings.{settingsOf};

@@ -14,14 +14,14 @@ use Rattle.basis.specs.Order.{by-eq}
 use Rattle.unicode.specs.Decoding.{decodeAll}
 use Rattle.meaning.specs.Columns.{fitsWhole, withWidth, widestBox}
 use Rattle.meaning.specs.declared.settings.Settings.{Settings}
-use Rattle.laws.specs.TabFree.{hasTab}
-use Rattle.laws.specs.LineParts.{longestPart}
-use Rattle.laws.specs.GlyphPlaces.{askedGlyphs, asked-most}
-use Rattle.laws.specs.WidthSteps.{fits-by-steps}
-use Rattle.laws.specs.WideEnough.{enoughFor, fits-wide-enough}
-use Rattle.laws.specs.WidestPart.{longest-wide}
-use Rattle.laws.specs.StepLines.{AtSide, fits-by-tab-steps}
-use Rattle.laws.specs.TabLines.{MayBeWider, fits-wider}
+use Rattle.widths.specs.TabFree.{hasTab}
+use Rattle.widths.specs.LineParts.{longestPart}
+use Rattle.widths.specs.GlyphPlaces.{askedGlyphs, asked-most}
+use Rattle.widths.specs.WidthSteps.{fits-by-steps}
+use Rattle.widths.specs.WideEnough.{enoughFor, fits-wide-enough}
+use Rattle.widths.specs.WidestPart.{longest-wide}
+use Rattle.widths.specs.StepLines.{AtSide, fits-by-tab-steps}
+use Rattle.widths.specs.TabLines.{MayBeWider, fits-wider}
 use Rattle.rows.specs.RowsFrom.{TextReady}
 use Rattle.columns.specs.Tabs.{no-tab-read}
 use Rattle.columns.specs.PartBytes.{widest-read}

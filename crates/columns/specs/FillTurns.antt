@@ -12,8 +12,8 @@ use lib.ListN.{length, getD, drop, drop-of-length-le}
 use lib.Seq.{drop-cons}
 use Rattle.basis.specs.Choice.{pick, pick-cases, pick-true, pick-false}
 use Rattle.meaning.specs.Checks.{textLimit}
-use Rattle.laws.specs.LineParts.{breaks}
-use Rattle.laws.specs.TabStops.{nextStop}
+use Rattle.widths.specs.LineParts.{breaks}
+use Rattle.widths.specs.TabStops.{nextStop}
 use Rattle.columns.specs.Filling.{emptyLine, fillWord, fillTo, fillOther, fillBlank, fillBy, fillAll}
 use Rattle.columns.specs.LeadBytes.{leads}
 use Rattle.columns.specs.declared.filling.Fill.{Fill}

@@ -10,8 +10,8 @@ use borrow.Author.Tests.{leb-true, leb-false}
 use lib.Dec.{leb, eqb}
 use Rattle.basis.specs.Choice.{pick, pick-cases}
 use Rattle.basis.specs.Order.{by-lt, by-eq}
-use Rattle.laws.specs.LineParts.{breaks}
-use Rattle.laws.specs.TabStops.{nextStop, stop-more, stop-on}
+use Rattle.widths.specs.LineParts.{breaks}
+use Rattle.widths.specs.TabStops.{nextStop, stop-more, stop-on}
 use Rattle.columns.specs.declared.filling.Fill.{Fill}
 
 -- ---- what a character does, told by a test of those that words are made of

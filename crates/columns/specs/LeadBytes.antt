@@ -20,7 +20,7 @@ use Rattle.meaning.specs.Characters.{glue, classOf, inWord}
 use Rattle.meaning.specs.Checks.{checkUtf8}
 use Rattle.meaning.specs.declared.refusals.Checked.the-variants.{Good}
 use Rattle.laws.specs.PartChars.{encoded}
-use Rattle.laws.specs.LineParts.{breaks, other-than, others-break}
+use Rattle.widths.specs.LineParts.{breaks, other-than, others-break}
 use Rattle.columns.specs.Filling.{emptyLine, fillWord, fillOther, fillBlank, fillBy, fillAll, fill-append, Under, under-self, under-then, under-other, under-word, step-under}
 use Rattle.columns.specs.declared.filling.Fill.{Fill}
 

@@ -30,7 +30,7 @@ use Rattle.laws.specs.EvenSpaces.{share-width}
 use Rattle.laws.specs.InsideBox.{left-inside}
 use Rattle.laws.specs.RowInduction.{FitsIn, each-row}
 use Rattle.laws.specs.NothingDropped.{DropNothing}
-use Rattle.laws.specs.NarrowestWidth.{fits-says}
+use Rattle.widths.specs.NarrowestWidth.{fits-says}
 use Rattle.columns.specs.Filling.{emptyLine, under-by, fill-under}
 use Rattle.columns.specs.StepFilling.{filledIn}
 use Rattle.columns.specs.PassFilling.{AllKnown, KnownFrom, known-from, pass-fills}

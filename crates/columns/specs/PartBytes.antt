@@ -20,9 +20,9 @@ use Rattle.unicode.specs.Sizes.{encode-one, encode-cases, bytes-is, bytes-range
 use Rattle.unicode.specs.Walk.{all-more, all-none, along}
 use Rattle.unicode.specs.declared.sequence.Decoded.the-variants.{Char}
 use Rattle.laws.specs.Runs.{Pass}
-use Rattle.laws.specs.LineParts.{breaks, inPart}
-use Rattle.laws.specs.TabStops.{nextStop}
-use Rattle.laws.specs.WidestPart.{pastChar, partEnd, widestPart, past-least, end-over, end-on, part-more, end-joined, first-widest, widest-rest}
+use Rattle.widths.specs.LineParts.{breaks, inPart}
+use Rattle.widths.specs.TabStops.{nextStop}
+use Rattle.widths.specs.WidestPart.{pastChar, partEnd, widestPart, past-least, end-over, end-on, part-more, end-joined, first-widest, widest-rest}
 use Rattle.moves.specs.FineLaws.{next-stop}
 
 -- ---- characters and bytes

@@ -11,9 +11,9 @@ use lib.Dec.{eqb, leb, ltb}
 use Rattle.basis.specs.Choice.{pick, pick-cases, pick-true, pick-false}
 use Rattle.meaning.specs.Columns.{widestBox}
 use Rattle.meaning.specs.declared.settings.Settings.{Settings}
-use Rattle.laws.specs.TabFree.{hasTab}
-use Rattle.laws.specs.GlyphPlaces.{askedGlyphs}
-use Rattle.laws.specs.WidestPart.{widestPart}
+use Rattle.widths.specs.TabFree.{hasTab}
+use Rattle.widths.specs.GlyphPlaces.{askedGlyphs}
+use Rattle.widths.specs.WidestPart.{widestPart}
 use Rattle.columns.specs.declared.skipping.Skips.{Skips}
 
 -- ---- what is passed over

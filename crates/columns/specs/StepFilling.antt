@@ -25,7 +25,7 @@ use Rattle.meaning.specs.declared.cursor.NextWord.the-variants.{Nothing, Width}
 use Rattle.laws.specs.Spell.{textOf, spell, SoundTok}
 use Rattle.laws.specs.Runs.{Pass, Stops}
 use Rattle.laws.specs.Steps.{too-wide, some-spaces}
-use Rattle.laws.specs.TabStops.{nextStop, tab-to}
+use Rattle.widths.specs.TabStops.{nextStop, tab-to}
 use Rattle.columns.specs.Filling.{emptyLine, fillOther, fillBlank, fillBy, fillAll, fill-append, Under, under-self, under-fewer, under-by, fill-under}
 use Rattle.columns.specs.TokenFilling.{run-still, run-rested, run-fills, word-fills, tab-fills, hyphen-fills, new-line-fills, return-fills}
 use Rattle.columns.specs.declared.filling.Fill.{Fill}

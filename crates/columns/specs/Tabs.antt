@@ -15,7 +15,7 @@ use Rattle.unicode.specs.Decoding.{decodeHead, decodeAll}
 use Rattle.unicode.specs.RoundTrip.{encode-decode}
 use Rattle.unicode.specs.Walk.{all-more, all-none, along}
 use Rattle.unicode.specs.declared.sequence.Decoded.the-variants.{Char}
-use Rattle.laws.specs.TabFree.{hasTab, free-rest}
+use Rattle.widths.specs.TabFree.{hasTab, free-rest}
 
 tab-here : (s : List ℕ) → hasTab (9 ∷ s) ≡ true
 unfolding hasTab pick

@@ -15,8 +15,8 @@ use Rattle.unicode.specs.WhiteSpace.{isWhite, member, whiteSpaces}
 use Rattle.meaning.specs.Tokens.{space, word, counted}
 use Rattle.meaning.specs.Characters.{Class, lf, cr, ht, shy, zwsp, blank, letter, wordClass, runClass, glue, classOf, inWord, inRun}
 use Rattle.laws.specs.Runs.{Pass}
-use Rattle.laws.specs.LineParts.{breaks, other-than, others-break}
-use Rattle.laws.specs.TabStops.{nextStop}
+use Rattle.widths.specs.LineParts.{breaks, other-than, others-break}
+use Rattle.widths.specs.TabStops.{nextStop}
 use Rattle.columns.specs.Filling.{emptyLine, fillWord, fillTo, fillOther, fillBlank, fillBy, fillAll}
 use Rattle.columns.specs.declared.filling.Fill.{Fill}
 

@@ -13,7 +13,7 @@ use Rattle.basis.specs.Order.{by-le, by-lt, by-eq}
 use Rattle.meaning.specs.Columns.{fitsWhole, withWidth, widestBox, narrowest}
 use Rattle.meaning.specs.declared.settings.Settings.{Settings}
 use Rattle.meaning.specs.declared.answers.Planned.the-variants.{Width, NoWidth}
-use Rattle.laws.specs.NarrowestWidth.{smallest-answered, no-width-answered}
+use Rattle.widths.specs.NarrowestWidth.{smallest-answered, no-width-answered}
 use Rattle.columns.specs.Skipping.{nextWidth, Whole, one-whole, next-whole, same-whole}
 use Rattle.columns.specs.FairSkips.{SkipsFairly}
 use Rattle.columns.specs.FirstWidth.{NoneBelow}

@@ -7,8 +7,8 @@ ghost use mathlib.Core.Path.{_≡_};
 ghost use lib.ListN.{length};
 ghost use Rattle.basis.specs.Choice.{pick};
 ghost use Rattle.meaning.specs.Checks.{textLimit};
-ghost use Rattle.laws.specs.LineParts.{breaks};
-ghost use Rattle.laws.specs.WidestPart.{pastChar, widestPart};
+ghost use Rattle.widths.specs.LineParts.{breaks};
+ghost use Rattle.widths.specs.WidestPart.{pastChar, widestPart};
 
 // The place behind one more byte of a part: a tab goes to its stop, and no less than a glyph is counted for it.
 fn past_byte(glyph: u32, tab: u32, at: u32, b: u8) -> u32

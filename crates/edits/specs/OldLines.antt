@@ -19,7 +19,7 @@ use Rattle.meaning.specs.declared.line.Entry.{Entry}
 use Rattle.meaning.specs.declared.refusals.Checked.the-variants.{Good}
 use Rattle.laws.specs.Affected.{affected-split}
 use Rattle.table.specs.LinesFrom.{linesFrom}
-use Rattle.table.specs.MovableLines.{entries-from}
+use Rattle.look.specs.MovableLines.{entries-from}
 use Rattle.laws.specs.GoodLines.{good-more, good-start, start-after}
 use Rattle.edits.specs.Pointer.{Above, Rising}
 

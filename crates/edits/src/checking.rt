@@ -16,8 +16,8 @@ use meaning::sizes::TEXT_LIMIT;
 use table::edited::Whole;
 use table::edited::edited_whole;
 use table::entries::read_entry;
-use table::well_formed::look_over;
-use table::well_formed::text_length;
+use look::well_formed::look_over;
+use look::well_formed::text_length;
 use unicode::text::is_boundary;
 ghost use mathlib.Core.Path.{_≡_};
 ghost use lib.ListN.{length};
@@ -27,7 +27,7 @@ ghost use Rattle.meaning.specs.Table.{entriesIn};
 ghost use Rattle.meaning.specs.WellFormed.{checkTable};
 ghost use Rattle.meaning.specs.Edit.{unaffected, checkWhole};
 ghost use Rattle.meaning.specs.declared.refusals.Checked.the-variants.{Good};
-ghost use Rattle.table.specs.Looking.{lookedOver};
+ghost use Rattle.look.specs.Looking.{lookedOver};
 ghost use Rattle.edits.specs.Checking.{wholeOf, endsFit, lengthFits, checkFirst, checkLent, checkBefore};
 
 // Refusal 3 of the edited whole, where the old text has so many bytes.

@@ -14,7 +14,7 @@ use Rattle.meaning.specs.ReadFile.{oldLineSize, isField, checkEnd, checkLineFie
 use Rattle.meaning.specs.declared.refusals.Refusal.the-variants.{BadField, OldEntry}
 use Rattle.meaning.specs.declared.refusals.Checked.{Checked}
 use Rattle.meaning.specs.declared.refusals.Checked.the-variants.{Good, Refused}
-use Rattle.laws.specs.FileFields.{found}
+use Rattle.files.specs.FileFields.{found}
 
 -- ---- the end
 

@@ -7,3 +7,6 @@ pub mod Reading
 pub mod Known
 pub mod ReadingCalls
 pub mod RoundTrip
+pub mod FileNumbers
+pub mod FileFields
+pub mod FileLaws

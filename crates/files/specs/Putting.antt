@@ -12,7 +12,7 @@ use Rattle.meaning.specs.Table.{entryNumbers, ofEntry, ofAll, written, entryIn}
 use Rattle.meaning.specs.LayoutFile.{headerBytes, numberBytes, bytesOf, field}
 use Rattle.meaning.specs.ReadFile.{numberIn, numbersIn}
 use Rattle.laws.specs.TableLaws.{all-append}
-use Rattle.laws.specs.FileNumbers.{words-bytes, numbers-count}
+use Rattle.files.specs.FileNumbers.{words-bytes, numbers-count}
 use Rattle.table.specs.Numbers.{putNumbers, stored-are}
 use Rattle.table.specs.Stretches.{join-behind}
 

@@ -25,10 +25,10 @@ use Rattle.meaning.specs.declared.refusals.Checked.{Checked}
 use Rattle.meaning.specs.declared.refusals.Checked.the-variants.{Good, Refused}
 use Rattle.laws.specs.TableLaws.{numbers-read, all-append, entries-numbers}
 use Rattle.laws.specs.TestOrder.{first-alone}
-use Rattle.laws.specs.FileNumbers.{numbers-count}
+use Rattle.files.specs.FileNumbers.{numbers-count}
 use Rattle.table.specs.Numbers.{putNumbers}
 use Rattle.table.specs.Stretches.{join-behind}
-use Rattle.table.specs.OneLine.{lineGood, isLast, line-good}
+use Rattle.look.specs.OneLine.{lineGood, isLast, line-good}
 use Rattle.files.specs.Tests.{stops, passes}
 
 -- ---- the lines from a line on

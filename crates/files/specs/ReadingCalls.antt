@@ -27,7 +27,7 @@ use Rattle.meaning.specs.declared.answers.FileRead.{FileRead}
 use Rattle.meaning.specs.declared.answers.FileRead.the-variants as fileread
 use Rattle.laws.specs.TableLaws.{capacity-is}
 use Rattle.laws.specs.TestOrder.{first-alone, first-refused, first-good}
-use Rattle.laws.specs.FileLaws.{file-bytes}
+use Rattle.files.specs.FileLaws.{file-bytes}
 use Rattle.laws.specs.GoodChecks.{room-is}
 use Rattle.files.specs.Tests.{stops, passes, both-good}
 use Rattle.files.specs.Reading.{lines-count, textTests}

@@ -13,9 +13,9 @@ use Rattle.meaning.specs.LayoutFile.{headerBytes, numberBytes, settingsNumbers,
 use Rattle.meaning.specs.declared.settings.Settings.{Settings}
 use Rattle.meaning.specs.declared.line.Entry.{Entry}
 use Rattle.laws.specs.TableLaws.{all-numbers, all-append, entries-length, numbers-read}
-use Rattle.laws.specs.FileNumbers.{number-bytes, words-bytes}
-use Rattle.laws.specs.FileFields.{field-length, line-body, line-length, lines-length}
-use Rattle.laws.specs.FileLaws.{settings-body}
+use Rattle.files.specs.FileNumbers.{number-bytes, words-bytes}
+use Rattle.files.specs.FileFields.{field-length, line-body, line-length, lines-length}
+use Rattle.files.specs.FileLaws.{settings-body}
 use Rattle.table.specs.Numbers.{putNumbers, put-length}
 use Rattle.table.specs.Stretches.{join-behind, entries-last}
 use Rattle.files.specs.Putting.{put-field}

@@ -19,9 +19,9 @@ use Rattle.meaning.specs.declared.answers.FileWritten.{FileWritten}
 use Rattle.meaning.specs.declared.answers.FileWritten.the-variants as filed
 use Rattle.laws.specs.TableLaws.{entries-length}
 use Rattle.laws.specs.TestOrder.{first-alone}
-use Rattle.laws.specs.FileLaws.{file-length}
+use Rattle.files.specs.FileLaws.{file-length}
 use Rattle.laws.specs.GoodChecks.{room-is}
-use Rattle.table.specs.GoodTable.{table-room, table-count}
+use Rattle.look.specs.GoodTable.{table-room, table-count}
 use Rattle.table.specs.Numbers.{putNumbers}
 use Rattle.files.specs.Putting.{put-written}
 use Rattle.files.specs.Tests.{stops, passes, both-good}

@@ -14,7 +14,7 @@ use Rattle.meaning.specs.YIndex.{indexOf, writtenFrom}
 use Rattle.meaning.specs.declared.settings.Settings.{Settings}
 use Rattle.laws.specs.TableLaws.{entries-length}
 use Rattle.laws.specs.Indexes.{yAt, index-length, index-at}
-use Rattle.laws.specs.LineUnder.{endingOf, added-next}
+use Rattle.heights.specs.LineUnder.{endingOf, added-next}
 use Rattle.heights.specs.Heights.{added-alone}
 
 -- ---- one y more

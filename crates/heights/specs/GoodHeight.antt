@@ -21,7 +21,7 @@ use Rattle.meaning.specs.declared.answers.Height.the-variants as height
 use Rattle.meaning.specs.declared.answers.LineY.the-variants as liney
 use Rattle.laws.specs.TableLaws.{entries-length}
 use Rattle.laws.specs.TestOrder.{first-alone}
-use Rattle.table.specs.GoodTable.{table-room, table-count}
+use Rattle.look.specs.GoodTable.{table-room, table-count}
 use Rattle.heights.specs.GoodSettings.{Measures, measures}
 use Rattle.heights.specs.Heights.{notCounted, shownAt, height-counted, added-small}
 

@@ -1,3 +1,4 @@
 pub mod GoodSettings
 pub mod Heights
 pub mod GoodHeight
+pub mod LineUnder

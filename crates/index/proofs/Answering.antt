@@ -25,7 +25,7 @@ use Rattle.meaning.specs.declared.answers.FoundLine.the-variants as found
 use Rattle.laws.specs.GoodChecks.{has-room, has-no-room, room-is}
 use Rattle.laws.specs.GoodLines.{good-both}
 use Rattle.laws.specs.TestOrder.{first-alone, first-refused, first-good}
-use Rattle.table.specs.GoodTable.{table-reach, reach-some}
+use Rattle.look.specs.GoodTable.{table-reach, reach-some}
 
 -- ---- the index made
 

@@ -3,7 +3,7 @@ use crate::halving::last_under;
 use crate::rising::check_index;
 use meaning::answers::FoundLine;
 use meaning::refusals::Checked;
-use table::well_formed::check_table;
+use look::well_formed::check_table;
 ghost use mathlib.Core.Path.{_≡_};
 ghost use Prim.Native.Nat.{_<_};
 ghost use lib.ListN.{length};

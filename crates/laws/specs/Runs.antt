@@ -17,6 +17,11 @@ abbrev pub Pass : (ℕ → Bool) → List ℕ → Type 0
 Pass f [] = Unit {0}
 Pass f (c ∷ cs) = (f c ≡ true) × Pass f cs
 
+-- So do those of the second of two parts.
+pub pass-second : (f : ℕ → Bool) (xs ys : List ℕ) → Pass f (xs ++ ys) → Pass f ys
+pass-second f [] ys h = h
+pass-second f (x ∷ xs) ys h = pass-second f xs ys (h .1)
+
 -- There is no character, or the first does not pass the test.
 abbrev pub Stops : (ℕ → Bool) → List ℕ → Type 0
 Stops f [] = Unit {0}

@@ -18,8 +18,8 @@ use Rattle.meaning.specs.declared.settings.Settings.{Settings}
 use Rattle.meaning.specs.declared.refusals.Refusal.{Refusal}
 use Rattle.meaning.specs.declared.refusals.Checked.the-variants.{Good, Refused}
 use Rattle.meaning.specs.declared.answers.Chosen.the-variants as chosen
-use Rattle.laws.specs.Choosing.{taken-within}
-use Rattle.laws.specs.PageBoundaries.{taken-boundary}
+use Rattle.paging.specs.ChosenPart.{taken-within}
+use Rattle.paging.specs.PageBoundaries.{taken-boundary}
 use Rattle.laws.specs.TestOrder.{first-alone, none-refuses, three-good}
 use Rattle.checks.specs.LimitLaws.{limit-some}
 use Rattle.rows.specs.GoodInput.{text-ready}

@@ -6,3 +6,9 @@ pub mod Taking
 pub mod Choosing
 pub mod Listing
 pub mod ListingAgain
+pub mod PageBoundaries
+pub mod PageLaws
+pub mod PageStretches
+pub mod PagesKept
+pub mod ChosenPart
+pub mod WrittenPast

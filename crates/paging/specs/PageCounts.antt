@@ -5,7 +5,7 @@ use mathlib.Core.Path.{_≡_}
 use native.Mathlib.Nat.{suc-mul, add-div-right, div-mul-le-self, le-div-iff-mul-le}
 use native.Mathlib.Omega.{arith}
 use Rattle.basis.specs.Order.{by-le}
-use Rattle.laws.specs.PageLaws.{pageCount}
+use Rattle.paging.specs.PageLaws.{pageCount}
 
 module _ (h : ℕ) (some : 1 ≤ h) where
   pub count-is : (n : ℕ) → 1 ≤ n → (n - 1) / h + 1 ≡ pageCount h n

@@ -13,11 +13,11 @@ use Rattle.meaning.specs.Pages.{endBefore, pagesOf, pageNumbers, ofPage, writte
 use Rattle.meaning.specs.declared.counts.Offset.{Offset}
 use Rattle.meaning.specs.declared.line.Entry.{Entry}
 use Rattle.meaning.specs.declared.page.Page.{Page}
-use Rattle.laws.specs.PageLaws.{pageCount, pages-count, pages-few, page-there, PageSaid, page-at}
+use Rattle.paging.specs.PageLaws.{pageCount, pages-count, pages-few, page-there, PageSaid, page-at}
 use Rattle.laws.specs.TableLaws.{entries-length, page-numbers, pages-numbers}
-use Rattle.laws.specs.WrittenPast.{past-all}
+use Rattle.paging.specs.WrittenPast.{past-all}
 use Rattle.table.specs.LinesFrom.{linesFrom, lines-more, lines-end, start-at}
-use Rattle.table.specs.MovableLines.{entries-from}
+use Rattle.look.specs.MovableLines.{entries-from}
 use Rattle.table.specs.Numbers.{putNumbers}
 use Rattle.table.specs.Stretches.{join-behind, put-none}
 use Rattle.paging.specs.PageCounts.{none-behind}

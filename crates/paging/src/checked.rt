@@ -8,7 +8,7 @@ use meaning::refusals::Checked;
 use meaning::settings::Settings;
 use meaning::sizes::PAGE_NUMBERS;
 use rows::lines::count_lines;
-use table::well_formed::check_table;
+use look::well_formed::check_table;
 ghost use Prim.Native.Nat.{_≤_};
 ghost use mathlib.Core.Path.{_≡_};
 ghost use lib.ListN.{length};

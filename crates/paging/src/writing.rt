@@ -4,7 +4,7 @@ use meaning::counts::Offset;
 use meaning::page::Page;
 use meaning::sizes::ENTRY_NUMBERS;
 use meaning::sizes::PAGE_NUMBERS;
-use table::well_formed::text_length;
+use look::well_formed::text_length;
 ghost use Prim.Native.Nat.{_+_, _*_, _≤_, _<_};
 ghost use mathlib.Core.Path.{_≡_};
 ghost use lib.ListN.{length};

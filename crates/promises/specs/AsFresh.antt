@@ -14,7 +14,7 @@ use Rattle.meaning.specs.declared.edit.Edit.{Edit}
 use Rattle.meaning.specs.declared.answers.Laid.{Laid}
 use Rattle.meaning.specs.declared.answers.Laid.the-variants as fresh
 use Rattle.meaning.specs.declared.answers.Relaid.{Relaid}
-use Rattle.laws.specs.Demand3Calls.{EditOf}
+use Rattle.promises.specs.Demand3Calls.{EditOf}
 use Rattle.promises.specs.Passed.{Lent, LentNumber}
 use Rattle.promises.specs.Contracts.{Layout, LayAgain, CLayout, CLayAgain}
 use Rattle.promises.specs.Demand3.{lay-again-demand-3, c-lay-again-demand-3}

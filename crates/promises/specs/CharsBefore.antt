@@ -18,7 +18,7 @@ use Rattle.meaning.specs.declared.answers.Laid.the-variants as laid
 use Rattle.meaning.specs.declared.answers.Relaid.{Relaid}
 use Rattle.laws.specs.RowInduction.{Each}
 use Rattle.laws.specs.CharsBefore.{CountsBefore, layout-counts}
-use Rattle.laws.specs.Demand3Calls.{EditOf}
+use Rattle.promises.specs.Demand3Calls.{EditOf}
 use Rattle.promises.specs.Passed.{Lent, LentNumber}
 use Rattle.promises.specs.Contracts.{Layout, LayAgain, CLayout, CLayAgain}
 use Rattle.promises.specs.TableHolds.{layout-table-holds, c-layout-table-holds}

@@ -24,9 +24,9 @@ use Rattle.meaning.specs.declared.answers.Affected.the-variants as affecting
 use Rattle.meaning.specs.declared.answers.Relaid.{Relaid}
 use Rattle.meaning.specs.declared.answers.Relaid.the-variants as relaid
 use Rattle.laws.specs.TableLaws.{entries-written}
-use Rattle.laws.specs.Demand3Calls.{EditOf, demand-3-holds}
-use Rattle.laws.specs.SameLines.{SameLines}
-use Rattle.laws.specs.EditSettings.{edit-by}
+use Rattle.promises.specs.Demand3Calls.{EditOf, demand-3-holds}
+use Rattle.promises.specs.SameLines.{SameLines}
+use Rattle.promises.specs.EditSettings.{edit-by}
 use Rattle.promises.specs.Passed.{Lent, LentNumber}
 use Rattle.promises.specs.Contracts.{FirstAffected, LayAgain, CFirstAffected, CLayAgain}
 

@@ -23,9 +23,9 @@ use Rattle.meaning.specs.declared.refusals.Checked.{Checked}
 use Rattle.meaning.specs.declared.refusals.Checked.the-variants.{Good, Refused}
 use Rattle.meaning.specs.declared.answers.Indexed.{Indexed}
 use Rattle.meaning.specs.declared.answers.Relaid.{Relaid}
-use Rattle.laws.specs.Demand3Calls.{EditOf}
-use Rattle.laws.specs.WrittenYs.{written-before}
-use Rattle.laws.specs.IndexAgain.{index-call-again}
+use Rattle.promises.specs.Demand3Calls.{EditOf}
+use Rattle.promises.specs.WrittenYs.{written-before}
+use Rattle.promises.specs.IndexedAgain.{index-call-again}
 use Rattle.promises.specs.Passed.{Lent, LentYs, LentNumber}
 use Rattle.promises.specs.Contracts.{LayAgain, MakeIndex, MakeIndexAgain, CLayAgain, CIndex, CIndexAgain}
 use Rattle.promises.specs.Demand3.{Demand3Of, lay-again-demand-3, c-lay-again-demand-3}

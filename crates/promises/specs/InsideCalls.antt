@@ -15,8 +15,8 @@ use Rattle.frames.proofs.opening.open_text.Kinds as open-text-kinds
 use Rattle.frames.proofs.opening.open_text.Reads as open-text-reads
 use Rattle.frames.proofs.frame.one_line.Kinds as one-line-kinds
 use Rattle.frames.proofs.frame.one_line.Reads as one-line-reads
-use Rattle.table.proofs.affected.first_affected.Kinds as first-affected-kinds
-use Rattle.table.proofs.affected.first_affected.Reads as first-affected-reads
+use Rattle.look.proofs.affected.first_affected.Kinds as first-affected-kinds
+use Rattle.look.proofs.affected.first_affected.Reads as first-affected-reads
 use Rattle.again.proofs.relay.lay_again.Kinds as lay-again-kinds
 use Rattle.again.proofs.relay.lay_again.Reads as lay-again-reads
 use Rattle.heights.proofs.height.text_height.Kinds as text-height-kinds

@@ -22,8 +22,8 @@ use Rattle.meaning.specs.declared.answers.FoundLine.{FoundLine}
 use Rattle.meaning.specs.declared.answers.FoundLine.the-variants as found
 use Rattle.laws.specs.TableLaws.{entries-length}
 use Rattle.laws.specs.Indexes.{yAt, index-at}
-use Rattle.laws.specs.LineUnder.{SaysOfLines, found-line}
-use Rattle.laws.specs.IndexCalls.{index-lines, index-table, index-held, find-good}
+use Rattle.heights.specs.LineUnder.{SaysOfLines, found-line}
+use Rattle.promises.specs.IndexCalls.{index-lines, index-table, index-held, find-good}
 use Rattle.promises.specs.Passed.{Lent, LentYs, LentNumber}
 use Rattle.promises.specs.Contracts.{MakeIndex, FindLine, CIndex, CFindLine}
 use Rattle.promises.specs.Unwritten.{index-done}

@@ -14,7 +14,7 @@ use Rattle.meaning.specs.Answers.{layoutNumber, layoutValue, drawingNumber, dra
 use Rattle.meaning.specs.declared.settings.Settings.{Settings}
 use Rattle.meaning.specs.declared.answers.Laid.{Laid}
 use Rattle.meaning.specs.declared.answers.LaidWithEvents.{LaidWithEvents}
-use Rattle.laws.specs.SameLines.{SameLines, same-rows}
+use Rattle.promises.specs.SameLines.{SameLines, same-rows}
 use Rattle.promises.specs.Passed.{Lent, LentNumber}
 use Rattle.promises.specs.Contracts.{Layout, LayoutWithEvents, CLayout, CLayoutEvents}
 

@@ -20,9 +20,9 @@ use Rattle.meaning.specs.declared.edit.Edit.{Edit}
 use Rattle.meaning.specs.declared.answers.Relaid.{Relaid}
 use Rattle.meaning.specs.declared.answers.Paged.{Paged}
 use Rattle.meaning.specs.declared.answers.PagedAgain.{PagedAgain}
-use Rattle.laws.specs.Demand3Calls.{EditOf}
-use Rattle.laws.specs.PagesKept.{pages-kept, pages-untouched}
-use Rattle.laws.specs.PagesAgain.{edit-pages}
+use Rattle.promises.specs.Demand3Calls.{EditOf}
+use Rattle.paging.specs.PagesKept.{pages-kept, pages-untouched}
+use Rattle.promises.specs.PagedAgain.{edit-pages}
 use Rattle.promises.specs.Passed.{Lent, LentNumber}
 use Rattle.promises.specs.Contracts.{LayAgain, LayPages, ListAgain, CLayAgain, CPages, CPagesAgain}
 

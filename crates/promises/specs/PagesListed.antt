@@ -12,8 +12,8 @@ use Rattle.meaning.specs.Answers.{choosingNumber, choosingWhich}
 use Rattle.meaning.specs.declared.settings.Settings.{Settings}
 use Rattle.meaning.specs.declared.answers.Chosen.the-variants as chosen
 use Rattle.meaning.specs.declared.answers.Paged.the-variants as paged
-use Rattle.laws.specs.ChoosingCalls.{LongSaid, ShortSaid, long-said, short-said}
-use Rattle.laws.specs.PagingCalls.{PagingSaid, paging-said}
+use Rattle.promises.specs.ChoosingCalls.{LongSaid, ShortSaid, long-said, short-said}
+use Rattle.promises.specs.PagingCalls.{PagingSaid, paging-said}
 use Rattle.promises.specs.Passed.{Lent, LentNumber}
 use Rattle.promises.specs.Contracts.{Choose, LayPages, CChoose, CPages}
 use Rattle.promises.specs.PagesUnwritten.{paging-done, long-done, short-done}

@@ -13,7 +13,7 @@ use Rattle.meaning.specs.Calls.{textRows, textEntries}
 use Rattle.meaning.specs.declared.settings.Settings.{Settings}
 use Rattle.meaning.specs.declared.answers.Laid.the-variants as laid
 use Rattle.laws.specs.RowInduction.{Each}
-use Rattle.laws.specs.TableSpaces.{EntrySaid, table-spaces}
+use Rattle.promises.specs.TableSpaces.{EntrySaid, table-spaces}
 use Rattle.promises.specs.Passed.{Lent, LentNumber}
 use Rattle.promises.specs.Contracts.{Layout, CLayout}
 use Rattle.promises.specs.TableHolds.{layout-table-holds, c-layout-table-holds}

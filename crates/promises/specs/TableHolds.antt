@@ -10,7 +10,7 @@ use Rattle.meaning.specs.Table.{entriesIn}
 use Rattle.meaning.specs.Calls.{textEntries, layoutAnswer}
 use Rattle.meaning.specs.declared.settings.Settings.{Settings}
 use Rattle.meaning.specs.declared.answers.Laid.the-variants as laid
-use Rattle.laws.specs.LayoutCalls.{layout-holds}
+use Rattle.promises.specs.LayoutCalls.{layout-holds}
 use Rattle.promises.specs.Passed.{Lent, LentNumber}
 use Rattle.promises.specs.Contracts.{Layout, CLayout}
 use Rattle.promises.specs.Unwritten.{layout-done}

@@ -24,7 +24,7 @@ use Rattle.meaning.specs.declared.answers.Fitted.the-variants as fitted
 use Rattle.meaning.specs.declared.answers.Planned.{Planned}
 use Rattle.meaning.specs.declared.answers.Planned.the-variants as planned
 use Rattle.laws.specs.NothingDropped.{DropNothing}
-use Rattle.laws.specs.NarrowestWidth.{fits-says, width-says, no-width-says}
+use Rattle.widths.specs.NarrowestWidth.{fits-says, width-says, no-width-says}
 use Rattle.promises.specs.Passed.{Lent, LentNumber}
 use Rattle.promises.specs.Contracts.{ColumnsFit, PlanColumns, CColumnsFit, CColumnsPlan}
 use Rattle.promises.specs.Unwritten.{refusal-some}

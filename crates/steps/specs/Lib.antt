@@ -16,3 +16,4 @@ pub mod RunLaws
 pub mod PassLaws
 pub mod WordLaws
 pub mod BreakLaws
+pub mod Cuts

@@ -26,7 +26,7 @@ use Rattle.meaning.specs.declared.line.Measure.{Measure}
 use Rattle.laws.specs.Spell.{textOf, spell, SoundTok, Sound}
 use Rattle.laws.specs.TokenLaws.{chars-text, size-text, tokens-cover}
 use Rattle.laws.specs.Steps.{SoundStep, step-sound}
-use Rattle.laws.specs.Cuts.{HoldsRest, WholeStep, step-whole}
+use Rattle.steps.specs.Cuts.{HoldsRest, WholeStep, step-whole}
 use Rattle.laws.specs.PassBounds.{whole-text}
 use Rattle.laws.specs.Measuring.{measured-append}
 use Rattle.parser.specs.Lexing.{charsFrom, lexemeAt}

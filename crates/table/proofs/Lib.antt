@@ -1,11 +1,6 @@
 pub mod Reading
 pub mod Storing
-pub mod Judging
-pub mod LineByLine
 pub mod EditLaws
-pub mod SkipTurns
-pub mod PlainTurns
-pub mod StepTurns
 pub mod MovedParts
 pub mod InPlace
 pub mod MoveTurns

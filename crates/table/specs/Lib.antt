@@ -1,10 +1,5 @@
 pub mod Numbers
 pub mod Stretches
 pub mod Moving
-pub mod MovableLines
 pub mod LinesFrom
-pub mod OneLine
-pub mod Skipping
-pub mod Looking
-pub mod GoodTable
 pub mod EditAlone

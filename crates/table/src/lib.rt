@@ -1,13 +1,5 @@
-// Line tables as numbers: read, written, checked, searched and moved.
-pub mod affected;
+// Line tables and events as numbers: read, written, and lines moved by an edit.
 pub mod edited;
 pub mod entries;
 pub mod events;
-mod in_step;
 pub mod moving;
-pub mod one_line;
-mod plain;
-mod runs;
-mod search;
-mod skipping;
-pub mod well_formed;

@@ -3,7 +3,7 @@
 use mathlib.Core.Path.{sym, _∙_}
 use borrow.Author.Needs.{needs}
 use Rattle.meaning.specs.declared.answers.Affected.the-variants as affecting
-use Rattle.table.specs.Looking.{look-says}
+use Rattle.look.specs.Looking.{look-says}
 use Rattle.again.specs.Answering.{refused-before}
 use Rattle.again.proofs.relay.lay_again.Statement.{statement}
 use Rattle.again.proofs.relay.lay_again.Tie as tie

@@ -6,7 +6,7 @@ use mathlib.Core.Path.{_∙_}
 use Rattle.unicode.specs.Decoding.{decodeAll}
 use Rattle.rows.specs.Standing.{StandsAt, textFront}
 use Rattle.again.specs.HeldRest.{resumedOf}
-use Rattle.table.specs.GoodTable.{table-room}
+use Rattle.look.specs.GoodTable.{table-room}
 use Rattle.again.specs.GoodRelay.{all-good, is-affected, short-part, rest-good, find-ready}
 use borrow.Author.Needs.{needs}
 use Rattle.again.proofs.relay.lay_lines.Statement.{statement}

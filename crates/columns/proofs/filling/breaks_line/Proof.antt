@@ -2,7 +2,7 @@
 -- Assumes nothing.
 use Rattle.basis.specs.Choice.{pick}
 use Rattle.basis.specs.Order.{tests}
-use Rattle.laws.specs.LineParts.{breaks}
+use Rattle.widths.specs.LineParts.{breaks}
 use Rattle.columns.proofs.filling.breaks_line.Statement.{statement}
 use Rattle.columns.proofs.filling.breaks_line.Tie as tie
 

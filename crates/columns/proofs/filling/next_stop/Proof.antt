@@ -6,7 +6,7 @@ use borrow.Author.Needs.{needs}
 use Rattle.basis.specs.Choice.{pick}
 use Rattle.basis.specs.Order.{tests}
 use Rattle.moves.specs.FineLaws.{next-stop}
-use Rattle.laws.specs.TabStops.{nextStop}
+use Rattle.widths.specs.TabStops.{nextStop}
 use Rattle.columns.proofs.filling.next_stop.Statement.{statement}
 use Rattle.columns.proofs.filling.next_stop.Tie as tie
 

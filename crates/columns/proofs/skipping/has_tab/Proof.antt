@@ -5,7 +5,7 @@ use native.Mathlib.Omega.{arith}
 use mathlib.Core.Path.{_≡_, refl, sym, _∙_}
 use borrow.Author.Needs.{needs}
 use lib.ListN.{length, drop}
-use Rattle.laws.specs.TabFree.{hasTab}
+use Rattle.widths.specs.TabFree.{hasTab}
 use Rattle.columns.specs.Tabs.{tab-found, tab-further, tab-nowhere}
 use Rattle.columns.proofs.skipping.has_tab.Statement.{statement}
 use Rattle.columns.proofs.skipping.has_tab.Tie as tie

@@ -3,7 +3,7 @@
 use mathlib.Core.Path.{refl, sym, ap, _∙_}
 use native.Mathlib.Omega.{arith}
 use borrow.Author.Needs.{needs}
-use Rattle.laws.specs.GlyphPlaces.{askedGlyphs}
+use Rattle.widths.specs.GlyphPlaces.{askedGlyphs}
 use Rattle.columns.specs.Skipping.{tabSkips, skips-none, skips-tabs, skips-glyphs}
 use Rattle.columns.proofs.skipping.skips_of.Statement.{statement}
 use Rattle.columns.proofs.skipping.skips_of.Tie as tie

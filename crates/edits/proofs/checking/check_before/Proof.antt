@@ -4,7 +4,7 @@ use mathlib.Core.Path.{sym, ap, _∙_}
 use borrow.Author.Needs.{needs}
 use Rattle.meaning.specs.Table.{entriesIn}
 use Rattle.meaning.specs.declared.refusals.Checked.{Checked}
-use Rattle.table.specs.Looking.{lookedOver, looked-bad}
+use Rattle.look.specs.Looking.{lookedOver, looked-bad}
 use Rattle.edits.specs.Checking.{settings-first, then-lent}
 use Rattle.edits.proofs.checking.check_before.Statement.{statement}
 use Rattle.edits.proofs.checking.check_before.Tie as tie

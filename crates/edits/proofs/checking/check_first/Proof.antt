@@ -4,8 +4,8 @@ use mathlib.Core.Path.{sym, _∙_}
 use native.Mathlib.Omega.{arith}
 use borrow.Author.Needs.{needs}
 use borrow.Author.Tests.{not-true, not-false}
-use Rattle.table.specs.GoodTable.{table-room}
-use Rattle.table.specs.Looking.{looked-line, looked-bad}
+use Rattle.look.specs.GoodTable.{table-room}
+use Rattle.look.specs.Looking.{looked-line, looked-bad}
 use Rattle.edits.specs.Checking.{no-line, bad-rest}
 use Rattle.edits.proofs.CheckLaws.{edit-length, edit-ends, edit-fits}
 use Rattle.edits.proofs.checking.check_first.Statement.{statement}

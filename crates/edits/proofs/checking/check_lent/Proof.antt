@@ -5,7 +5,7 @@ use borrow.Author.Needs.{needs}
 use Rattle.meaning.specs.Table.{entriesIn}
 use Rattle.meaning.specs.declared.refusals.Checked.{Checked}
 use Rattle.meaning.specs.declared.answers.Affected.the-variants as affecting
-use Rattle.table.specs.Looking.{lookedOver, look-says, looked-bad}
+use Rattle.look.specs.Looking.{lookedOver, look-says, looked-bad}
 use Rattle.edits.specs.Checking.{text-utf8, lent-long, lent-whole, lent-text, lent-table, lent-first}
 use Rattle.edits.proofs.checking.check_lent.Statement.{statement}
 use Rattle.edits.proofs.checking.check_lent.Tie as tie

@@ -4,8 +4,8 @@ use mathlib.Core.Path.{_≡_, sym, _∙_}
 use borrow.Author.Needs.{needs}
 use Rattle.meaning.specs.WellFormed.{checkTable}
 use Rattle.meaning.specs.declared.refusals.Checked.the-variants.{Good}
-use Rattle.table.specs.GoodTable.{table-room}
-use Rattle.table.specs.Looking.{look-says}
+use Rattle.look.specs.GoodTable.{table-room}
+use Rattle.look.specs.Looking.{look-says}
 use Rattle.edits.proofs.CheckLaws.{whole-none, whole-some}
 use Rattle.edits.proofs.checking.check_whole.Statement.{statement}
 use Rattle.edits.proofs.checking.check_whole.Tie as tie

@@ -9,7 +9,7 @@ use lib.ListN.{drop}
 use Rattle.meaning.specs.LayoutFile.{linesAt}
 use Rattle.meaning.specs.ReadFile.{linesIn}
 use Rattle.meaning.specs.WellFormed.{nothing, checkLines}
-use Rattle.table.specs.OneLine.{beforeOf}
+use Rattle.look.specs.OneLine.{beforeOf}
 use Rattle.files.proofs.lines.check_each.Statement.{statement}
 use Rattle.files.specs.Reading.{rowsFrom, rows-all, rows-done, row-good, row-bad}
 use Rattle.files.proofs.lines.check_each.Tie as tie

@@ -3,7 +3,7 @@
 use mathlib.Core.Path.{sym, ap, _∙_}
 use borrow.Author.Needs.{needs}
 use lib.ListN.{drop}
-use Rattle.laws.specs.FileNumbers.{numbers-count}
+use Rattle.files.specs.FileNumbers.{numbers-count}
 use Rattle.meaning.specs.Table.{entryNumbers, entryIn}
 use Rattle.files.proofs.lines.entry_at.Statement.{statement}
 use Rattle.files.specs.Putting.{filled}

@@ -3,7 +3,7 @@
 use mathlib.Core.Path.{sym, ap, _∙_}
 use borrow.Author.Needs.{needs}
 use lib.ListN.{drop}
-use Rattle.laws.specs.FileNumbers.{numbers-count}
+use Rattle.files.specs.FileNumbers.{numbers-count}
 use Rattle.meaning.specs.LayoutFile.{headerBytes, settingsNumbers}
 use Rattle.meaning.specs.ReadFile.{settingsIn, fileSettings}
 use Rattle.files.proofs.settings.file_settings.Statement.{statement}

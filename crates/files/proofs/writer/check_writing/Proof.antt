@@ -7,7 +7,7 @@ use borrow.Author.Needs.{needs}
 use Rattle.meaning.specs.Checks.{checkSettings}
 use Rattle.meaning.specs.WellFormed.{checkTable}
 use Rattle.meaning.specs.declared.refusals.Checked.the-variants.{Good}
-use Rattle.table.specs.GoodTable.{table-count}
+use Rattle.look.specs.GoodTable.{table-count}
 use Rattle.files.proofs.writer.check_writing.Statement.{statement}
 use Rattle.files.specs.WritingCalls.{settings-refused, table-refused, room-decides}
 use Rattle.files.proofs.writer.check_writing.Tie as tie

@@ -3,7 +3,7 @@
 use native.Mathlib.Omega.{arith}
 use mathlib.Core.Path.{sym, _∙_}
 use lib.Seq.{length-take-le}
-use Rattle.laws.specs.Choosing.{taken-within}
+use Rattle.paging.specs.ChosenPart.{taken-within}
 use Rattle.paging.specs.Choosing.{end-is, part-long, part-short}
 use borrow.Author.Needs.{needs}
 use Rattle.paging.proofs.choosing.chosen_part.Statement.{statement}

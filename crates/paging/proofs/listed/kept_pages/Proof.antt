@@ -2,7 +2,7 @@
 -- Assumes nothing.
 use native.Mathlib.Omega.{arith}
 use mathlib.Core.Path.{sym}
-use Rattle.laws.specs.PagesKept.{kept-some, kept-all}
+use Rattle.paging.specs.PagesKept.{kept-some, kept-all}
 use borrow.Author.Needs.{needs}
 use Rattle.paging.proofs.listed.kept_pages.Statement.{statement}
 use Rattle.paging.proofs.listed.kept_pages.Tie as tie

@@ -1,0 +1,13 @@
+pub mod EvenExamples
+pub mod EvenLines
+pub mod JustifiedLines
+pub mod PassSteps
+pub mod PrintEnds
+pub mod PrintedWords
+pub mod PrintsTell
+pub mod SamePrints
+pub mod SideBySide
+pub mod SimplePasses
+pub mod SpacesAtEdge
+pub mod SpacesBefore
+pub mod SpacesDrawn

@@ -1,0 +1,1 @@
+// Theorems about the spaces of justified lines, and where such a line ends (#113). Nothing here runs.

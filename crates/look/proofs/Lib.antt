@@ -1,0 +1,6 @@
+pub mod Judging
+pub mod LineByLine
+pub mod SkipTurns
+pub mod PlainTurns
+pub mod StepTurns
+pub mod SearchLaws
