@@ -1,12 +1,12 @@
 // The rest that the first affected line resumes, which fits.
 use edits::fitting::chars_before;
 use edits::fitting::rest_end;
+use look::one_line::has_no_rest;
 use meaning::counts::Chars;
 use meaning::counts::Offset;
 use meaning::line::Entry;
 use steps::ending::nothing_left;
 use steps::step::Resumed;
-use look::one_line::has_no_rest;
 ghost use Prim.Native.Nat.{_≤_};
 ghost use mathlib.Core.Path.{_≡_};
 ghost use mathlib.Core.Bool.{true};

@@ -1,7 +1,7 @@
 // The rest that the first affected line resumes: refusal 5 of it.
 use basis::numbers::less_wide;
-use meaning::line::Entry;
 use look::one_line::has_no_rest;
+use meaning::line::Entry;
 use unicode::text::count_chars;
 use unicode::text::is_boundary;
 ghost use mathlib.Core.Path.{_≡_};

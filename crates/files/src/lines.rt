@@ -2,6 +2,8 @@
 use crate::numbers::read_number;
 use crate::numbers::read_numbers;
 use checks::text::check_length;
+use look::one_line::LineBefore;
+use look::one_line::entry_good;
 use meaning::counts::Offset;
 use meaning::fields::HEADER_BYTES;
 use meaning::fields::LENGTH_AT;
@@ -15,8 +17,6 @@ use meaning::sizes::ENTRY_NUMBERS;
 use meaning::sizes::REACH;
 use meaning::sizes::REACH_LIMIT;
 use table::entries::read_entry;
-use look::one_line::LineBefore;
-use look::one_line::entry_good;
 ghost use Prim.Native.Nat.{_+_, _*_, _≤_};
 ghost use mathlib.Core.Path.{_≡_};
 ghost use mathlib.Core.List.{[], _∷_};

@@ -1,9 +1,9 @@
 // The line under a y (rule 11; refusal 5, refusal 10).
 use crate::halving::last_under;
 use crate::rising::check_index;
+use look::well_formed::check_table;
 use meaning::answers::FoundLine;
 use meaning::refusals::Checked;
-use look::well_formed::check_table;
 ghost use mathlib.Core.Path.{_≡_};
 ghost use Prim.Native.Nat.{_<_};
 ghost use lib.ListN.{length};

@@ -1,7 +1,5 @@
 // The first line that an edit affects, with all that can be refused of the edit and the table alone.
 // Refusal 3, refusal 5, refusal 6, laying again.
-use table::edited::Whole;
-use table::edited::edited_whole;
 use crate::well_formed::look_over;
 use crate::well_formed::text_length;
 use checks::text::check_length;
@@ -10,6 +8,8 @@ use meaning::counts::Offset;
 use meaning::edit::Edit;
 use meaning::refusals::Checked;
 use meaning::refusals::Refusal;
+use table::edited::Whole;
+use table::edited::edited_whole;
 ghost use mathlib.Core.Path.{_≡_};
 ghost use Rattle.meaning.specs.Calls.{affectedAnswer};
 ghost use Rattle.table.specs.EditAlone.{checkPlace};

@@ -1,5 +1,4 @@
 // Refusal 5: whether a table is well formed, in one look that finds the first affected line too.
-use table::entries::read_entry;
 use crate::one_line::LineBefore;
 use crate::one_line::entry_good;
 use crate::search::affected_from;
@@ -14,6 +13,7 @@ use meaning::sizes::BEFORE;
 use meaning::sizes::ENTRY_NUMBERS;
 use meaning::sizes::REACH;
 use meaning::sizes::REACH_LIMIT;
+use table::entries::read_entry;
 ghost use Prim.Native.Nat.{_*_, _≤_};
 ghost use mathlib.Core.Path.{_≡_};
 ghost use lib.ListN.{length};

@@ -1,10 +1,10 @@
 // The pages of a table's lines, written one after the other to a list (rule 10).
 use crate::counting::page_count;
+use look::well_formed::text_length;
 use meaning::counts::Offset;
 use meaning::page::Page;
 use meaning::sizes::ENTRY_NUMBERS;
 use meaning::sizes::PAGE_NUMBERS;
-use look::well_formed::text_length;
 ghost use Prim.Native.Nat.{_+_, _*_, _≤_, _<_};
 ghost use mathlib.Core.Path.{_≡_};
 ghost use lib.ListN.{length};
