@@ -20,10 +20,11 @@ use Rattle.meaning.specs.declared.line.Entry.{Entry}
 use Rattle.parser.specs.Lexing.{charsFrom}
 use Rattle.placing.specs.LineFrom.{heldIn}
 use Rattle.steps.specs.declared.step.Resumed.{Resumed}
-use Rattle.rows.specs.Standing.{StandsAt, textFront, StandReady, laidRow}
+use Rattle.rows.specs.Standing.{StandReady, laidRow}
+use Rattle.stands.specs.Stands.{StandsAt, textFront}
 use Rattle.rows.specs.RowsFrom.{rowsFrom, rowHere, front-rows, first-row, few-rows, last-row, more-rows, entriesFrom}
-use Rattle.rows.specs.declared.stand.Stand.{Stand}
-use Rattle.rows.specs.declared.line.LaidRow.{LaidRow}
+use Rattle.stands.specs.declared.stand.Stand.{Stand}
+use Rattle.stands.specs.declared.row.LaidRow.{LaidRow}
 use Rattle.again.specs.Behind.{restBehind, rest-behind}
 
 -- Before each line the old lines are looked at.

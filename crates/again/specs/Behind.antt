@@ -26,8 +26,8 @@ use Rattle.steps.specs.Pending.{RestFits}
 use Rattle.steps.specs.declared.step.Resumed.{Resumed}
 use Rattle.rows.specs.Standing.{StandReady, laidRow, entry-is}
 use Rattle.rows.specs.RowsFrom.{rowHere}
-use Rattle.rows.specs.declared.stand.Stand.{Stand}
-use Rattle.rows.specs.declared.line.LaidRow.{LaidRow}
+use Rattle.stands.specs.declared.stand.Stand.{Stand}
+use Rattle.stands.specs.declared.row.LaidRow.{LaidRow}
 
 -- Bytes put in front of everything, and no characters counted: the stand counts them.
 abbrev pub behind : ℕ → Shift

@@ -30,9 +30,10 @@ use Rattle.table.specs.LinesFrom.{linesFrom, lines-more}
 use Rattle.look.specs.GoodTable.{table-room, table-text, table-lines}
 use Rattle.table.specs.Moving.{AllMovable}
 use Rattle.look.specs.MovableLines.{table-movable, table-few}
-use Rattle.rows.specs.Standing.{StandsAt, textFront, StandReady, stand-ready}
+use Rattle.rows.specs.Standing.{StandReady, stand-ready}
+use Rattle.stands.specs.Stands.{StandsAt, textFront}
 use Rattle.rows.specs.GoodInput.{fine-settings}
-use Rattle.rows.specs.declared.stand.Stand.{Stand}
+use Rattle.stands.specs.declared.stand.Stand.{Stand}
 use Rattle.again.specs.Behind.{behind}
 use Rattle.again.specs.HeldRest.{resumedOf, resumed-held, resumed-fits}
 use Rattle.edits.specs.OldLines.{rises, affected-drop, kept-affected}

@@ -17,7 +17,7 @@ use Rattle.meaning.specs.declared.line.Rest.{Rest}
 use Rattle.meaning.specs.declared.line.Entry.{Entry}
 use Rattle.again.specs.Relaid.{countOf}
 use Rattle.rows.specs.RowsFrom.{rowsFrom}
-use Rattle.rows.specs.declared.stand.Stand.{Stand}
+use Rattle.stands.specs.declared.stand.Stand.{Stand}
 use Rattle.again.specs.AgainFrom.{untilKept, againFrom}
 
 -- The first of some lines, if there is one, starts behind the replaced bytes.

@@ -26,10 +26,10 @@ use Rattle.look.specs.GoodTable.{table-room, table-count}
 use Rattle.table.specs.declared.edited.Shift.{Shift}
 use Rattle.table.specs.Moving.{movedBy, linesMoved, AllMovable, Movable}
 use Rattle.look.specs.MovableLines.{table-movable}
-use Rattle.rows.specs.Standing.{StandsAt, textFront}
+use Rattle.stands.specs.Stands.{StandsAt, textFront}
 use Rattle.rows.specs.RowsFrom.{entriesFrom}
 use Rattle.rows.specs.Writing.{linesPut}
-use Rattle.rows.specs.declared.stand.Stand.{Stand}
+use Rattle.stands.specs.declared.stand.Stand.{Stand}
 use Rattle.again.specs.HeldRest.{resumedOf}
 use Rattle.edits.specs.OldLines.{lines-drop}
 use Rattle.again.specs.AgainFrom.{againFrom, few-laid, laid-first, laid-within}

@@ -20,9 +20,10 @@ use Rattle.again.specs.Relaid.{countOf}
 use Rattle.parser.specs.Lexing.{charsFrom}
 use Rattle.steps.specs.Lexed.{chars-within}
 use Rattle.table.specs.LinesFrom.{linesFrom}
-use Rattle.rows.specs.Standing.{StandsAt, StandReady, laidRow, ready-next, further}
-use Rattle.rows.specs.declared.stand.Stand.{Stand}
-use Rattle.rows.specs.declared.line.LaidRow.{LaidRow}
+use Rattle.rows.specs.Standing.{StandReady, laidRow, ready-next, further}
+use Rattle.stands.specs.Stands.{StandsAt}
+use Rattle.stands.specs.declared.stand.Stand.{Stand}
+use Rattle.stands.specs.declared.row.LaidRow.{LaidRow}
 use Rattle.again.specs.Behind.{restBehind, RestLow}
 use Rattle.edits.specs.Pointer.{Rising, Past, passing, meetsFirst, rising-drop, kept-after, passing-few, past-passing, met-first, none-met}
 use Rattle.again.specs.AgainFrom.{againFrom, few-laid, again-stop, again-last, again-more}

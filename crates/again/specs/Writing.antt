@@ -14,11 +14,12 @@ use Rattle.placing.specs.LineFrom.{lineAtOf, lineFrom}
 use Rattle.placing.specs.LineLaws.{entry-small}
 use Rattle.table.specs.Numbers.{putNumbers}
 use Rattle.table.specs.Moving.{MovableEntry, movedBy}
-use Rattle.rows.specs.Standing.{StandsAt, StandReady, laidRow, entry-is, ready-next}
+use Rattle.rows.specs.Standing.{StandReady, laidRow, entry-is, ready-next}
+use Rattle.stands.specs.Stands.{StandsAt}
 use Rattle.rows.specs.RowsFrom.{rowHere, entriesFrom, last-entry, more-entries}
 use Rattle.rows.specs.Writing.{linesPut, none-put, first-put}
-use Rattle.rows.specs.declared.stand.Stand.{Stand}
-use Rattle.rows.specs.declared.line.LaidRow.{LaidRow}
+use Rattle.stands.specs.declared.stand.Stand.{Stand}
+use Rattle.stands.specs.declared.row.LaidRow.{LaidRow}
 use Rattle.again.specs.Behind.{behind, row-behind}
 
 -- There are so many lines from a stand on, and the table has room for them from line k on.

@@ -10,7 +10,7 @@ use meaning::edit::Edit;
 use meaning::refusals::Refusal;
 use meaning::settings::Settings;
 use meaning::sizes::ENTRY_NUMBERS;
-use rows::stand::at_front;
+use stands::stand::at_front;
 use table::edited::Shift;
 use table::entries::read_entry;
 use table::moving::move_lines;

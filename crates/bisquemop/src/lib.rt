@@ -1,9 +1,56 @@
 // The calls for C. include/bisquemop.h says what each one does.
 use again::relay::lay_again;
+use c_files::reading_length;
+use c_files::reading_number;
+use c_files::reading_value;
+use c_files::writing_number;
+use c_files::writing_value;
+use c_given::settings_from;
+use c_lines::affected_number;
+use c_lines::affected_value;
+use c_lines::drawing_count;
+use c_lines::drawing_number;
+use c_lines::drawing_value;
+use c_lines::layout_number;
+use c_lines::layout_value;
+use c_lines::relay_count;
+use c_lines::relay_number;
+use c_lines::relay_value;
+use c_lines::tokens_number;
+use c_lines::tokens_value;
+use c_pages::choosing_left;
+use c_pages::choosing_number;
+use c_pages::choosing_value;
+use c_pages::choosing_which;
+use c_pages::fitting_number;
+use c_pages::fitting_value;
+use c_pages::paging_again_number;
+use c_pages::paging_again_value;
+use c_pages::paging_count;
+use c_pages::paging_number;
+use c_pages::paging_value;
+use c_pages::planning_number;
+use c_pages::planning_value;
+use c_places::find_number;
+use c_places::find_value;
+use c_places::frame_number;
+use c_places::frame_rest_count;
+use c_places::frame_rest_end;
+use c_places::frame_value;
+use c_places::height_number;
+use c_places::height_value;
+use c_places::index_number;
+use c_places::index_value;
+use c_places::open_number;
+use c_places::open_value;
+use c_places::put_y;
+use c_places::y_number;
+use c_places::y_value;
 use checks::refusals::checked_number;
 use checks::refusals::checked_value;
 use checks::settings::check_settings;
 use checks::text::check_text;
+use choosing::choosing::choose;
 use columns::fitting::columns_fit;
 use columns::planning::plan_columns;
 use files::reader::read_file;
@@ -20,58 +67,11 @@ use layout::fresh::layout;
 use look::affected::first_affected;
 use meaning::counts::Chars;
 use meaning::counts::Offset;
-use meaning::counts::Pixels;
 use meaning::edit::Edit;
 use meaning::line::Rest;
 use meaning::settings::Settings;
-use paging::choosing::choose;
 use paging::listed::lay_pages;
 use paging::listed::list_again;
-use replies::affected_number;
-use replies::affected_value;
-use replies::columned::fitting_number;
-use replies::columned::fitting_value;
-use replies::columned::planning_number;
-use replies::columned::planning_value;
-use replies::drawing_count;
-use replies::drawing_number;
-use replies::drawing_value;
-use replies::find_number;
-use replies::find_value;
-use replies::frame_number;
-use replies::frame_rest_count;
-use replies::frame_rest_end;
-use replies::frame_value;
-use replies::height_number;
-use replies::height_value;
-use replies::index_number;
-use replies::index_value;
-use replies::layout_number;
-use replies::layout_value;
-use replies::open_number;
-use replies::open_value;
-use replies::paged::choosing_left;
-use replies::paged::choosing_number;
-use replies::paged::choosing_value;
-use replies::paged::choosing_which;
-use replies::paged::paging_again_number;
-use replies::paged::paging_again_value;
-use replies::paged::paging_count;
-use replies::paged::paging_number;
-use replies::paged::paging_value;
-use replies::put_y;
-use replies::reading_length;
-use replies::reading_number;
-use replies::reading_value;
-use replies::relay_count;
-use replies::relay_number;
-use replies::relay_value;
-use replies::tokens_number;
-use replies::tokens_value;
-use replies::writing_number;
-use replies::writing_value;
-use replies::y_number;
-use replies::y_value;
 use tokenizer::tokenize::tokenize;
 ghost use mathlib.Core.Path.{_≡_};
 ghost use Rattle.meaning.specs.Settings.{settingsOf};
@@ -82,41 +82,6 @@ ghost use Rattle.meaning.specs.Calls.{tokensAnswer, tokensBuffer, layoutAnswer,
 ghost use Rattle.meaning.specs.PageCalls.{choosingAnswer, pagingAnswer, pagingTable, pagingList, pagingAgainAnswer, pagingAgainList};
 ghost use Rattle.meaning.specs.ColumnCalls.{fittingAnswer, planningAnswer};
 ghost use Rattle.bisquemop.specs.Edits.{editOf, restFrom};
-
-// The settings from the thirteen numbers that C passes.
-fn settings_from(
-    glyph: u32,
-    width: u32,
-    tab: u32,
-    spacing: u32,
-    paragraph: u32,
-    base: u32,
-    height: u32,
-    top: i32,
-    alignment: u32,
-    vertical: u32,
-    leading: u32,
-    trailing: u32,
-    wrap: u32,
-) -> Settings
-    ensures { λ r. ⌜ r ≡ settingsOf glyph width tab spacing paragraph base height top alignment vertical leading trailing wrap ⌝ }
-{
-    Settings {
-        glyph: Pixels(glyph),
-        width: Pixels(width),
-        tab: Pixels(tab),
-        spacing: Pixels(spacing),
-        paragraph: Pixels(paragraph),
-        base: Pixels(base),
-        height: Pixels(height),
-        top,
-        alignment,
-        vertical,
-        leading,
-        trailing,
-        wrap,
-    }
-}
 
 #[no_mangle]
 pub extern "C" fn bisquemop_check_settings(

@@ -14,7 +14,7 @@ use Rattle.parser.specs.declared.lexeme.Lexeme.{Lexeme}
 use Rattle.moves.specs.FineLaws.{times-bound}
 use Rattle.steps.specs.Lexed.{Lexes}
 use Rattle.steps.specs.Stepping.{aheadOf}
-use Rattle.steps.specs.declared.look.WidthAhead.{WidthAhead}
+use Rattle.steps.specs.declared.foreseen.WidthAhead.{WidthAhead}
 use Rattle.steps.specs.Ahead.{knownOf}
 use Rattle.steps.specs.KindLaws.{Ends}
 

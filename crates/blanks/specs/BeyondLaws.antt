@@ -30,9 +30,9 @@ use Rattle.steps.specs.Lexed.{counts-chars}
 use Rattle.steps.specs.Ready.{Standing, Ready, stepFrom}
 use Rattle.steps.specs.Ahead.{whiteWidth}
 use Rattle.steps.specs.Foreseeing.{White, Foresees, ForeseesAt, wideAt, Beyond, ForeseesAfter, LookReady}
-use Rattle.steps.specs.declared.look.Look.{Look}
-use Rattle.steps.specs.declared.look.Foreseen.{Foreseen}
-use Rattle.steps.specs.declared.look.Foreseen.the-variants.{Nothing, Known}
+use Rattle.steps.specs.declared.foreseen.Look.{Look}
+use Rattle.steps.specs.declared.foreseen.Foreseen.{Foreseen}
+use Rattle.steps.specs.declared.foreseen.Foreseen.the-variants.{Nothing, Known}
 use Rattle.steps.specs.declared.step.Stepped.the-variants.{Go}
 use Rattle.blanks.specs.LookLaws.{look-kept}
 use Rattle.blanks.specs.TabLaws.{tab-foresees, tab-went}

@@ -23,9 +23,9 @@ use Rattle.steps.specs.Stepping.{lookOf, steppedAt, tokOf}
 use Rattle.steps.specs.Ready.{Standing, Ready, stepFrom}
 use Rattle.steps.specs.Ahead.{whiteWidth}
 use Rattle.steps.specs.Foreseeing.{Foresees, ForeseesAfter}
-use Rattle.steps.specs.declared.look.Look.{Look}
-use Rattle.steps.specs.declared.look.Foreseen.{Foreseen}
-use Rattle.steps.specs.declared.look.Foreseen.the-variants.{Nothing, Known}
+use Rattle.steps.specs.declared.foreseen.Look.{Look}
+use Rattle.steps.specs.declared.foreseen.Foreseen.{Foreseen}
+use Rattle.steps.specs.declared.foreseen.Foreseen.the-variants.{Nothing, Known}
 use Rattle.steps.specs.declared.step.Stepped.the-variants.{Go}
 use Rattle.steps.specs.FitsLaws.{none-used}
 

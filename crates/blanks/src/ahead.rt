@@ -8,7 +8,7 @@ use moves::cursor::advanced;
 use moves::cursor::fits;
 use moves::space_config::spaces_after;
 use parser::lexeme::Lexeme;
-use steps::look::Foreseen;
+use steps::foreseen::Foreseen;
 ghost use Rattle.steps.specs.Foreseeing.{White, LookReady, ForeseesAfter};
 
 // The look from after white space that fits, on a line that is not empty: what the look from before it sees, where that is known.

@@ -13,7 +13,7 @@ use moves::measure::noted_space;
 use moves::place::moved_on;
 use moves::place::skips_space;
 use parser::lexeme::Lexeme;
-use steps::look::Foreseen;
+use steps::foreseen::Foreseen;
 use steps::step::Stepped;
 ghost use mathlib.Core.Path.{_≡_};
 ghost use Rattle.meaning.specs.declared.tokens.TokenKind.the-variants.{Tab};

@@ -11,7 +11,7 @@ use meaning::settings::Settings;
 use meaning::tokens::TokenKind;
 use parser::lexeme::Lexeme;
 use steps::ending::ends_before;
-use steps::look::Foreseen;
+use steps::foreseen::Foreseen;
 use steps::step::Stepped;
 use steps::words::on_word;
 ghost use mathlib.Core.Path.{_≡_};

@@ -18,8 +18,9 @@ use Rattle.meaning.specs.declared.refusals.Checked.the-variants.{Good, Refused}
 use Rattle.moves.specs.Fine.{FineSettings}
 use Rattle.rows.specs.RowsFrom.{TextReady, entriesOf}
 use Rattle.columns.specs.OtherWidths.{ready-with}
-use Rattle.clues.specs.Summing.{Room, Of, of-room, of-one, Narrow, EachOf, addedTo, each-length, each-at, narrow-at}
-use Rattle.clues.specs.Sums.{sumNumbers, sumAt, putSum, sumsOf, sums-length, sums-at, sums-put}
+use Rattle.clues.specs.Summing.{Of, of-room, of-one, Narrow, EachOf, addedTo, each-length, each-at, narrow-at}
+use Rattle.month_figures.specs.Rooms.{Room}
+use Rattle.month_figures.specs.Sums.{sumNumbers, sumAt, putSum, sumsOf, sums-length, sums-at, sums-put}
 
 -- What adding a text takes for granted.
 pub record AllReady (s : Settings) (t : List ℕ) (k : Checked) (ws : List ℕ) (fs : List Figures) : Type 0 where

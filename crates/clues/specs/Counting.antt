@@ -14,7 +14,7 @@ use Rattle.meaning.specs.declared.refusals.Checked.{Checked}
 use Rattle.parser.specs.GoodText.{good-length}
 use Rattle.moves.specs.Fine.{FineSettings}
 use Rattle.clues.specs.Summing.{Narrow, EachOf, addedTo, each-more}
-use Rattle.clues.specs.Sums.{sumNumbers, sumsOf}
+use Rattle.month_figures.specs.Sums.{sumNumbers, sumsOf}
 use Rattle.clues.specs.Adding.{EachReady}
 use Rattle.clues.specs.Gathering.{withClue, withClues}
 use Rattle.clues.specs.Feeds.{beforeFeed, ended-line, before-most}

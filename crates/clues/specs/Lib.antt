@@ -1,7 +1,6 @@
 pub mod FigureBounds
 pub mod Tallying
 pub mod Summing
-pub mod Sums
 pub mod Adding
 pub mod Gathering
 pub mod Feeds

@@ -21,18 +21,10 @@ use Rattle.meaning.specs.declared.refusals.Checked.the-variants.{Good, Refused}
 use Rattle.moves.specs.Fine.{FineSettings}
 use Rattle.rows.specs.RowsFrom.{TextReady, entriesOf, few-entries}
 use Rattle.clues.specs.FigureBounds.{broken-few, dropped-few}
-use Rattle.clues.specs.Tallying.{one-most}
+use Rattle.month_figures.specs.Rooms.{Room}
+use Rattle.month_figures.specs.Tallies.{one-most}
 
 -- ---- no sum wraps
-
--- The sums of two fit 64 bits.
-pub record Room (f g : Figures) : Type 0 where
-  pub texts : f .texts + g .texts < 2 ^ 64
-  pub lines : f .lines + g .lines < 2 ^ 64
-  pub broken : f .broken + g .broken < 2 ^ 64
-  pub dropped : f .dropped + g .dropped < 2 ^ 64
-  pub long : f .long + g .long < 2 ^ 64
-  pub invalid : f .invalid + g .invalid < 2 ^ 64
 
 -- Figures of so many texts: each text has at most one line more than the most bytes of a text, and drops at most as many characters.
 pub record Of (n : ℕ) (f : Figures) : Type 0 where

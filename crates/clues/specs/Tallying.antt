@@ -7,35 +7,22 @@ use mathlib.Core.Bool.{true, false}
 use mathlib.Core.List.{List, [], _∷_}
 use lib.Dec.{eqb}
 use lib.ListN.{length}
-use Rattle.basis.specs.Choice.{pick, pick-cases}
+use Rattle.basis.specs.Choice.{pick}
 use Rattle.meaning.specs.Checks.{textLimit}
 use Rattle.meaning.specs.Month.{brokenIn, droppedIn, figuresBy}
 use Rattle.meaning.specs.declared.settings.Settings.{Settings}
-use Rattle.meaning.specs.declared.figures.Figures.{Figures}
 use Rattle.meaning.specs.declared.line.Entry.{Entry}
 use Rattle.meaning.specs.declared.refusals.Checked.the-variants.{Good}
 use Rattle.steps.specs.Unrolled.{nothingResumed}
-use Rattle.rows.specs.Standing.{StandsAt, textFront, laidRow}
+use Rattle.rows.specs.Standing.{laidRow}
+use Rattle.stands.specs.Stands.{StandsAt, textFront}
 use Rattle.rows.specs.RowsFrom.{TextReady, entriesOf, entriesFrom, all-entries, entry-here, few-entries, last-entry, more-entries}
 use Rattle.rows.specs.Turns.{Counted, count-start, count-low, count-last, count-more}
-use Rattle.rows.specs.declared.stand.Stand.{Stand}
-use Rattle.rows.specs.declared.line.LaidRow.{LaidRow}
+use Rattle.stands.specs.declared.stand.Stand.{Stand}
+use Rattle.stands.specs.declared.row.LaidRow.{LaidRow}
 use Rattle.clues.specs.FigureBounds.{broken-few, dropped-few}
-use Rattle.clues.specs.declared.tally.Tally.{Tally}
-
-abbrev pub noLines : Tally
-noLines = record { lines = 0; broken = 0; dropped = 0 }
-
-unfoldable pub withLine : Tally → (ending dropped : ℕ) → Tally
-withLine y ending dropped =
-    record { lines = y .lines + 1; broken = y .broken + pick (eqb ending 3) 1 0; dropped = y .dropped + dropped }
-
-pub one-most : (a b : ℕ) → pick (eqb a b) 1 0 ≤ 1
-one-most a b = pick-cases (λ (n : ℕ). n ≤ 1) (eqb a b) (λ _. omega arith) (λ _. omega arith)
-
-unfoldable pub tallyFigures : Tally → Figures
-tallyFigures y =
-    record { texts = 1; lines = y .lines; broken = y .broken; dropped = y .dropped; long = 0; invalid = 0; most = y .lines }
+use Rattle.month_figures.specs.declared.counted.Tally.{Tally}
+use Rattle.month_figures.specs.Tallies.{noLines, withLine, tallyFigures}
 
 -- So much is counted, and the other lines are laid from a stand on.
 pub record Tallied (s : Settings) (t : List ℕ) (y : Tally) (p : Stand) : Type 0 where

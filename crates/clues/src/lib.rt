@@ -3,5 +3,4 @@ pub mod each;
 pub mod feeds;
 pub mod one;
 pub mod stream;
-pub mod sums;
 pub mod tally;

@@ -7,7 +7,7 @@ ghost use Prim.Native.Nat.{_+_, _≤_, _<_};
 ghost use mathlib.Core.Path.{_≡_};
 ghost use lib.ListN.{length, take};
 ghost use Rattle.meaning.specs.Month.{mostClues};
-ghost use Rattle.clues.specs.Sums.{sumsOf};
+ghost use Rattle.month_figures.specs.Sums.{sumsOf};
 ghost use Rattle.clues.specs.Gathering.{withClue};
 ghost use Rattle.clues.specs.Counting.{Counts, Passed};
 

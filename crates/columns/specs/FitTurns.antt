@@ -18,11 +18,12 @@ use Rattle.meaning.specs.declared.settings.Settings.{Settings}
 use Rattle.meaning.specs.declared.line.Entry.{Entry}
 use Rattle.parser.specs.Lexing.{charsFrom}
 use Rattle.steps.specs.Unrolled.{nothingResumed}
-use Rattle.rows.specs.Standing.{StandsAt, textFront, StandReady, laidRow, ready-next}
+use Rattle.rows.specs.Standing.{StandReady, laidRow, ready-next}
+use Rattle.stands.specs.Stands.{StandsAt, textFront}
 use Rattle.rows.specs.RowsFrom.{rowHere, TextReady, entriesOf, first-row, entriesFrom, all-entries, entry-here, some-entries, last-entry, more-entries}
 use Rattle.rows.specs.Turns.{start-ready}
-use Rattle.rows.specs.declared.stand.Stand.{Stand}
-use Rattle.rows.specs.declared.line.LaidRow.{LaidRow}
+use Rattle.stands.specs.declared.stand.Stand.{Stand}
+use Rattle.stands.specs.declared.row.LaidRow.{LaidRow}
 
 -- ---- lines that fit
 

@@ -26,7 +26,7 @@ use Rattle.steps.specs.Running.{PassReady}
 use Rattle.steps.specs.Stopping.{wordPlace}
 use Rattle.strides.specs.Strides.{waitingAt, Waits}
 use Rattle.steps.specs.Foreseeing.{ForeseesFrom}
-use Rattle.steps.specs.declared.look.Foreseen.{Foreseen}
+use Rattle.steps.specs.declared.foreseen.Foreseen.{Foreseen}
 use Rattle.steps.specs.declared.step.Resumed.{Resumed}
 use Rattle.strides.specs.declared.going.Waiting.{Waiting}
 use Rattle.steps.specs.WordLaws.{wordAt}

@@ -36,7 +36,7 @@ use Rattle.steps.specs.Runs.{wholeAnswer, cutAnswer}
 use Rattle.steps.specs.Running.{PassReady}
 use Rattle.steps.specs.Stopping.{wordPlace}
 use Rattle.strides.specs.Strides.{Waits}
-use Rattle.steps.specs.declared.look.Look.{Look}
+use Rattle.steps.specs.declared.foreseen.Look.{Look}
 use Rattle.strides.specs.declared.going.Waiting.{Waiting}
 use Rattle.steps.specs.declared.step.Stepped.the-variants.{Go}
 use Rattle.steps.specs.DrawLaws.{whole-drawn, whole-hidden}

@@ -10,7 +10,7 @@ use meaning::cursor::Place;
 use meaning::line::EventKind;
 use meaning::settings::Settings;
 use parser::marks::mark_len;
-use steps::look::Foreseen;
+use steps::foreseen::Foreseen;
 use steps::step::Resumed;
 use strides::marks::Joined;
 use strides::marks::next_joined;

@@ -16,7 +16,7 @@ use parser::lexeme::Lexed;
 use steps::ending::nothing_left;
 use steps::first::Known;
 use steps::first::first_token;
-use steps::look::Foreseen;
+use steps::foreseen::Foreseen;
 use steps::step::Resumed;
 ghost use Prim.Native.Nat.{_+_};
 ghost use mathlib.Core.Path.{_≡_};

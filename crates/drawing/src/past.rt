@@ -10,7 +10,7 @@ use parser::lexeme::Lexeme;
 use prints::tokens::draw_token;
 use prints::words::draw_cut;
 use prints::words::draw_whole;
-use steps::look::Foreseen;
+use steps::foreseen::Foreseen;
 use steps::step::Stepped;
 use steps::words::word_place;
 ghost use mathlib.Core.Path.{_≡_};

@@ -10,7 +10,7 @@ use meaning::cursor::Place;
 use meaning::line::EventKind;
 use meaning::settings::Settings;
 use pairs::pair::pair_at;
-use steps::look::Foreseen;
+use steps::foreseen::Foreseen;
 use steps::step::Resumed;
 use strides::first::First;
 use strides::first::first_taken;

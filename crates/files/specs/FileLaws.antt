@@ -20,8 +20,8 @@ use Rattle.meaning.specs.declared.line.Entry.{Entry}
 use Rattle.meaning.specs.declared.refusals.Refusal.the-variants.{BadField}
 use Rattle.meaning.specs.declared.refusals.Checked.the-variants.{Good, Refused}
 use Rattle.laws.specs.TableLaws.{values, values-are}
-use Rattle.files.specs.FileNumbers.{Below, Bytes, Words, number-read, number-bytes, bytes-read, words-bytes, words-read, below-drop, below-at, numbers-count, numbers-small, numbers-written, signed-bits, bits-signed}
-use Rattle.files.specs.FileFields.{field-found, field-over, field-length, Found, found, field-written, lines-length, lines-found, EntryWords, lines-read, Lined, good-lined}
+use Rattle.file_fields.specs.FileNumbers.{Below, Bytes, Words, number-read, number-bytes, bytes-read, words-bytes, words-read, below-drop, below-at, numbers-count, numbers-small, numbers-written, signed-bits, bits-signed}
+use Rattle.file_fields.specs.FileFields.{field-found, field-over, field-length, Found, found, field-written, lines-length, lines-found, EntryWords, lines-read, Lined, good-lined}
 
 -- ---- settings
 

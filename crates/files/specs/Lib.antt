@@ -1,12 +1,8 @@
-pub mod Putting
 pub mod Writing
 pub mod Tests
 pub mod WritingCalls
-pub mod Fields
 pub mod Reading
 pub mod Known
 pub mod ReadingCalls
 pub mod RoundTrip
-pub mod FileNumbers
-pub mod FileFields
 pub mod FileLaws

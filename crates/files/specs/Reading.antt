@@ -25,7 +25,7 @@ use Rattle.meaning.specs.declared.refusals.Checked.{Checked}
 use Rattle.meaning.specs.declared.refusals.Checked.the-variants.{Good, Refused}
 use Rattle.laws.specs.TableLaws.{numbers-read, all-append, entries-numbers}
 use Rattle.laws.specs.TestOrder.{first-alone}
-use Rattle.files.specs.FileNumbers.{numbers-count}
+use Rattle.file_fields.specs.FileNumbers.{numbers-count}
 use Rattle.table.specs.Numbers.{putNumbers}
 use Rattle.table.specs.Stretches.{join-behind}
 use Rattle.look.specs.OneLine.{lineGood, isLast, line-good}

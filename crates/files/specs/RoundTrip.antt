@@ -30,8 +30,8 @@ use Rattle.meaning.specs.declared.answers.FileRead.the-variants as fileread
 use Rattle.laws.specs.GoodChecks.{length-good, room-good}
 use Rattle.laws.specs.GoodLines.{good-both}
 use Rattle.laws.specs.TableLaws.{entries-length, entries-numbers, entries-written, written-length, numbers-read, capacity-is}
-use Rattle.files.specs.FileNumbers.{Bytes, Words, below-take, below-drop}
-use Rattle.files.specs.FileFields.{EntryWords}
+use Rattle.file_fields.specs.FileNumbers.{Bytes, Words, below-take, below-drop}
+use Rattle.file_fields.specs.FileFields.{EntryWords}
 use Rattle.files.specs.FileLaws.{SettingsWords, file-found, settings-read, length-read, entries-read, file-written}
 use Rattle.laws.specs.GoodChecks.{has-room, room-is}
 use Rattle.look.specs.GoodTable.{table-room, table-text}

@@ -13,12 +13,12 @@ use Rattle.meaning.specs.LayoutFile.{headerBytes, numberBytes, settingsNumbers,
 use Rattle.meaning.specs.declared.settings.Settings.{Settings}
 use Rattle.meaning.specs.declared.line.Entry.{Entry}
 use Rattle.laws.specs.TableLaws.{all-numbers, all-append, entries-length, numbers-read}
-use Rattle.files.specs.FileNumbers.{number-bytes, words-bytes}
-use Rattle.files.specs.FileFields.{field-length, line-body, line-length, lines-length}
+use Rattle.file_fields.specs.FileNumbers.{number-bytes, words-bytes}
+use Rattle.file_fields.specs.FileFields.{field-length, line-body, line-length, lines-length}
 use Rattle.files.specs.FileLaws.{settings-body}
 use Rattle.table.specs.Numbers.{putNumbers, put-length}
 use Rattle.table.specs.Stretches.{join-behind, entries-last}
-use Rattle.files.specs.Putting.{put-field}
+use Rattle.file_fields.specs.Putting.{put-field}
 
 -- A header, and behind it what it says.
 abbrev header : (tag size : ℕ) → List ℕ

@@ -23,7 +23,7 @@ use Rattle.files.specs.FileLaws.{file-length}
 use Rattle.laws.specs.GoodChecks.{room-is}
 use Rattle.look.specs.GoodTable.{table-room, table-count}
 use Rattle.table.specs.Numbers.{putNumbers}
-use Rattle.files.specs.Putting.{put-written}
+use Rattle.file_fields.specs.Putting.{put-written}
 use Rattle.files.specs.Tests.{stops, passes, both-good}
 
 module _ (s : Settings) (table : List ℕ) (lines : ℕ) where

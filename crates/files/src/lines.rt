@@ -1,7 +1,7 @@
 // The lines of a file: checked where they stand, and written to a table (refusal 3, refusal 5).
-use crate::numbers::read_number;
-use crate::numbers::read_numbers;
 use checks::text::check_length;
+use file_fields::numbers::read_number;
+use file_fields::numbers::read_numbers;
 use look::one_line::LineBefore;
 use look::one_line::entry_good;
 use meaning::counts::Offset;

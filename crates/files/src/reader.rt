@@ -3,12 +3,12 @@
 use crate::lines::check_lines_read;
 use crate::lines::file_length;
 use crate::lines::write_table;
-use crate::order::check_fields;
 use crate::settings::check_known;
 use crate::settings::file_settings;
 use crate::settings::hand_out;
 use checks::refusals::number;
 use checks::room::check_room;
+use file_fields::order::check_fields;
 use meaning::answers::FileRead;
 use meaning::fields::FRAME_BYTES;
 use meaning::fields::LINE_BYTES;

@@ -1,9 +1,9 @@
 // Settings as thirteen numbers, read from a file and handed out (refusal 1, refusal 2, refusal 8, refusal 12).
-use crate::numbers::read_numbers;
-use crate::signs::bits_of;
-use crate::signs::signed_of;
 use checks::room::check_room;
 use checks::settings::check_settings;
+use file_fields::numbers::read_numbers;
+use file_fields::signs::bits_of;
+use file_fields::signs::signed_of;
 use meaning::counts::Pixels;
 use meaning::fields::HEADER_BYTES;
 use meaning::refusals::Checked;

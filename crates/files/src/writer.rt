@@ -1,10 +1,10 @@
 // A layout written to a file, field after field (refusal 1, refusal 2, refusal 5, refusal 8).
-use crate::fields::write_header;
-use crate::numbers::write_number;
-use crate::numbers::write_numbers;
 use crate::settings::numbers_of;
 use checks::room::check_room;
 use checks::settings::check_settings;
+use file_fields::fields::write_header;
+use file_fields::numbers::write_number;
+use file_fields::numbers::write_numbers;
 use look::well_formed::check_table;
 use look::well_formed::text_length;
 use meaning::answers::FileWritten;

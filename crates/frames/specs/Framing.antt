@@ -38,9 +38,10 @@ use Rattle.placing.specs.LineFrom.{LineAt, heldIn, lineAtOf, lineFrom}
 use Rattle.placing.specs.Laying.{LineReady, restIn, rest-in}
 use Rattle.placing.specs.LineLaws.{next-start, next-held, next-chars, next-rest}
 use Rattle.table.specs.Numbers.{putNumbers}
-use Rattle.rows.specs.Standing.{StandsAt, lineAt, laidRow}
-use Rattle.rows.specs.declared.stand.Stand.{Stand}
-use Rattle.rows.specs.declared.line.LaidRow.{LaidRow}
+use Rattle.rows.specs.Standing.{lineAt, laidRow}
+use Rattle.stands.specs.Stands.{StandsAt}
+use Rattle.stands.specs.declared.stand.Stand.{Stand}
+use Rattle.stands.specs.declared.row.LaidRow.{LaidRow}
 use Rattle.rows.specs.GoodInput.{fine-settings}
 use Rattle.frames.specs.Resuming.{resumedIn, good-start, good-above, good-end, good-count, resumes-none, resumes-some}
 

@@ -41,3 +41,6 @@ pub mod TestOrder
 pub mod TokenLaws
 pub mod TokensAgree
 pub mod WellFormedLayout
+pub mod PageBoundaries
+pub mod PageLaws
+pub mod PageStretches

@@ -26,8 +26,8 @@ use Rattle.placing.specs.Plain.{leftOf, endedEntry, plainEntry, EndedRow, Found
 use Rattle.placing.specs.declared.told.ToldRow.{ToldRow}
 use Rattle.rows.specs.Standing.{StandReady, isLast, lineAt, laidRow}
 use Rattle.rows.specs.Found.{plainStand, foundRow, found-step, found-next, found-fits, rows-here}
-use Rattle.rows.specs.declared.stand.Stand.{Stand}
-use Rattle.rows.specs.declared.line.LaidRow.{LaidRow}
+use Rattle.stands.specs.declared.stand.Stand.{Stand}
+use Rattle.stands.specs.declared.row.LaidRow.{LaidRow}
 use Rattle.layout.specs.EventsFrom.{eventsOf, eventsAfter, lineEvents, DrawReady, one-drawn, more-drawn, place-room, place-events, place-length}
 use Rattle.layout.specs.DrawTurns.{Drew, line-room}
 use Rattle.layout.specs.DrawGoing.{DrewTo, FewFrom}

@@ -9,7 +9,7 @@ use Rattle.meaning.specs.Checks.{textLimit}
 use Rattle.meaning.specs.declared.settings.Settings.{Settings}
 use Rattle.table.specs.Numbers.{putEvents}
 use Rattle.rows.specs.Standing.{StandReady}
-use Rattle.rows.specs.declared.stand.Stand.{Stand}
+use Rattle.stands.specs.declared.stand.Stand.{Stand}
 use Rattle.layout.specs.EventsFrom.{eventsAfter, few-events}
 use Rattle.layout.specs.DrawTurns.{Drew}
 

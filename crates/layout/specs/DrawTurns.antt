@@ -19,11 +19,12 @@ use Rattle.placing.specs.LineFrom.{heldIn, lineAtOf, lineFrom}
 use Rattle.placing.specs.LineLaws.{placed-fine}
 use Rattle.ink.specs.Sheet.{put-append}
 use Rattle.drawing.specs.PassDrawn.{DrawRoom}
-use Rattle.rows.specs.Standing.{StandsAt, textFront, StandReady, lineAt, laidRow, entry-is, ready-next}
+use Rattle.rows.specs.Standing.{StandReady, lineAt, laidRow, entry-is, ready-next}
+use Rattle.stands.specs.Stands.{StandsAt, textFront}
 use Rattle.rows.specs.RowsFrom.{TextReady}
 use Rattle.rows.specs.Turns.{start-ready}
-use Rattle.rows.specs.declared.stand.Stand.{Stand}
-use Rattle.rows.specs.declared.line.LaidRow.{LaidRow}
+use Rattle.stands.specs.declared.stand.Stand.{Stand}
+use Rattle.stands.specs.declared.row.LaidRow.{LaidRow}
 use Rattle.layout.specs.EventsFrom.{eventsOf, eventsAfter, placeIn, lineEvents, DrawReady, all-events, few-events, one-drawn, more-drawn}
 
 -- So far k events are put into the buffer ev₀, which is ev now: what is put when those that are left are put stays the same.

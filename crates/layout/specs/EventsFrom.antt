@@ -29,10 +29,11 @@ use Rattle.placing.specs.LineFrom.{lineAtOf, lineFrom}
 use Rattle.drawing.specs.Drawn.{drawnFrom, eventsFrom}
 use Rattle.drawing.specs.PassDrawn.{DrawRoom}
 use Rattle.drawing.specs.DrawnBounds.{line-few}
-use Rattle.rows.specs.Standing.{StandsAt, textFront, StandReady, laidRow, entry-is}
+use Rattle.rows.specs.Standing.{StandReady, laidRow, entry-is}
+use Rattle.stands.specs.Stands.{StandsAt, textFront}
 use Rattle.rows.specs.RowsFrom.{rowsFrom, rowHere, front-rows, last-row, more-rows}
-use Rattle.rows.specs.declared.stand.Stand.{Stand}
-use Rattle.rows.specs.declared.line.LaidRow.{LaidRow}
+use Rattle.stands.specs.declared.stand.Stand.{Stand}
+use Rattle.stands.specs.declared.row.LaidRow.{LaidRow}
 
 -- The events of a text, and those of its lines from a stand on.
 unfoldable pub eventsOf : Settings → List ℕ → List Event

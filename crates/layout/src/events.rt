@@ -2,9 +2,9 @@
 use crate::found::draw_on;
 use crate::line::draw_line;
 use meaning::settings::Settings;
-use rows::stand::at_start;
 use rows::stand::lay_row;
-use rows::stand::next_stand;
+use stands::stand::at_start;
+use stands::stand::next_stand;
 use table::entries::write_entry;
 ghost use Prim.Native.Nat.{_*_, _≤_};
 ghost use mathlib.Core.Path.{_≡_};

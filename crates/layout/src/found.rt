@@ -13,7 +13,7 @@ use placing::told::told_row;
 use rows::found::is_known;
 use rows::line::is_last;
 use rows::plain::plain_stand;
-use rows::stand::Stand;
+use stands::stand::Stand;
 use table::entries::write_entry;
 ghost use Prim.Native.Nat.{_+_, _*_, _/_, _≤_};
 ghost use mathlib.Core.Path.{_≡_};

@@ -4,7 +4,7 @@ use meaning::cursor::Spaces;
 use meaning::line::Entry;
 use meaning::settings::Settings;
 use moves::place::start_place;
-use rows::stand::Stand;
+use stands::stand::Stand;
 ghost use Prim.Native.Nat.{_+_};
 ghost use mathlib.Core.Path.{_≡_};
 ghost use lib.ListN.{length};

@@ -3,4 +3,3 @@ pub mod LineByLine
 pub mod SkipTurns
 pub mod PlainTurns
 pub mod StepTurns
-pub mod SearchLaws

@@ -22,7 +22,7 @@ use Rattle.look.specs.OneLine.{startFits, restStands, countFits, endingA
 use Rattle.look.specs.Skipping.{before, GoodLine, PlainLine, PlainLines, checkFrom, Skipped}
 use Rattle.table.proofs.Reading.{entryFrom, entry-from}
 use Rattle.look.proofs.LineByLine.{line-checked, line-bad}
-use Rattle.look.proofs.SearchLaws.{search-past, search-met}
+use Rattle.table.proofs.SearchLaws.{search-past, search-met}
 
 -- A test that failed says nothing.
 Holds : Bool → Type 0

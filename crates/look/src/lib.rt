@@ -4,6 +4,5 @@ mod in_step;
 pub mod one_line;
 mod plain;
 mod runs;
-mod search;
 mod skipping;
 pub mod well_formed;

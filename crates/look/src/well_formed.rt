@@ -1,7 +1,6 @@
 // Refusal 5: whether a table is well formed, in one look that finds the first affected line too.
 use crate::one_line::LineBefore;
 use crate::one_line::entry_good;
-use crate::search::affected_from;
 use crate::skipping::skip_good;
 use basis::numbers::lesser;
 use meaning::answers::Affected;
@@ -14,6 +13,7 @@ use meaning::sizes::ENTRY_NUMBERS;
 use meaning::sizes::REACH;
 use meaning::sizes::REACH_LIMIT;
 use table::entries::read_entry;
+use table::search::affected_from;
 ghost use Prim.Native.Nat.{_*_, _≤_};
 ghost use mathlib.Core.Path.{_≡_};
 ghost use lib.ListN.{length};

@@ -17,7 +17,7 @@ use Rattle.meaning.specs.declared.refusals.Checked.the-variants.{Good, Refused}
 use Rattle.checks.specs.TextLaws.{too-long}
 use Rattle.moves.specs.Fine.{FineSettings}
 use Rattle.clues.specs.Summing.{Of, Narrow, EachOf, addedTo, each-more}
-use Rattle.clues.specs.Sums.{sumNumbers, sumAt, sumsFrom, sumsOf}
+use Rattle.month_figures.specs.Sums.{sumNumbers, sumAt, sumsFrom, sumsOf}
 use Rattle.clues.specs.Adding.{EachReady}
 use Rattle.clues.specs.Gathering.{withClue, noneYet}
 use Rattle.clues.specs.Feeds.{beforeFeed, before-most, ended-line}

@@ -14,7 +14,7 @@ use Rattle.meaning.specs.Checks.{textLimit}
 use Rattle.meaning.specs.Month.{mostClues}
 use Rattle.meaning.specs.declared.settings.Settings.{Settings}
 use Rattle.meaning.specs.declared.figures.Figures.{Figures}
-use Rattle.clues.specs.Sums.{sumsOf}
+use Rattle.month_figures.specs.Sums.{sumsOf}
 use Rattle.clues.specs.Counting.{counting, Passed}
 use Rattle.clues.specs.declared.stream.Ended.{Ended}
 use Rattle.month.specs.Pending.{longClue, pending, blockOf, ending, NoFeed, long-long, long-feed, long-same, full-same, pending-short, pending-long, block-short, block-long, ending-of}

@@ -20,7 +20,7 @@ use Rattle.meaning.specs.declared.refusals.Checked.{Checked}
 use Rattle.meaning.specs.declared.refusals.Checked.the-variants.{Refused}
 use Rattle.checks.specs.TextLaws.{too-long}
 use Rattle.clues.specs.Summing.{addedTo}
-use Rattle.clues.specs.Sums.{sumsOf}
+use Rattle.month_figures.specs.Sums.{sumsOf}
 use Rattle.clues.specs.Gathering.{withClue, withClues}
 use Rattle.clues.specs.Feeds.{beforeFeed}
 use Rattle.clues.specs.Counting.{counting}

@@ -12,7 +12,7 @@ use Rattle.basis.specs.Order.{by-eq}
 use Rattle.meaning.specs.Month.{mostClues, streamLines, cluesIn, monthOf}
 use Rattle.meaning.specs.declared.settings.Settings.{Settings}
 use Rattle.meaning.specs.declared.figures.Figures.{Figures}
-use Rattle.clues.specs.Sums.{sumsOf}
+use Rattle.month_figures.specs.Sums.{sumsOf}
 use Rattle.clues.specs.Gathering.{withClue, withClues, noneYet, month-is}
 use Rattle.clues.specs.Feeds.{beforeFeed}
 use Rattle.clues.specs.Counting.{counting}

@@ -14,8 +14,8 @@ use Rattle.clues.specs.Summing.{Narrow}
 use Rattle.console.specs.Digits.{decimalIn, AtMost, decimal-most}
 use Rattle.console.specs.declared.digits.Decimal.{Decimal}
 use Rattle.console.specs.declared.digits.Decimal.the-variants.{Number, NoNumber}
-use Rattle.month.specs.declared.widths.Widths.{Widths}
-use Rattle.month.specs.declared.widths.Widths.the-variants.{Listed, Bad, Unread}
+use Rattle.month.specs.declared.width_lines.Widths.{Widths}
+use Rattle.month.specs.declared.width_lines.Widths.the-variants.{Listed, Bad, Unread}
 
 -- A line: an empty one is none, and one of more than 4 bytes.
 unfoldable pub widthOf : (line : List ℕ) → Decimal

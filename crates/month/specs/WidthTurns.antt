@@ -13,7 +13,7 @@ use Rattle.meaning.specs.Month.{streamLines}
 use Rattle.clues.specs.Feeds.{beforeFeed, line-off}
 use Rattle.console.specs.declared.digits.Decimal.the-variants.{Number, NoNumber}
 use Rattle.month.specs.WidthFile.{widthOf, widthsFrom, widthsIn, listed, listedIn, Held}
-use Rattle.month.specs.declared.widths.Widths.the-variants.{Listed, Bad}
+use Rattle.month.specs.declared.width_lines.Widths.the-variants.{Listed, Bad}
 
 -- k lines are widths, which stand at the front of u, and the others start at a place.
 pub record Reading (file u₀ : List ℕ) (at k : ℕ) (u : List ℕ) : Type 0 where

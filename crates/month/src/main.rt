@@ -3,21 +3,21 @@
 mod block;
 mod say;
 mod stream;
-mod widths;
+mod width_lines;
 
 use crate::say::say_bad_width;
 use crate::say::say_month;
 use crate::say::say_usage;
 use crate::stream::Count;
 use crate::stream::count_stream;
-use crate::widths::MOST_WIDTHS;
-use crate::widths::Widths;
-use crate::widths::parse_widths;
-use clues::sums::SUM_NUMBERS;
+use crate::width_lines::MOST_WIDTHS;
+use crate::width_lines::Widths;
+use crate::width_lines::parse_widths;
 use console::input::fill;
 use libc::STDERR_FILENO;
 use meaning::counts::Pixels;
 use meaning::settings::Settings;
+use month_figures::sums::SUM_NUMBERS;
 ghost use Prim.Native.Nat.{_≤_};
 ghost use mathlib.Core.Path.{_≡_};
 ghost use lib.ListN.{length};

@@ -1,11 +1,11 @@
 // What the program prints: figures for each width, a table for people, refusal 13, and how it is used.
-use clues::sums::read_sum;
 use libc::STDERR_FILENO;
 use libc::STDOUT_FILENO;
 use meaning::figures::Figures;
+use month_figures::sums::read_sum;
 ghost use Prim.Native.Nat.{_*_, _≤_};
 ghost use lib.ListN.{length};
-ghost use Rattle.clues.specs.Sums.{sumNumbers};
+ghost use Rattle.month_figures.specs.Sums.{sumNumbers};
 
 pub fn say_usage() {
     io::write_all(STDERR_FILENO, b"usage: month WIDTHS [people] < CLUES\n");

@@ -47,10 +47,11 @@ pub fn moved_on(p: Place, w: u32) -> Place
     let cursor = p.cursor;
     let spaces = p.spaces;
     let next = advanced(cursor, w);
+    let empty = p.empty;
     Place {
         cursor: next,
         spaces,
-        empty: p.empty,
+        empty,
     }
 }
 

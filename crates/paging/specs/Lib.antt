@@ -1,14 +1,3 @@
-pub mod PageCounts
-pub mod PastWriting
-pub mod PageTurns
-pub mod CharsBehind
-pub mod Taking
-pub mod Choosing
 pub mod Listing
 pub mod ListingAgain
-pub mod PageBoundaries
-pub mod PageLaws
-pub mod PageStretches
 pub mod PagesKept
-pub mod ChosenPart
-pub mod WrittenPast

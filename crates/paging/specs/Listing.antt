@@ -21,16 +21,16 @@ use Rattle.meaning.specs.declared.refusals.Checked.the-variants.{Good, Refused}
 use Rattle.meaning.specs.declared.answers.Paged.{Paged}
 use Rattle.meaning.specs.declared.answers.Paged.the-variants as paged
 use Rattle.laws.specs.GoodChecks.{has-room}
-use Rattle.paging.specs.PageLaws.{pageCount, pages-count}
-use Rattle.paging.specs.PageStretches.{layout-there}
+use Rattle.laws.specs.PageLaws.{pageCount, pages-count}
+use Rattle.laws.specs.PageStretches.{layout-there}
 use Rattle.laws.specs.TableLaws.{entries-written}
 use Rattle.laws.specs.TestOrder.{first-alone, three-good}
-use Rattle.paging.specs.WrittenPast.{past-none}
+use Rattle.page_list.specs.WrittenPast.{past-none}
 use Rattle.checks.specs.LimitLaws.{limit-some}
 use Rattle.rows.specs.RowsFrom.{entriesOf, entries-are, few-entries}
 use Rattle.layout.specs.Checking.{long-enough, good-ready}
-use Rattle.paging.specs.PageCounts.{count-grows}
-use Rattle.paging.specs.PageTurns.{Listable}
+use Rattle.page_list.specs.PageCounts.{count-grows}
+use Rattle.page_list.specs.PageTurns.{Listable}
 
 -- ---- the room of the list (8)
 

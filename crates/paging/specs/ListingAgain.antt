@@ -16,13 +16,13 @@ use Rattle.meaning.specs.declared.refusals.Checked.{Checked}
 use Rattle.meaning.specs.declared.refusals.Checked.the-variants.{Good, Refused}
 use Rattle.meaning.specs.declared.answers.PagedAgain.{PagedAgain}
 use Rattle.meaning.specs.declared.answers.PagedAgain.the-variants as pagedagain
-use Rattle.paging.specs.PageLaws.{pageCount, pages-count}
+use Rattle.laws.specs.PageLaws.{pageCount, pages-count}
 use Rattle.laws.specs.TableLaws.{entries-length}
 use Rattle.laws.specs.TestOrder.{first-alone, none-refuses}
 use Rattle.checks.specs.LimitLaws.{limit-some}
 use Rattle.look.specs.GoodTable.{table-room, table-reach, table-count, reach-some}
 use Rattle.layout.specs.Checking.{long-enough}
-use Rattle.paging.specs.PageTurns.{Listable}
+use Rattle.page_list.specs.PageTurns.{Listable}
 
 -- ---- the tests
 

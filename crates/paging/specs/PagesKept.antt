@@ -17,10 +17,10 @@ use Rattle.meaning.specs.PageCalls.{tablePages, checkPagingAgain, pagingAgainLi
 use Rattle.meaning.specs.declared.refusals.Checked.{Checked}
 use Rattle.meaning.specs.declared.refusals.Checked.the-variants.{Good, Refused}
 use Rattle.laws.specs.GoodChecks.{room-is}
-use Rattle.paging.specs.PageLaws.{pages-few}
+use Rattle.laws.specs.PageLaws.{pages-few}
 use Rattle.laws.specs.TableLaws.{entries-length, capacity-is, pages-numbers}
 use Rattle.laws.specs.TestOrder.{three-good}
-use Rattle.paging.specs.WrittenPast.{past-none, past-all, past-kept, past-behind}
+use Rattle.page_list.specs.WrittenPast.{past-none, past-all, past-kept, past-behind}
 
 -- How many are kept.
 pub kept-some : (h first lines : ℕ) → first < lines → keptPages h first lines ≡ first / h

@@ -1,6 +1,5 @@
 // The tests of the calls that list pages, in their order. None of them writes anything.
 // Refusal 1, refusal 2, refusal 3, refusal 4, refusal 5, refusal 8.
-use crate::counting::page_count;
 use checks::limit::check_limit;
 use checks::room::check_room;
 use layout::checked::check_layout;
@@ -8,6 +7,7 @@ use look::well_formed::check_table;
 use meaning::refusals::Checked;
 use meaning::settings::Settings;
 use meaning::sizes::PAGE_NUMBERS;
+use page_list::counting::page_count;
 use rows::lines::count_lines;
 ghost use Prim.Native.Nat.{_≤_};
 ghost use mathlib.Core.Path.{_≡_};

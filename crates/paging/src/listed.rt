@@ -2,12 +2,12 @@
 // Rule 10, refusal 1, refusal 2, refusal 3, refusal 4, refusal 5, refusal 8.
 use crate::checked::check_paging;
 use crate::checked::check_paging_again;
-use crate::counting::page_count;
-use crate::writing::write_pages;
 use meaning::answers::Paged;
 use meaning::answers::PagedAgain;
 use meaning::refusals::Checked;
 use meaning::settings::Settings;
+use page_list::counting::page_count;
+use page_list::writing::write_pages;
 use rows::lines::write_lines;
 ghost use Prim.Native.Nat.{_≤_};
 ghost use mathlib.Core.Path.{_≡_};

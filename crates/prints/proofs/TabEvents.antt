@@ -20,7 +20,7 @@ use Rattle.moves.specs.Fine.{FinePlace}
 use Rattle.moves.specs.FineLaws.{advance-fine}
 use Rattle.steps.specs.Stepping.{lookOf, tokOf}
 use Rattle.steps.specs.Ready.{Standing}
-use Rattle.steps.specs.declared.look.Look.{Look}
+use Rattle.steps.specs.declared.foreseen.Look.{Look}
 use Rattle.ink.specs.Sheet.{Sheet, drawnOn}
 use Rattle.prints.specs.TokenDrawn.{drawnOf, tokDrawn}
 

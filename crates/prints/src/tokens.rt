@@ -17,7 +17,7 @@ use moves::place::moved_on;
 use moves::place::skips_space;
 use parser::lexeme::Lexeme;
 use parser::part::part_of;
-use steps::look::Foreseen;
+use steps::foreseen::Foreseen;
 use steps::step::Stepped;
 ghost use Prim.Native.Nat.{_+_, _*_, _≤_};
 ghost use mathlib.Core.Path.{_≡_};

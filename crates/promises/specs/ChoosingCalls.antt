@@ -17,9 +17,9 @@ use Rattle.meaning.specs.declared.answers.Chosen.{Chosen}
 use Rattle.meaning.specs.declared.answers.Chosen.the-variants as chosen
 use Rattle.meaning.specs.declared.refusals.Checked.{Checked}
 use Rattle.meaning.specs.declared.refusals.Checked.the-variants.{Good, Refused}
-use Rattle.paging.specs.ChosenPart.{long-chosen, short-chosen, long-within, short-beyond, lines-join, taken-within, taken-chars, left-out}
-use Rattle.paging.specs.PageBoundaries.{taken-boundary}
-use Rattle.paging.specs.PageStretches.{joined}
+use Rattle.choosing.specs.ChosenPart.{long-chosen, short-chosen, long-within, short-beyond, lines-join, taken-within, taken-chars, left-out}
+use Rattle.laws.specs.PageBoundaries.{taken-boundary}
+use Rattle.laws.specs.PageStretches.{joined}
 use Rattle.laws.specs.TestOrder.{none-refuses}
 
 -- The long text, of n bytes.

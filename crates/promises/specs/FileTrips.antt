@@ -26,7 +26,7 @@ use Rattle.meaning.specs.declared.answers.FileWritten.the-variants as filed
 use Rattle.meaning.specs.declared.answers.FileRead.{FileRead}
 use Rattle.meaning.specs.declared.answers.FileRead.the-variants as fileread
 use Rattle.laws.specs.TableLaws.{entries-numbers, entries-length, written-length}
-use Rattle.files.specs.FileNumbers.{Bytes, Words}
+use Rattle.file_fields.specs.FileNumbers.{Bytes, Words}
 use Rattle.files.specs.FileLaws.{SettingsWords}
 use Rattle.files.specs.Tests.{both-good}
 use Rattle.files.specs.ReadingCalls.{entries-many}

@@ -33,8 +33,8 @@ use Rattle.files.proofs.writer.write_file.Kinds as write-file-kinds
 use Rattle.files.proofs.writer.write_file.Reads as write-file-reads
 use Rattle.files.proofs.reader.read_file.Kinds as read-file-kinds
 use Rattle.files.proofs.reader.read_file.Reads as read-file-reads
-use Rattle.paging.proofs.choosing.choose.Kinds as choose-kinds
-use Rattle.paging.proofs.choosing.choose.Reads as choose-reads
+use Rattle.choosing.proofs.choosing.choose.Kinds as choose-kinds
+use Rattle.choosing.proofs.choosing.choose.Reads as choose-reads
 use Rattle.paging.proofs.listed.lay_pages.Kinds as lay-pages-kinds
 use Rattle.paging.proofs.listed.lay_pages.Reads as lay-pages-reads
 use Rattle.paging.proofs.listed.list_again.Kinds as list-again-kinds

@@ -18,7 +18,7 @@ use Rattle.meaning.specs.declared.line.Entry.{Entry}
 use Rattle.laws.specs.CharsBefore.{Front, next-front}
 use Rattle.promises.specs.FirstLines.{lines-from}
 use Rattle.laws.specs.LineBounds.{line-chars, line-rest, line-held, line-takes}
-use Rattle.paging.specs.PageLaws.{PageSaid}
+use Rattle.laws.specs.PageLaws.{PageSaid}
 use Rattle.laws.specs.RowInduction.{unless-cases, FitsIn}
 
 module _ (s : Settings) (text : List ℕ) where

@@ -27,12 +27,12 @@ use Rattle.promises.specs.Demand3Calls.{EditOf, demand-3-holds}
 use Rattle.laws.specs.GoodChecks.{limit-good, table-good}
 use Rattle.promises.specs.LayoutCalls.{text-layout, layout-checked}
 use Rattle.again.specs.Meeting.{Replaces}
-use Rattle.paging.specs.PageLaws.{page-there}
+use Rattle.laws.specs.PageLaws.{page-there}
 use Rattle.paging.specs.PagesKept.{kept-some, pages-all}
 use Rattle.promises.specs.SamePages.{SameStarts, same-long, same-onward, same-then, same-pages}
 use Rattle.laws.specs.TableLaws.{entries-numbers, page-numbers, all-first, written-length, entries-written}
 use Rattle.laws.specs.TestOrder.{first-alone}
-use Rattle.paging.specs.WrittenPast.{past-right}
+use Rattle.page_list.specs.WrittenPast.{past-right}
 
 -- ---- where the lines start
 

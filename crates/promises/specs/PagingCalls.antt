@@ -19,8 +19,8 @@ use Rattle.meaning.specs.declared.refusals.Refusal.the-variants.{SettingOutOfRa
 use Rattle.meaning.specs.declared.refusals.Checked.{Checked}
 use Rattle.meaning.specs.declared.refusals.Checked.the-variants.{Good, Refused}
 use Rattle.laws.specs.GoodChecks.{refuse-good}
-use Rattle.paging.specs.PageLaws.{pageCount, pages-count}
-use Rattle.paging.specs.PageStretches.{joined, text-joins}
+use Rattle.laws.specs.PageLaws.{pageCount, pages-count}
+use Rattle.laws.specs.PageStretches.{joined, text-joins}
 use Rattle.laws.specs.TableLaws.{pages-numbers, entries-written}
 use Rattle.laws.specs.TestOrder.{none-refuses, three-good}
 

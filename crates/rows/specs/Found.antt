@@ -21,11 +21,12 @@ use Rattle.placing.specs.LayLaws.{rested}
 use Rattle.placing.specs.Plain.{endedEntry, endedLineAt, EndedRow}
 use Rattle.placing.specs.Told.{takenBy, RowIn}
 use Rattle.placing.specs.declared.told.ToldRow.{ToldRow}
-use Rattle.rows.specs.Standing.{StandsAt, StandReady, isLast, rowOf, laidRow}
+use Rattle.rows.specs.Standing.{StandReady, isLast, rowOf, laidRow}
+use Rattle.stands.specs.Stands.{StandsAt}
 use Rattle.rows.specs.RowsFrom.{rowsFrom, entriesFrom}
 use Rattle.rows.specs.Going.{Went, AllWritten, Reaches, RoomFrom, went-line, went-last}
-use Rattle.rows.specs.declared.stand.Stand.{Stand}
-use Rattle.rows.specs.declared.line.LaidRow.{LaidRow}
+use Rattle.stands.specs.declared.stand.Stand.{Stand}
+use Rattle.stands.specs.declared.row.LaidRow.{LaidRow}
 use Rattle.rows.specs.declared.plain.Passed.{Passed}
 use Rattle.rows.specs.declared.found.Reached.{Reached}
 

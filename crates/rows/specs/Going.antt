@@ -10,12 +10,13 @@ use Rattle.meaning.specs.Checks.{textLimit}
 use Rattle.meaning.specs.Table.{entryNumbers, ofEntry, ofAll, written}
 use Rattle.meaning.specs.declared.settings.Settings.{Settings}
 use Rattle.table.specs.Numbers.{putNumbers}
-use Rattle.rows.specs.Standing.{StandsAt, StandReady, laidRow, ready-next, further}
+use Rattle.rows.specs.Standing.{StandReady, laidRow, ready-next, further}
+use Rattle.stands.specs.Stands.{StandsAt}
 use Rattle.rows.specs.RowsFrom.{entriesOf, entriesFrom, entry-here, some-entries, few-entries, last-entry, more-entries}
 use Rattle.rows.specs.Writing.{linesPut, none-put, first-put}
 use Rattle.rows.specs.Turns.{Counted, Wrote}
-use Rattle.rows.specs.declared.stand.Stand.{Stand}
-use Rattle.rows.specs.declared.line.LaidRow.{LaidRow}
+use Rattle.stands.specs.declared.stand.Stand.{Stand}
+use Rattle.stands.specs.declared.row.LaidRow.{LaidRow}
 
 -- From the stand p, with n lines before it in the table u, to the stand q, with m lines in the table v.
 pub record Went (s : Settings) (t u : List ℕ) (n : ℕ) (p : Stand) (v : List ℕ) (m : ℕ) (q : Stand) : Type 0 where

@@ -29,9 +29,10 @@ use Rattle.steps.specs.Unrolled.{nothingResumed}
 use Rattle.steps.specs.declared.step.Resumed.{Resumed}
 use Rattle.placing.specs.LineFrom.{heldIn, lineAtOf, lineFrom}
 use Rattle.placing.specs.LineLaws.{next-start, next-count, next-held, next-chars}
-use Rattle.rows.specs.Standing.{StandsAt, textFront, StandReady, laidRow, ends, goes-on, entry-is, next-at, next-before, next-rest-is}
-use Rattle.rows.specs.declared.stand.Stand.{Stand}
-use Rattle.rows.specs.declared.line.LaidRow.{LaidRow}
+use Rattle.rows.specs.Standing.{StandReady, laidRow, ends, goes-on, entry-is, next-at, next-before, next-rest-is}
+use Rattle.stands.specs.Stands.{StandsAt, textFront}
+use Rattle.stands.specs.declared.stand.Stand.{Stand}
+use Rattle.stands.specs.declared.row.LaidRow.{LaidRow}
 
 -- The lines from a stand on, in a text that stands behind so many bytes of a whole.
 unfoldable pub rowsFrom : Settings → List ℕ → (base : ℕ) → Stand → List Row

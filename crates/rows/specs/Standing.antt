@@ -17,8 +17,9 @@ use Rattle.placing.specs.Laying.{LineReady}
 use Rattle.placing.specs.LineFrom.{LineAt, lineFrom}
 use Rattle.placing.specs.LineLaws.{next-within, next-fewer, next-between, next-further, next-rest}
 use Rattle.steps.specs.declared.step.Resumed.{Resumed}
-use Rattle.rows.specs.declared.stand.Stand.{Stand}
-use Rattle.rows.specs.declared.line.LaidRow.{LaidRow}
+use Rattle.stands.specs.Stands.{StandsAt, NextReady}
+use Rattle.stands.specs.declared.stand.Stand.{Stand}
+use Rattle.stands.specs.declared.row.LaidRow.{LaidRow}
 
 abbrev pub isLast : LineEnd → Bool
 isLast EndOfText = true
@@ -36,16 +37,6 @@ not-last : (e : LineEnd) → isLast e ≡ false → e ≡ EndOfText → ⊥
 not-last e h q = false≢true (sym h ∙ ap isLast q)
 
 -- ---- stands
-
--- Before the line at an offset, behind so many characters, which resumes a rest: a word that is known there stands in the text.
-pub record StandsAt (t : List ℕ) (at : Offset) (before : ℕ) (r : Resumed) (p : Stand) : Type 0 where
-  pub at-is : p .at ≡ at
-  pub before-is : p .before .0 ≡ before
-  pub rest-is : p .rest ≡ r
-  pub known : KnownFits t (p .known)
-
-abbrev pub textFront : Offset
-textFront = record { 0 = 0 }
 
 -- A line can be laid there, and no count of the characters before it wraps: a text's front has few before it, and no more characters
 -- than bytes are counted from there on.
@@ -71,14 +62,6 @@ rowOf l = record { entry = l .entry; last = isLast (l .ended); next = l .next; c
 -- The step: that of the line at a stand.
 unfoldable pub laidRow : Settings → List ℕ → Stand → LaidRow
 laidRow s t p = rowOf (lineAt s t p)
-
--- What standing on the next line takes for granted.
-pub record NextReady (t : List ℕ) (p : Stand) (x : LaidRow) : Type 0 where
-  pub short : length t ≤ textLimit
-  pub inside : x .next .0 ≤ length t
-  pub few : p .before .0 + x .chars .0 ≤ x .next .0 + textLimit
-  pub known : KnownFits t (p .known)
-  pub between : Between t (p .at .0) (x .next .0) (x .chars .0)
 
 module _ (s : Settings) (t : List ℕ) (p : Stand) (c : StandReady s t p) (x : LaidRow) (is : x ≡ laidRow s t p) where
   pub ends : x .last ≡ true → lineAt s t p .ended ≡ EndOfText

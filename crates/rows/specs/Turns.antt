@@ -13,11 +13,12 @@ use Rattle.meaning.specs.declared.line.Entry.{Entry}
 use Rattle.table.specs.Numbers.{putNumbers}
 use Rattle.steps.specs.Unrolled.{nothingResumed}
 use Rattle.steps.specs.Running.{none-fits}
-use Rattle.rows.specs.Standing.{StandsAt, textFront, StandReady, stand-ready, laidRow, ready-next}
+use Rattle.rows.specs.Standing.{StandReady, stand-ready, laidRow, ready-next}
+use Rattle.stands.specs.Stands.{StandsAt, textFront}
 use Rattle.rows.specs.RowsFrom.{rowHere, TextReady, entriesOf, entriesFrom, all-entries, entry-here, some-entries, few-entries, last-entry, more-entries}
 use Rattle.rows.specs.Writing.{linesPut, none-put, first-put, all-put}
-use Rattle.rows.specs.declared.stand.Stand.{Stand}
-use Rattle.rows.specs.declared.line.LaidRow.{LaidRow}
+use Rattle.stands.specs.declared.stand.Stand.{Stand}
+use Rattle.stands.specs.declared.row.LaidRow.{LaidRow}
 
 -- ---- counting
 

@@ -20,6 +20,7 @@ use placing::entry::entry_at;
 use placing::quick::Quick;
 use placing::quick::quick_line;
 use placing::taken::chars_to;
+use stands::row::LaidRow;
 use steps::first::Known;
 use steps::first::known_here;
 use steps::step::Ended;
@@ -32,16 +33,6 @@ ghost use Rattle.placing.specs.LineFrom.{lineFrom};
 ghost use Rattle.rows.specs.Standing.{isLast, rowOf};
 ghost use Rattle.rows.specs.Passing.{lineBy, LaidBy};
 ghost use Rattle.placing.specs.Laying.{LineReady, passedFrom, plainly, asMeasured, placedBy, laidAt};
-
-// A line that is laid: its entry, whether it ends the text, where the next line starts, how many characters it took up to there
-// and what the next one resumes.
-pub struct LaidRow {
-    pub entry: Entry,
-    pub last: bool,
-    pub next: Offset,
-    pub chars: Chars,
-    pub rest: Resumed,
-}
 
 // How a line's passes came out: where they placed it, how wide it is, how far the measuring looked, how the drawing ended and how many
 // characters it took. It is what goes through memory, so that a line of words, which has no pass, does not.

@@ -1,9 +1,9 @@
 // The lines of a text, one after the other: counted, and written to a table (rule 10).
 use crate::found::write_on;
-use crate::stand::at_start;
 use crate::stand::lay_row;
-use crate::stand::next_stand;
 use meaning::settings::Settings;
+use stands::stand::at_start;
+use stands::stand::next_stand;
 use table::entries::write_entry;
 ghost use Prim.Native.Nat.{_*_, _≤_};
 ghost use mathlib.Core.Path.{_≡_};

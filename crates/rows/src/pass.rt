@@ -13,7 +13,7 @@ use steps::ending::ends_before;
 use steps::ending::nothing_left;
 use steps::first::Known;
 use steps::first::first_token;
-use steps::look::Foreseen;
+use steps::foreseen::Foreseen;
 use steps::step::Ended;
 use steps::step::Resumed;
 use steps::step::Stepped;

@@ -1,10 +1,10 @@
 // Lines of plain words, found and written one after the other: nothing of them goes through memory but their numbers (rule 10).
-use crate::stand::Stand;
 use meaning::counts::Chars;
 use meaning::counts::Offset;
 use meaning::settings::Settings;
 use placing::plain::plain_entry;
 use placing::plain::plain_row;
+use stands::stand::Stand;
 use steps::ending::nothing_left;
 use steps::first::nothing_known;
 use table::entries::write_entry;

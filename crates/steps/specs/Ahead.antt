@@ -10,7 +10,7 @@ use Rattle.meaning.specs.declared.cursor.LineCursor.{LineCursor}
 use Rattle.meaning.specs.declared.cursor.Spaces.{Spaces}
 use Rattle.meaning.specs.declared.cursor.NextWord.{NextWord}
 use Rattle.meaning.specs.declared.cursor.NextWord.the-variants.{Nothing, Width}
-use Rattle.steps.specs.declared.look.Look.{Look}
+use Rattle.steps.specs.declared.foreseen.Look.{Look}
 
 -- The pixels of a width so far.
 abbrev pub knownOf : NextWord → ℕ

@@ -20,7 +20,7 @@ use Rattle.parser.specs.Lexing.{charsFrom, lexemeAt}
 use Rattle.parser.specs.declared.lexeme.Lexeme.{Lexeme}
 use Rattle.steps.specs.Stepping.{aheadOf, steppedAt, tokOf}
 use Rattle.steps.specs.Ready.{Standing, stepFrom}
-use Rattle.steps.specs.declared.look.WidthAhead.{WidthAhead}
+use Rattle.steps.specs.declared.foreseen.WidthAhead.{WidthAhead}
 use Rattle.steps.specs.declared.step.Stepped.the-variants.{Go}
 
 pub tok-break : (t : List ℕ) (at : ℕ) (x : Lexeme) → x .kind ≡ Break → tokOf t at x ≡ softHyphen

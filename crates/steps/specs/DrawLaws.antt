@@ -20,9 +20,9 @@ use Rattle.steps.specs.Ahead.{lookAt}
 use Rattle.steps.specs.Stepping.{lookOf}
 use Rattle.steps.specs.Runs.{wholeAnswer}
 use Rattle.steps.specs.Foreseeing.{Foresees}
-use Rattle.steps.specs.declared.look.Look.{Look}
-use Rattle.steps.specs.declared.look.Foreseen.{Foreseen}
-use Rattle.steps.specs.declared.look.Foreseen.the-variants.{Known}
+use Rattle.steps.specs.declared.foreseen.Look.{Look}
+use Rattle.steps.specs.declared.foreseen.Foreseen.{Foreseen}
+use Rattle.steps.specs.declared.foreseen.Foreseen.the-variants.{Known}
 use Rattle.steps.specs.declared.step.Stepped.the-variants.{Go}
 
 module _ (s : Settings) (q : Place) (at : ℕ) (ts : List Tok) where

@@ -16,7 +16,7 @@ use Rattle.parser.specs.Lexing.{charsFrom}
 use Rattle.parser.specs.declared.lexeme.Lexeme.{Lexeme}
 use Rattle.steps.specs.Lexed.{Lexes}
 use Rattle.steps.specs.Stepping.{lookOf}
-use Rattle.steps.specs.declared.look.Look.{Look}
+use Rattle.steps.specs.declared.foreseen.Look.{Look}
 use Rattle.steps.specs.Ahead.{lookAt, whiteWidth}
 use Rattle.steps.specs.Foreseeing.{White}
 use Rattle.steps.specs.KindLaws.{Halts}

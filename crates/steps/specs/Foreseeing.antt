@@ -23,8 +23,8 @@ use Rattle.moves.specs.Fine.{FineSettings, FinePlace}
 use Rattle.steps.specs.Stepping.{lookOf, tokOf}
 use Rattle.steps.specs.Ready.{Standing}
 use Rattle.steps.specs.declared.step.Resumed.{Resumed}
-use Rattle.steps.specs.declared.look.Foreseen.{Foreseen}
-use Rattle.steps.specs.declared.look.Foreseen.the-variants.{Nothing, Known}
+use Rattle.steps.specs.declared.foreseen.Foreseen.{Foreseen}
+use Rattle.steps.specs.declared.foreseen.Foreseen.the-variants.{Nothing, Known}
 
 -- White space, which a look goes over where it fits.
 abbrev pub White : TokenKind → Type 0

@@ -35,8 +35,8 @@ use Rattle.steps.specs.Stepping.{resumedAt, steppedAt, tokOf}
 use Rattle.steps.specs.Ready.{Standing, Ready, stepFrom}
 use Rattle.steps.specs.Ahead.{whiteWidth}
 use Rattle.steps.specs.Foreseeing.{Foresees, ForeseesAfter}
-use Rattle.steps.specs.declared.look.Foreseen.{Foreseen}
-use Rattle.steps.specs.declared.look.Foreseen.the-variants.{Nothing, Known}
+use Rattle.steps.specs.declared.foreseen.Foreseen.{Foreseen}
+use Rattle.steps.specs.declared.foreseen.Foreseen.the-variants.{Nothing, Known}
 use Rattle.steps.specs.Runs.{charsIn, WholeRun, wholeAnswer, cutShown, CutRun, cutAnswer}
 use Rattle.steps.specs.declared.step.Resumed.{Resumed}
 use Rattle.steps.specs.declared.step.Stepped.the-variants.{Go, Stop}

@@ -23,7 +23,7 @@ use Rattle.moves.specs.Fine.{FineSettings, FinePlace}
 use Rattle.steps.specs.Stepping.{steppedAt, tokOf}
 use Rattle.steps.specs.Ready.{Ready}
 use Rattle.steps.specs.Foreseeing.{Foresees}
-use Rattle.steps.specs.declared.look.Foreseen.{Foreseen}
+use Rattle.steps.specs.declared.foreseen.Foreseen.{Foreseen}
 use Rattle.steps.specs.declared.step.Stepped.{Stepped}
 use Rattle.steps.specs.declared.step.Stepped.the-variants.{Go}
 

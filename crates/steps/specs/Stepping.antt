@@ -19,8 +19,8 @@ use Rattle.meaning.specs.declared.line.Measure.{Measure}
 use Rattle.laws.specs.Spell.{textOf}
 use Rattle.parser.specs.Lexing.{charsFrom, lexemeAt}
 use Rattle.parser.specs.declared.lexeme.Lexeme.{Lexeme}
-use Rattle.steps.specs.declared.look.Look.{Look}
-use Rattle.steps.specs.declared.look.WidthAhead.{WidthAhead}
+use Rattle.steps.specs.declared.foreseen.Look.{Look}
+use Rattle.steps.specs.declared.foreseen.WidthAhead.{WidthAhead}
 use Rattle.steps.specs.declared.step.Resumed.{Resumed}
 use Rattle.steps.specs.declared.step.Ended.{Ended}
 use Rattle.steps.specs.declared.step.Stepped.{Stepped}

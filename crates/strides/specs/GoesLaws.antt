@@ -14,8 +14,8 @@ use Rattle.steps.specs.Running.{PassReady, none-fits}
 use Rattle.pairs.specs.PlainWords.{Found}
 use Rattle.strides.specs.Strides.{waitingAt, goingAt, Onward, Waits, Goes, WaitReady}
 use Rattle.steps.specs.Foreseeing.{ForeseesFrom}
-use Rattle.steps.specs.declared.look.Foreseen.{Foreseen}
-use Rattle.steps.specs.declared.look.Foreseen.the-variants.{Nothing}
+use Rattle.steps.specs.declared.foreseen.Foreseen.{Foreseen}
+use Rattle.steps.specs.declared.foreseen.Foreseen.the-variants.{Nothing}
 use Rattle.steps.specs.declared.step.Resumed.{Resumed}
 use Rattle.steps.specs.declared.step.Ended.{Ended}
 use Rattle.strides.specs.declared.going.Waiting.{Waiting}

@@ -41,7 +41,7 @@ use Rattle.steps.specs.Stopping.{wordMeasure, wordPlace}
 use Rattle.steps.specs.FitsLaws.{lookFrom, none-used, look-white}
 use Rattle.steps.specs.WordLaws.{wordAt, WordAt, word-at}
 use Rattle.steps.specs.BreakLaws.{tok-break, break-hides}
-use Rattle.steps.specs.declared.look.Look.{Look}
+use Rattle.steps.specs.declared.foreseen.Look.{Look}
 use Rattle.steps.specs.declared.step.Ended.{Ended}
 use Rattle.steps.specs.declared.step.Stepped.the-variants.{Go}
 use Rattle.strides.specs.Strides.{Onward}

@@ -33,7 +33,7 @@ use Rattle.steps.specs.Running.{PassReady}
 use Rattle.steps.specs.Stopping.{wordMeasure, wordPlace}
 use Rattle.pairs.specs.PlainWords.{PlainWord}
 use Rattle.strides.specs.Strides.{Onward}
-use Rattle.steps.specs.declared.look.Look.{Look}
+use Rattle.steps.specs.declared.foreseen.Look.{Look}
 use Rattle.steps.specs.declared.step.Stepped.the-variants.{Go}
 use Rattle.steps.specs.DrawLaws.{draws-some, whole-drawn}
 use Rattle.steps.specs.FitsLaws.{look-zero, look-word}

@@ -19,7 +19,7 @@ use meaning::line::Measure;
 use meaning::settings::Settings;
 use moves::measure::printed_at;
 use pairs::pair::pair_at;
-use steps::look::Foreseen;
+use steps::foreseen::Foreseen;
 use steps::step::Resumed;
 use steps::words::word_measure;
 ghost use mathlib.Core.Path.{_≡_};

@@ -4,3 +4,4 @@ pub mod EditLaws
 pub mod MovedParts
 pub mod InPlace
 pub mod MoveTurns
+pub mod SearchLaws

@@ -3,3 +3,4 @@ pub mod edited;
 pub mod entries;
 pub mod events;
 pub mod moving;
+pub mod search;

@@ -8,7 +8,7 @@ use lib.ListN.{length, take}
 use lib.Seq.{length-take-le}
 use Rattle.clues.specs.Summing.{Narrow}
 use Rattle.month.specs.WidthFile.{Read}
-use Rattle.month.specs.declared.widths.Widths.{Widths}
+use Rattle.month.specs.declared.width_lines.Widths.{Widths}
 use borrow.Author.Needs.{needs}
 use Rattle.month.proofs.run.Statement.{statement}
 use Rattle.month.proofs.run.Tie as tie

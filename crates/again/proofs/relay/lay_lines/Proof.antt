@@ -4,7 +4,7 @@ use Rattle.again.specs.Relaying.{Sought, kept-within, counts-low, no-roo
 use native.Mathlib.Omega.{arith}
 use mathlib.Core.Path.{_∙_}
 use Rattle.unicode.specs.Decoding.{decodeAll}
-use Rattle.rows.specs.Standing.{StandsAt, textFront}
+use Rattle.stands.specs.Stands.{StandsAt, textFront}
 use Rattle.again.specs.HeldRest.{resumedOf}
 use Rattle.look.specs.GoodTable.{table-room}
 use Rattle.again.specs.GoodRelay.{all-good, is-affected, short-part, rest-good, find-ready}

@@ -8,7 +8,7 @@ use borrow.Author.Needs.{needs}
 use Rattle.meaning.specs.Columns.{withWidth}
 use Rattle.meaning.specs.Month.{figuresBy}
 use Rattle.rows.specs.RowsFrom.{entriesOf}
-use Rattle.clues.specs.Summing.{Room}
+use Rattle.month_figures.specs.Rooms.{Room}
 use Rattle.clues.specs.Adding.{Added, added-start, added-within, added-text, added-figures, added-room, added-next, added-all}
 use Rattle.clues.proofs.each.add_text.Statement.{statement}
 use Rattle.clues.proofs.each.add_text.Tie as tie

@@ -3,10 +3,10 @@
 use mathlib.Core.Path.{sym, ap, _∙_}
 use borrow.Author.Needs.{needs}
 use lib.ListN.{drop}
-use Rattle.files.specs.FileNumbers.{numbers-count}
+use Rattle.file_fields.specs.FileNumbers.{numbers-count}
 use Rattle.meaning.specs.Table.{entryNumbers, entryIn}
 use Rattle.files.proofs.lines.entry_at.Statement.{statement}
-use Rattle.files.specs.Putting.{filled}
+use Rattle.file_fields.specs.Putting.{filled}
 use Rattle.files.proofs.lines.entry_at.Tie as tie
 
 slice-aggregate-read-numbers : tie.Need-slice-aggregate-read-numbers

@@ -11,7 +11,7 @@ use Rattle.meaning.specs.Table.{ofEntry, ofAll}
 use Rattle.table.specs.Numbers.{putNumbers}
 use Rattle.table.specs.Stretches.{put-none}
 use Rattle.files.proofs.lines.write_table.Statement.{statement}
-use Rattle.files.specs.Putting.{put-written}
+use Rattle.file_fields.specs.Putting.{put-written}
 use Rattle.files.specs.Reading.{table-next}
 use Rattle.files.proofs.lines.write_table.Tie as tie
 

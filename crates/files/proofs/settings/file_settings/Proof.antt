@@ -3,11 +3,11 @@
 use mathlib.Core.Path.{sym, ap, _∙_}
 use borrow.Author.Needs.{needs}
 use lib.ListN.{drop}
-use Rattle.files.specs.FileNumbers.{numbers-count}
+use Rattle.file_fields.specs.FileNumbers.{numbers-count}
 use Rattle.meaning.specs.LayoutFile.{headerBytes, settingsNumbers}
 use Rattle.meaning.specs.ReadFile.{settingsIn, fileSettings}
 use Rattle.files.proofs.settings.file_settings.Statement.{statement}
-use Rattle.files.specs.Putting.{filled}
+use Rattle.file_fields.specs.Putting.{filled}
 use Rattle.files.proofs.settings.file_settings.Tie as tie
 
 slice-aggregate-read-numbers : tie.Need-slice-aggregate-read-numbers

@@ -9,7 +9,7 @@ use lib.Seq.{take-all}
 use Rattle.table.specs.Numbers.{putNumbers}
 use Rattle.table.specs.Stretches.{put-none}
 use Rattle.files.proofs.settings.put_front.Statement.{statement}
-use Rattle.files.specs.Putting.{front-next, put-written}
+use Rattle.file_fields.specs.Putting.{front-next, put-written}
 use Rattle.files.proofs.settings.put_front.Tie as tie
 
 abbrev Inv-loop : tie.InvT-loop

@@ -6,7 +6,8 @@ use mathlib.Core.Path.{_≡_, sym, _∙_}
 use borrow.Author.Needs.{needs}
 use Rattle.meaning.specs.Checks.{textLimit}
 use Rattle.parser.specs.GoodText.{good-length}
-use Rattle.rows.specs.Standing.{StandsAt, stand-ready}
+use Rattle.rows.specs.Standing.{stand-ready}
+use Rattle.stands.specs.Stands.{StandsAt}
 use Rattle.frames.specs.Framing.{Frameable, starts, few-before, line-ready, answer-laid, entry-put}
 use Rattle.frames.proofs.frame.lay_here.Statement.{statement}
 use Rattle.frames.proofs.frame.lay_here.Tie as tie

@@ -9,7 +9,7 @@ use lib.ListN.{length}
 use Rattle.rows.specs.Standing.{next-ready, further, stays}
 use Rattle.rows.specs.Turns.{Wrote, write-start, room-left, count-low, count-last, write-last, write-next}
 use Rattle.rows.specs.Going.{wrote-on, wrote-room, wrote-all, wrote-same}
-use Rattle.rows.specs.declared.stand.Stand.{Stand}
+use Rattle.stands.specs.declared.stand.Stand.{Stand}
 use Rattle.layout.specs.DrawTurns.{Drew, draw-start, draw-ready, draw-last, draw-next}
 use Rattle.layout.specs.DrawGoing.{drew-on, drew-few, drew-same}
 use Rattle.layout.specs.DrawFound.{drew-all}

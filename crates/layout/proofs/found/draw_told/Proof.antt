@@ -8,7 +8,7 @@ use Rattle.meaning.specs.Table.{entryNumbers, ofEntry}
 use Rattle.meaning.specs.declared.line.Entry.{Entry}
 use Rattle.table.specs.Numbers.{putNumbers, putEvents}
 use Rattle.rows.specs.Found.{found-fits}
-use Rattle.rows.specs.declared.stand.Stand.{Stand}
+use Rattle.stands.specs.declared.stand.Stand.{Stand}
 use Rattle.layout.specs.EventsFrom.{lineEvents, DrawReady}
 use Rattle.layout.specs.DrawFound.{found-ready}
 use Rattle.layout.proofs.found.draw_told.Statement.{statement}

@@ -5,7 +5,7 @@ use mathlib.Core.Path.{sym, ap, _∙_}
 use Rattle.meaning.specs.Checks.{checkRoom}
 use Rattle.meaning.specs.Table.{capacityOf}
 use Rattle.meaning.specs.Pages.{pageNumbers}
-use Rattle.paging.specs.PageLaws.{pageCount}
+use Rattle.laws.specs.PageLaws.{pageCount}
 use Rattle.paging.specs.Listing.{some-lines, pages-many, list-fits}
 use borrow.Author.Needs.{needs}
 use Rattle.paging.proofs.checked.check_pages.Statement.{statement}

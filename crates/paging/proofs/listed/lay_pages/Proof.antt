@@ -4,7 +4,7 @@ use mathlib.Core.Path.{_≡_, sym, _∙_}
 use Rattle.meaning.specs.PageCalls.{checkPaging}
 use Rattle.meaning.specs.declared.refusals.Checked.the-variants.{Good}
 use Rattle.layout.specs.Checking.{good-ready, good-room}
-use Rattle.paging.specs.PageTurns.{Listable}
+use Rattle.page_list.specs.PageTurns.{Listable}
 use Rattle.paging.specs.Listing.{paging-refused, layout-good, now-listable, paging-done}
 use borrow.Author.Needs.{needs}
 use Rattle.paging.proofs.listed.lay_pages.Statement.{statement}

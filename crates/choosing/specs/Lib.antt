@@ -1,0 +1,4 @@
+pub mod CharsBehind
+pub mod Taking
+pub mod Choosing
+pub mod ChosenPart

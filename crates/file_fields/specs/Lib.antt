@@ -1,0 +1,4 @@
+pub mod Putting
+pub mod Fields
+pub mod FileNumbers
+pub mod FileFields

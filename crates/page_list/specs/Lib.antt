@@ -1,0 +1,4 @@
+pub mod PageCounts
+pub mod PastWriting
+pub mod PageTurns
+pub mod WrittenPast
