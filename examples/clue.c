@@ -142,7 +142,8 @@ static void say_line(const struct app *app, uint64_t line)
         } while ((app->text[from] & 0xC0) == 0x80);
     }
     if (dropped > 0) {
-        printf(", %" PRIu32 " characters dropped: \"%.*s\"", dropped, (int)(end - from), (const char *)app->text + from);
+        printf(", %" PRIu32 " characters dropped: \"%.*s\"", dropped, (int)(end - from),
+               (const char *)app->text + from);
     }
 }
 

@@ -80,6 +80,7 @@ static void plan(const char *what, struct bisquemop_settings s, const uint8_t *o
 
 /* ---- examples */
 
+/* clang-format off */
 static const struct {
     uint32_t glyph, alignment, wrap;
     const char *text;
@@ -111,6 +112,7 @@ static const struct {
     {6, LEFT, DROP, "a\tb", 1, 30},
     {6, RIGHT, DROP, "a\ta", 1, 30},
 };
+/* clang-format on */
 
 static void test_planned(void)
 {
@@ -210,7 +212,8 @@ static void one_fit(const char *what, struct bisquemop_settings s)
 {
     len = random_text(text, below(CHARACTERS));
     struct fitted f = fitted_by(s, text, len);
-    const uint32_t lines = (uint32_t)f.lines, limits[] = {1, 2, lines, lines + 1, lines - 1, 1 + below(lines), UINT32_MAX};
+    const uint32_t lines = (uint32_t)f.lines,
+                   limits[] = {1, 2, lines, lines + 1, lines - 1, 1 + below(lines), UINT32_MAX};
     for (size_t i = 0; i < sizeof limits / sizeof limits[0]; i++) {
         if (limits[i] > 0) {
             int good = f.lines <= limits[i] && f.whole;

@@ -244,13 +244,14 @@ static void one_edit(const char *what, struct bisquemop_settings s)
     static int32_t old[3][MOST + 3];
     struct edit e = random_edit(text, len, BYTES, inserted);
     uint64_t first = affected_line(table, lines, e.a), old_lines = lines, laid;
-    size_t start = line_number(table, first, BISQUEMOP_LINE_START), new_len = put_edited(edited, text, len, e, inserted);
+    size_t start = line_number(table, first, BISQUEMOP_LINE_START),
+           new_len = put_edited(edited, text, len, e, inserted);
     for (s.vertical = 0; s.vertical < 3; s.vertical++) {
         put_ys(s, old[s.vertical]);
     }
     s.vertical = 0;
-    expect(what, bisquemop_settings_lay_again(&s, edited + start, new_len - start, table, NUMBERS * MOST, old_lines, e.a,
-                                              e.b, e.inserted, &lines, &laid) == BISQUEMOP_OK);
+    expect(what, bisquemop_settings_lay_again(&s, edited + start, new_len - start, table, NUMBERS * MOST, old_lines,
+                                              e.a, e.b, e.inserted, &lines, &laid) == BISQUEMOP_OK);
     memcpy(text, edited, new_len);
     len = new_len;
     grown += lines > old_lines;

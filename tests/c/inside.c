@@ -81,7 +81,7 @@ static void one_text(const char *what, struct bisquemop_settings s)
 void test_inside(void)
 {
     test_by_chance(102, TEXTS, "in its box", one_text);
-    printf("%d texts: %lu with a move to the edge; %lu justified, with a character that glues, past it\n", TEXTS, to_the_edge,
-           past_the_edge);
+    printf("%d texts: %lu with a move to the edge; %lu justified, with a character that glues, past it\n", TEXTS,
+           to_the_edge, past_the_edge);
     expect("texts with a move to the edge, and past it", to_the_edge >= TEXTS / 100 && past_the_edge >= 10);
 }

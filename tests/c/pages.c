@@ -320,7 +320,8 @@ static void list_after(const char *what, uint32_t h, uint64_t first, uint32_t *o
     memcpy(after, old, room * sizeof *after);
     memcpy(after, pages, PAGE * (size_t)count * sizeof *after);
     expect_pages_again(what, table, n, lines, h, first, old, room, BISQUEMOP_OK, count, after);
-    expect_pages_again(what, table, n, lines, h, first, old, PAGE * (size_t)count - 1, BISQUEMOP_TOO_SMALL, count, NULL);
+    expect_pages_again(what, table, n, lines, h, first, old, PAGE * (size_t)count - 1, BISQUEMOP_TOO_SMALL, count,
+                       NULL);
     if (first >= h) {
         /* a page before the one that holds the first affected line is not written, even if it is wrong */
         size_t kept = PAGE * (size_t)(first / h);
@@ -338,11 +339,12 @@ static void one_edit(const char *what, struct bisquemop_settings s)
     struct edit e = random_edit(text, len, BYTES, inserted);
     uint64_t first = affected_line(table, lines, e.a), old_lines = lines, old_count, laid_again;
     uint32_t h = random_limit();
-    size_t start = line_number(table, first, BISQUEMOP_LINE_START), new_len = put_edited(edited, text, len, e, inserted);
+    size_t start = line_number(table, first, BISQUEMOP_LINE_START),
+           new_len = put_edited(edited, text, len, e, inserted);
     expect_affected(what, table, NUMBERS * (size_t)lines, lines, e.a, e.b, e.inserted, BISQUEMOP_OK, first);
     old_count = put_pages(table, lines, len, h, old);
-    expect(what, bisquemop_settings_lay_again(&s, edited + start, new_len - start, table, NUMBERS * MOST, old_lines, e.a,
-                                              e.b, e.inserted, &lines, &laid_again) == BISQUEMOP_OK);
+    expect(what, bisquemop_settings_lay_again(&s, edited + start, new_len - start, table, NUMBERS * MOST, old_lines,
+                                              e.a, e.b, e.inserted, &lines, &laid_again) == BISQUEMOP_OK);
     memcpy(text, edited, new_len);
     len = new_len;
     list_all(what, s, h);

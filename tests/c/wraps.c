@@ -88,9 +88,10 @@ static void one_text(const char *what, struct bisquemop_settings s)
 void test_wraps(void)
 {
     test_by_chance(101, TEXTS, "by both wraps", one_text);
-    printf("%d texts: %lu drop nothing and are the same by both; %lu differ; %lu are kept whole by waiting; "
-           "%lu drop by both\n",
-           TEXTS, same, told_apart, kept_whole, dropped_by_both);
+    printf(
+        "%d texts: %lu drop nothing and are the same by both; %lu differ; %lu are kept whole by waiting; "
+        "%lu drop by both\n",
+        TEXTS, same, told_apart, kept_whole, dropped_by_both);
     expect("half of the texts or more drop nothing", same >= TEXTS / 2);
     expect("texts that differ, are kept whole, and drop by both",
            told_apart >= TEXTS / 50 && kept_whole >= TEXTS / 100 && dropped_by_both >= TEXTS / 100);
