@@ -101,7 +101,7 @@ static int put(struct app *app, int row, const uint32_t *event)
         memset(cell, 0, sizeof app->screen[row][column]);
         memcpy(cell, app->text + at, n);
         if (strcmp(cell, "\xC2\xAD") == 0) {
-            strcpy(cell, "-");
+            memcpy(cell, "-", 2);
         }
         at += n;
     }
