@@ -14,7 +14,7 @@
 #include <string.h>
 
 #define NUMBERS BISQUEMOP_LINE_NUMBERS
-#define TEXTS 4000
+#define TEXTS share_of(4000)
 #define CHARACTERS 60 /* of a text */
 #define BYTES (4 * CHARACTERS)
 #define MOST (BYTES + 1) /* lines of a text */
@@ -201,6 +201,6 @@ void test_choosing(void)
     each_unlaid(test_unlaid, 0, 0);
     each_long_text(test_long_text);
     test_by_chance(110, TEXTS, "and another to choose from", one_pair);
-    expect("long texts, short ones, parts, and characters of several bytes left out",
-           long_ones > TEXTS && whole_ones > TEXTS && parts > TEXTS && many_bytes > TEXTS);
+    expect_of_all("long texts, short ones, parts, and characters of several bytes left out",
+                  long_ones > TEXTS && whole_ones > TEXTS && parts > TEXTS && many_bytes > TEXTS);
 }

@@ -14,8 +14,8 @@
 #include <string.h>
 
 #define NUMBERS BISQUEMOP_LINE_NUMBERS
-#define TEXTS 4000
-#define PLANS 150
+#define TEXTS share_of(4000)
+#define PLANS share_of(150)
 #define CHARACTERS 40 /* of a text */
 #define BYTES (4 * CHARACTERS)
 #define MOST (BYTES + 1) /* lines of a text */
@@ -259,9 +259,9 @@ void test_columns(void)
     test_no_lines();
     each_long_text(test_long_text);
     test_by_chance(114, TEXTS, "and whether it fits", one_fit);
-    expect("texts that fit, that have too many lines and that drop something",
-           yes > TEXTS && too_many > TEXTS && dropping > TEXTS / 8);
+    expect_of_all("texts that fit, that have too many lines and that drop something",
+                  yes > TEXTS && too_many > TEXTS && dropping > TEXTS / 8);
     test_by_chance(115, PLANS, "and a width for it", one_plan);
-    expect("widths found and none, some between glyphs, of plain texts and others",
-           found > PLANS / 2 && none > PLANS / 4 && between > 0 && plain > PLANS / 2 && others > PLANS / 2);
+    expect_of_all("widths found and none, some between glyphs, of plain texts and others",
+                  found > PLANS / 2 && none > PLANS / 4 && between > 0 && plain > PLANS / 2 && others > PLANS / 2);
 }

@@ -11,7 +11,7 @@
 #include <string.h>
 
 #define NUMBERS BISQUEMOP_LINE_NUMBERS
-#define TEXTS 1500
+#define TEXTS share_of(1500)
 #define CHAIN 6       /* edits of one text */
 #define CHARACTERS 60 /* of a text */
 #define BYTES (8 * CHARACTERS)
@@ -286,6 +286,7 @@ void test_index(void)
         test_example(what, &examples[i]);
     }
     test_by_chance(107, TEXTS, "and its index", one_text);
-    expect("edits that keep ys, to more lines and to fewer", kept_some > TEXTS && grown > TEXTS && shrunk > TEXTS);
-    expect("lines that are joined", joined > TEXTS / 4);
+    expect_of_all("edits that keep ys, to more lines and to fewer",
+                  kept_some > TEXTS && grown > TEXTS && shrunk > TEXTS);
+    expect_of_all("lines that are joined", joined > TEXTS / 4);
 }

@@ -13,7 +13,7 @@
 #include <stdio.h>
 #include <string.h>
 
-#define TEXTS 10000
+#define TEXTS share_of(10000)
 #define LONGEST 60 /* characters of a text */
 #define BYTES (4 * LONGEST)
 #define LINE BISQUEMOP_LINE_NUMBERS
@@ -237,10 +237,11 @@ void test_one_line(void)
     unsigned long rests = with_rest;
     test_by_chance(1061, TEXTS, "from anywhere", one_start);
     printf(
-        "%d texts: %lu in several lines, %lu lines with a rest, %lu at the text's end; from anywhere %lu within words, "
+        "%lu texts: %lu in several lines, %lu lines with a rest, %lu at the text's end; from anywhere %lu within words, "
         "%lu with a rest\n",
         TEXTS, several, rests, at_end, within, with_rest - rests);
-    expect("texts in several lines, lines with a rest and lines at the end",
-           several >= TEXTS / 2 && rests >= TEXTS / 10 && at_end >= TEXTS / 10);
-    expect("starts within words, and starts with a rest", within >= TEXTS / 10 && with_rest - rests >= TEXTS / 2);
+    expect_of_all("texts in several lines, lines with a rest and lines at the end",
+                  several >= TEXTS / 2 && rests >= TEXTS / 10 && at_end >= TEXTS / 10);
+    expect_of_all("starts within words, and starts with a rest",
+                  within >= TEXTS / 10 && with_rest - rests >= TEXTS / 2);
 }

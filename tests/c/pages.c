@@ -14,7 +14,7 @@
 
 #define NUMBERS BISQUEMOP_LINE_NUMBERS
 #define PAGE BISQUEMOP_PAGE_NUMBERS
-#define TEXTS 1500
+#define TEXTS share_of(1500)
 #define CHAIN 6       /* edits of one text */
 #define CHARACTERS 60 /* of a text */
 #define BYTES (8 * CHARACTERS)
@@ -280,7 +280,7 @@ static void test_long_text(const struct long_text *x)
     static uint32_t list[PAGE * (BISQUEMOP_LINES_MAX / LEAST + 1)];
     const uint32_t count = (uint32_t)x->count, limits[] = {LEAST, LEAST + 1, 9, count, count + 1, 65535, UINT32_MAX};
     const size_t room = NUMBERS * x->count;
-    for (size_t i = 0; i < sizeof limits / sizeof limits[0]; i++) {
+    for (size_t i = 0; i < sizeof limits / sizeof limits[0]; i += step_of(3)) {
         uint32_t h = limits[i] < LEAST ? LEAST : limits[i];
         uint64_t n = put_pages(x->lines, count, sizeof x->text, h, list);
         size_t enough = PAGE * (size_t)n;
@@ -381,7 +381,7 @@ void test_pages(void)
     test_no_lines();
     each_long_text(test_long_text);
     test_by_chance(111, TEXTS, "and its pages", one_text);
-    expect("edits that keep pages, to more pages and to fewer",
-           kept_some > TEXTS && grown > TEXTS / 2 && shrunk > TEXTS / 2);
-    expect("tables that are bad", bad_tables > TEXTS / 3);
+    expect_of_all("edits that keep pages, to more pages and to fewer",
+                  kept_some > TEXTS && grown > TEXTS / 2 && shrunk > TEXTS / 2);
+    expect_of_all("tables that are bad", bad_tables > TEXTS / 3);
 }

@@ -7,7 +7,7 @@
 #include <stdio.h>
 #include <string.h>
 
-#define TEXTS 100000
+#define TEXTS share_of(100000)
 #define LONGEST 300
 
 /* A scalar value: any, or one near an end of a row of Table 3-7. */
@@ -87,6 +87,6 @@ void test_random(void)
             expect("the text is only read", 0);
         }
     }
-    expect("a quarter of the random texts or more are UTF-8", good >= TEXTS / 4);
-    expect("a quarter of the random texts or more are not", TEXTS - good >= TEXTS / 4);
+    expect_of_all("a quarter of the random texts or more are UTF-8", good >= TEXTS / 4);
+    expect_of_all("a quarter of the random texts or more are not", TEXTS - good >= TEXTS / 4);
 }
