@@ -25,9 +25,10 @@ static void print_usage(FILE *out)
     for (int k = 0; k < SUBCOMMANDS; k++) {
         fprintf(out, "  %-7s %s\n", subcommands[k]->name, subcommands[k]->summary);
     }
-    fprintf(out, "\n'bisquemop help SUBCOMMAND' explains one of them, 'bisquemop --version' says\n"
-                 "which version this is. Exit status: 0 nothing is lost; 1 a character is not on\n"
-                 "the screen; 2 refused, or the words are wrong.\n");
+    fprintf(out,
+            "\n'bisquemop help SUBCOMMAND' explains one of them, 'bisquemop --version' says\n"
+            "which version this is. Exit status: 0 nothing is lost; 1 a character is not on\n"
+            "the screen; 2 refused, or the words are wrong.\n");
 }
 
 void print_help(const struct subcommand *subcommand)

@@ -23,7 +23,7 @@ static void next_row(unsigned row[NEAREST_ROOM], char letter, const char *b, uns
 
 unsigned letters_apart(const char *a, const char *b)
 {
-    unsigned row[NEAREST_ROOM];
+    unsigned row[NEAREST_ROOM] = {0};
     size_t count = strlen(b);
     if (count >= NEAREST_ROOM || strlen(a) >= NEAREST_ROOM) {
         return NEAREST_ROOM;
@@ -51,7 +51,7 @@ void nearest_option(const char *word, const char *help, char option[NEAREST_ROOM
             memcpy(known, at, count);
             known[count] = 0;
             if (is_near(word, known) && (!option[0] || letters_apart(word, known) < letters_apart(word, option))) {
-                strcpy(option, known);
+                memcpy(option, known, count + 1);
             }
         }
     }

@@ -143,8 +143,8 @@ static void unknown_choice(const struct words *words, const char *const *names)
 {
     char list[100] = "";
     for (; *names; names++) {
-        strcat(list, " ");
-        strcat(list, *names);
+        size_t used = strlen(list);
+        snprintf(list + used, sizeof list - used, " %s", *names);
     }
     misused(words, "%s %s is not known; choose one of%s", words->word, words->given, list);
 }

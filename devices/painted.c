@@ -15,11 +15,13 @@
 enum { PAINTED_WORDS = 4096, PAINT = 0x5AFE5AFE, CHARACTERS = 100, TEXT_ROOM = 8 * CHARACTERS };
 
 /* The calls, and the most that each has used. */
+/* clang-format off */
 #define CALLS(DO) \
     DO(check_settings) DO(check_text) DO(tokens) DO(layout) DO(layout_events) DO(open) DO(one_line) \
     DO(first_affected) DO(lay_again) DO(height) DO(line_y) DO(index) DO(index_again) DO(find_line) \
     DO(write_file) DO(read_file) DO(choose) DO(pages) DO(pages_again) \
     DO(columns_fit) DO(columns_plan)
+/* clang-format on */
 #define NUMBER(call) AT_##call,
 #define NAME(call) "bisquemop_" #call,
 enum { CALLS(NUMBER) CALL_COUNT };

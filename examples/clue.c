@@ -101,7 +101,7 @@ static int put(struct app *app, int row, const uint32_t *event)
         memset(cell, 0, sizeof app->screen[row][column]);
         memcpy(cell, app->text + at, n);
         if (strcmp(cell, "\xC2\xAD") == 0) {
-            strcpy(cell, "-");
+            memcpy(cell, "-", 2);
         }
         at += n;
     }
@@ -142,7 +142,8 @@ static void say_line(const struct app *app, uint64_t line)
         } while ((app->text[from] & 0xC0) == 0x80);
     }
     if (dropped > 0) {
-        printf(", %" PRIu32 " characters dropped: \"%.*s\"", dropped, (int)(end - from), (const char *)app->text + from);
+        printf(", %" PRIu32 " characters dropped: \"%.*s\"", dropped, (int)(end - from),
+               (const char *)app->text + from);
     }
 }
 

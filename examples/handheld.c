@@ -168,8 +168,8 @@ static void show(const char *title, enum bisquemop_wrap wrap)
     const uint8_t *text = (const uint8_t *)clue;
 
     settings.wrap = wrap;
-    must(bisquemop_settings_layout_events(&settings, text, sizeof clue - 1, table, TABLE_LEN, events, EVENTS_LEN, &lines,
-                                          &event_count));
+    must(bisquemop_settings_layout_events(&settings, text, sizeof clue - 1, table, TABLE_LEN, events, EVENTS_LEN,
+                                          &lines, &event_count));
     memset(frame, 0, sizeof frame);
     left_out = 0;
     draw_lines(text, sizeof clue - 1);

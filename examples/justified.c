@@ -19,9 +19,10 @@ enum {
 #define TABLE_LEN (BISQUEMOP_LINE_NUMBERS * (TEXT_ROOM + 1))
 #define EVENTS_LEN (BISQUEMOP_EVENT_NUMBERS * TEXT_ROOM)
 
-static const char text[] = "Nobody saw the baker leave. But there was flour on the sill, the door stood open, and the "
-                           "dog that barks at all of us had not barked at all: it sat in the yard, and had a loaf "
-                           "between its paws.";
+static const char text[] =
+    "Nobody saw the baker leave. But there was flour on the sill, the door stood open, and the "
+    "dog that barks at all of us had not barked at all: it sat in the yard, and had a loaf "
+    "between its paws.";
 
 static uint32_t table[TABLE_LEN], events[EVENTS_LEN];
 static uint64_t lines, event_count;

@@ -161,9 +161,10 @@ static void show_clue(const char *long_clue, const char *short_clue)
 int main(void)
 {
     static const char long_clue[] = "The dog that barks at all of us did not bark at the baker.";
-    list_pages("How to play\n"
-               "Each clue is true, and one of the nine bakers lies in none of them. Ask them in any order.\n"
-               "A baker who has been asked twice says nothing more.\nName the one who lied.");
+    list_pages(
+        "How to play\n"
+        "Each clue is true, and one of the nine bakers lies in none of them. Ask them in any order.\n"
+        "A baker who has been asked twice says nothing more.\nName the one who lied.");
     printf("The rules, four lines to a page:\n");
     show_from(0);
     replace("twice", "three times");

@@ -146,7 +146,8 @@ static void tap_around(void)
 
 int main(void)
 {
-    static const char page[] = "How to play\nEach clue is true. One baker lies in none of them, and the others wait.\nTap a word.";
+    static const char page[] =
+        "How to play\nEach clue is true. One baker lies in none of them, and the others wait.\nTap a word.";
     len = (uint32_t)strlen(page);
     memcpy(text, page, len);
     lay_page();

@@ -31,8 +31,15 @@ static void must(uint32_t number)
 
 static void phone(void)
 {
-    struct bisquemop_settings settings = {.glyph = 6, .width = 72, .tab = 24, .spacing = 9, .base = 8, .height = 64,
-                                          .top = -4, .leading = 1, .wrap = BISQUEMOP_WRAP_WAIT};
+    struct bisquemop_settings settings = {.glyph = 6,
+                                          .width = 72,
+                                          .tab = 24,
+                                          .spacing = 9,
+                                          .base = 8,
+                                          .height = 64,
+                                          .top = -4,
+                                          .leading = 1,
+                                          .wrap = BISQUEMOP_WRAP_WAIT};
     uint32_t table[TABLE_LEN];
     uint64_t lines;
     must(bisquemop_settings_layout(&settings, (const uint8_t *)clue, sizeof clue - 1, table, TABLE_LEN, &lines));
@@ -53,8 +60,9 @@ static void receive(void)
     must(bisquemop_read_file(sent, sent_len, numbers, BISQUEMOP_SETTINGS_NUMBERS, table, TABLE_LEN, &lines, &len));
     settings = bisquemop_settings_from(numbers);
     memcpy(text, clue, (size_t)len);
-    printf("The handheld reads %" PRIu64 " lines of a text of %" PRIu64 " bytes, in a box %" PRIu32 " wide at %" PRId32 ":\n", lines,
-           len, settings.width, settings.top);
+    printf("The handheld reads %" PRIu64 " lines of a text of %" PRIu64 " bytes, in a box %" PRIu32 " wide at %" PRId32
+           ":\n",
+           lines, len, settings.width, settings.top);
 }
 
 static void show(void)
@@ -84,8 +92,8 @@ static void edit(uint32_t a, uint32_t b, const char *by)
     uint32_t start = table[BISQUEMOP_LINE_NUMBERS * first + BISQUEMOP_LINE_START];
     must(bisquemop_settings_lay_again(&settings, text + start, len - start, table, TABLE_LEN, lines, a, b, inserted,
                                       &lines, &laid));
-    printf("The baker becomes the cook; from line %" PRIu64 " on, %" PRIu64 " of %" PRIu64 " lines are laid again:\n", first, laid,
-           lines);
+    printf("The baker becomes the cook; from line %" PRIu64 " on, %" PRIu64 " of %" PRIu64 " lines are laid again:\n",
+           first, laid, lines);
 }
 
 int main(void)

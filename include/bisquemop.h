@@ -69,7 +69,8 @@ typedef char bisquemop_numbers_stand_at_multiples_of_their_size[sizeof(struct bi
 typedef char bisquemop_pointers_have_32_or_64_bits[sizeof(void *) == 4 || sizeof(void *) == 8 ? 1 : -1];
 
 /* Why a call refused what it was given, and what *value then is. The tests are made in the order of these numbers, but
-   for a file: there 9 and 11 come first, and 12 after 2. */
+   for a file: there 9 and 11 come first, and 12 after 2. 7 is not used: it was for a line that breaks without taking a
+   character, and there is none, as is proved. */
 enum bisquemop_refusal {
     BISQUEMOP_OK = 0,                   /* the call is done, and says what *value is */
     BISQUEMOP_SETTING_OUT_OF_RANGE = 1, /* 0; a limit of no lines is out of range too */
@@ -78,13 +79,12 @@ enum bisquemop_refusal {
     BISQUEMOP_NOT_UTF8 = 4,             /* the length in bytes of its longest prefix that is UTF-8 */
     BISQUEMOP_BAD_LINE = 5,             /* the first bad line of the table; 0 for one line's bad start or bad rest */
     BISQUEMOP_BAD_EDIT = 6,             /* 0 */
-    /* 7 is not used. It was for a line that breaks without taking a character, and there is none: that is proved */
     BISQUEMOP_TOO_SMALL = 8,            /* how many lines, tokens, events, ys, settings, bytes or pages the buffer must
                                            have room for */
     BISQUEMOP_BAD_FIELD = 9,            /* the offset in the file of the first field that is not as it should be */
     BISQUEMOP_BAD_INDEX = 10,           /* the index's length if it is not the count of lines; else the first line whose
                                            y is smaller than that of the line before it */
-    BISQUEMOP_OLD_ENTRY = 11,           /* the offset in the file of a line that has too few numbers, as lines had once */
+    BISQUEMOP_OLD_ENTRY = 11,           /* the offset in the file of a line that has too few numbers, as once */
     BISQUEMOP_RETIRED_SETTING = 12      /* 0; the file's other settings are handed out, with a 0 for `trailing` */
 };
 
@@ -97,11 +97,7 @@ enum bisquemop_alignment {
 };
 
 /* How the lines stand between the top and the bottom of the box. */
-enum bisquemop_vertical {
-    BISQUEMOP_VERTICAL_TOP = 0,
-    BISQUEMOP_VERTICAL_MIDDLE = 1,
-    BISQUEMOP_VERTICAL_BOTTOM = 2
-};
+enum bisquemop_vertical { BISQUEMOP_VERTICAL_TOP = 0, BISQUEMOP_VERTICAL_MIDDLE = 1, BISQUEMOP_VERTICAL_BOTTOM = 2 };
 
 /* What becomes of a word of which no character fits into a line that has no word yet, as after an indent. By WAIT, left
    aligned and in a box at least a glyph wide, no line of any text drops anything. */
@@ -177,10 +173,7 @@ enum bisquemop_page_column {
 #define BISQUEMOP_PAGE_NUMBERS 3 /* how many numbers a page has in a list */
 
 /* Which of two texts was chosen. */
-enum bisquemop_which {
-    BISQUEMOP_LONG_TEXT = 0,
-    BISQUEMOP_SHORT_TEXT = 1
-};
+enum bisquemop_which { BISQUEMOP_LONG_TEXT = 0, BISQUEMOP_SHORT_TEXT = 1 };
 
 /* The columns of a token: token k's number of a column stands at BISQUEMOP_TOKEN_NUMBERS * k + the column. */
 enum bisquemop_token_column {

@@ -54,10 +54,10 @@ quietly() { # LOG COMMAND..
 
 may_install() { [ "$(id -u)" = 0 ] && command -v apt-get >/dev/null; }
 
-# A package of Debian's for x86-64 on another machine ends in :amd64.
+# A package of Debian's for x86-64 on another machine ends in :amd64. None is removed for another.
 install_now() { # PACKAGE..
     case "$* " in *:amd64\ *) dpkg --add-architecture amd64 || return ;; esac
-    apt-get update && DEBIAN_FRONTEND=noninteractive apt-get install -y --no-install-recommends "$@"
+    apt-get update && DEBIAN_FRONTEND=noninteractive apt-get install -y --no-install-recommends --no-remove "$@"
 }
 
 # Installs Debian packages, or says which ones are missing.
@@ -77,6 +77,25 @@ install_packages() { # WHAT PACKAGE..
 needs() { # COMMAND PACKAGE..
     command -v "$1" >/dev/null || install_packages "$@"
     command -v "$1" >/dev/null || die "there is no command $1"
+}
+
+# The first program of a name on the PATH with which a command succeeds that is given its path; nothing, where there is none.
+first_with() { # NAME COMMAND..
+    called=$1
+    shift
+    printf '%s\n' "$PATH" | tr : '\n' | while read -r folder; do
+        [ -x "$folder/$called" ] || continue
+        ! "$@" "$folder/$called" </dev/null >/dev/null 2>&1 || { printf '%s\n' "$folder/$called" && break; }
+    done
+}
+
+# Debian's packages of Rust. Debian 12 has newer ones for its browsers, which are no neighbours of the older ones.
+rust_packages() {
+    if dpkg -s rustc >/dev/null 2>&1 || ! apt-cache show rustc-web >/dev/null 2>&1; then
+        echo 'cargo rustfmt rust-clippy'
+    else
+        echo 'cargo-web rustfmt-web rust-web-clippy'
+    fi
 }
 
 # The compilers of the header, for this machine.
@@ -149,6 +168,69 @@ holds() { # WHAT COMMAND..
 }
 same() { # WHAT EXPECTED GOT
     if [ "$3" = "$2" ]; then pass; else fail "$(printf '%s: expected\n%s\ngot\n%s' "$1" "$2" "$3")"; fi
+}
+
+# What a command prints, and how it ends where that is not well.
+output() { "$@" || echo "(status $?)"; } # COMMAND..
+
+# Ends a program of tests well, and is its last line 'N passed, 0 failed', with something passed. What it says is left in a file.
+all_passes() { # LOG COMMAND..
+    log=$1
+    shift
+    status=0
+    "$@" >"$log" 2>&1 || status=$?
+    case $status,$(tail -n 1 "$log") in
+    0,'0 passed'*) ;;
+    0,*[0-9]' passed, 0 failed') return 0 ;;
+    esac
+    tail -n 20 "$log" >&2
+    say "its status is $status: $*"
+    return 1
+}
+
+# Calls a function for each of some words, as many side by side as there are processors, each with a folder of its own as $out. Then
+# shows what each of them said, in the order of the words, and adds what it counted.
+side_by_side() { # FUNCTION WORD..
+    rm -rf "$out/beside"
+    mkdir -p "$out/beside"
+    lanes=''
+    for _ in $(seq "${RT_JOBS:-$(nproc)}"); do
+        lane "$@" &
+        lanes="$lanes $!"
+    done
+    # shellcheck disable=SC2086
+    wait $lanes || true
+    shift
+    for word; do add_beside "$(plain_name "$word")" "$word"; done
+}
+plain_name() { printf '%s\n' "$1" | tr / .; } # WORD
+
+# A lane takes the words that no other has taken.
+lane() { # FUNCTION WORD..
+    function=$1
+    shift
+    for word; do
+        folder=$out/beside/$(plain_name "$word")
+        mkdir "$folder" 2>/dev/null || continue
+        call_beside "$function" "$word" >"$folder.log" 2>&1 &
+        wait $! || true
+    done
+}
+call_beside() { # FUNCTION WORD
+    set -e
+    out=$folder passed=0 failed=0
+    "$1" "$2"
+    echo "$passed $failed" >"$out/counted"
+}
+
+add_beside() { # NAME WORD
+    cat "$out/beside/$1.log" >&2
+    if [ -s "$out/beside/$1/counted" ]; then
+        read -r more fewer <"$out/beside/$1/counted"
+        passed=$((passed + more)) failed=$((failed + fewer))
+    else
+        fail "$2 came to no end"
+    fi
 }
 
 # The last line of a script that tests, and its exit status.

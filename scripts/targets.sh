@@ -83,11 +83,16 @@ program_words() {
     case $target in
     "$(this_machine)") ;;
     *-linux) echo '-static' ;;
-    # gcc's own stdint.h does not tell newlib's inttypes.h that there are numbers of 64 bits, newlib's does
-    cortex-m4) echo '-mcpu=cortex-m4 -mthumb -isystem /usr/include/newlib' ;;
+    cortex-m4) echo "-mcpu=cortex-m4 -mthumb $(newlib_words)" ;;
     wasm32) echo '--target=wasm32-wasi' ;;
     *) echo "--target=$triple -ffreestanding" ;;
     esac
+}
+
+# gcc's own stdint.h does not tell newlib's inttypes.h that there are numbers of 64 bits, newlib's does: so its folder comes first. The
+# compiler knows where it is.
+newlib_words() {
+    echo '#include <newlib.h>' | "$cc" -E -x c - 2>/dev/null | sed -n 's|^# 1 "\(.*\)/newlib\.h".*|-isystem \1|p'
 }
 
 # What it links besides. $memory is a map of the Cortex-M4's memory in devices/cortex-m4.

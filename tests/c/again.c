@@ -94,6 +94,7 @@ static void test_example(const struct edit_example *x, uint32_t wrap)
 /* Edits of texts that drop nothing, and so are laid by both wraps alike. */
 static void test_examples(void)
 {
+    /* clang-format off */
     static const struct edit_example list[] = {
         /* the scope's: "x" put in; "e" taken out, which stands on line 1 and affects line 0 */
         {"the scope's first", 30, "aa\nbb\ncc", 3, 3, "x", 1, 1, 3,
@@ -186,6 +187,7 @@ static void test_examples(void)
          {0, 0, 0, 0, 0, 6, 0, 12, 0, 3, 0, /**/ 3, 0, 0, 0, 0, 6, 0, 12, 0, 6, 3, /**/
           6, 0, 0, 2, 0, 6, 0, 6, 0, 8, 6}},
     };
+    /* clang-format on */
     for (size_t i = 0; i < sizeof list / sizeof list[0]; i++) {
         test_example(&list[i], DROP);
         test_example(&list[i], WAIT);
@@ -195,6 +197,7 @@ static void test_examples(void)
 /* Edits where a word waits, before or after or both. The numbers come from the rules, by hand. */
 static void test_waiting(void)
 {
+    /* clang-format off */
     static const struct edit_example list[] = {
         {"an indent grows to the box, and a word waits", 30, "    ab", 0, 0, " ", 0, 2, 2,
          {0, 0, 0, 3, 0, 6, 0, 0, 0, 8, 0, /**/ 5, 0, 0, 2, 0, 6, 0, 12, 0, 8, 5}},
@@ -211,6 +214,7 @@ static void test_waiting(void)
          {0, 0, 0, 0, 0, 6, 0, 18, 0, 4, 0, /**/ 4, 0, 0, 3, 0, 6, 0, 0, 0, 12, 4, /**/
           9, 0, 0, 2, 0, 6, 0, 12, 0, 12, 9}},
     };
+    /* clang-format on */
     for (size_t i = 0; i < sizeof list / sizeof list[0]; i++) {
         test_example(&list[i], WAIT);
     }
@@ -219,6 +223,7 @@ static void test_waiting(void)
 /* Tables of no text, which are treated by the same steps. The numbers come from the rules, by hand. */
 static void test_no_text(void)
 {
+    /* clang-format off */
     static const struct {
         const char *what;
         uint64_t lines;
@@ -270,9 +275,10 @@ static void test_no_text(void)
          {0, 0, 0, 3, 0, 6, 0, 18, 0, 7, 0, /**/ 4, 6, 0, 2, 0, 6, 0, 18, 0, 8, 1}, "  de", {7, 7, 1}, 1, 2,
          {0, 0, 0, 3, 0, 6, 0, 18, 0, 7, 0, /**/ 4, 6, 0, 2, 0, 6, 0, 12, 0, 9, 1}},
     };
+    /* clang-format on */
     for (size_t i = 0; i < sizeof list / sizeof list[0]; i++) {
-        struct relay given = {(const uint8_t *)list[i].part, strlen(list[i].part), table, 0, list[i].lines,
-                              list[i].edit};
+        struct relay given = {
+            (const uint8_t *)list[i].part, strlen(list[i].part), table, 0, list[i].lines, list[i].edit};
         clear_lines(4 * MOST);
         memcpy(table, list[i].old, NUMBERS * list[i].lines * sizeof *table);
         lines_become(list[i].what, boxed(18, DROP), given, list[i].laid, list[i].now, list[i].count);

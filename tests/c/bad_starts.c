@@ -111,7 +111,8 @@ static void test_edges(void)
 /* Every start, rest end and rest count up to past the text, and numbers that would be small if they were cut. */
 static void test_every_stand(void)
 {
-    static const uint32_t far[] = {65535, 65536, 0x10001, 0x7FFFFFFF, 0x80000000, 0x80000003, UINT32_MAX - 1, UINT32_MAX};
+    static const uint32_t far[] = {65535,      65536,      0x10001,        0x7FFFFFFF,
+                                   0x80000000, 0x80000003, UINT32_MAX - 1, UINT32_MAX};
     const uint32_t near = LEN + 3, all = near + sizeof far / sizeof far[0];
     struct bisquemop_settings s = laid(6, 30, LEFT, 1, DROP);
     unsigned long good = 0;

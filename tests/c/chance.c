@@ -28,6 +28,30 @@ void seed_with(uint64_t seed)
     }
 }
 
+static unsigned long one_in = 1;
+
+void make_one_in(unsigned long many)
+{
+    one_in = many > 0 ? many : 1;
+}
+
+unsigned long share_of(unsigned long cases)
+{
+    return cases < one_in ? 1 : cases / one_in;
+}
+
+size_t step_of(size_t longer)
+{
+    return one_in > 1 ? longer : 1;
+}
+
+void expect_of_all(const char *what, int holds)
+{
+    if (one_in == 1) {
+        expect(what, holds);
+    }
+}
+
 static const uint32_t white_space[] = {0x09,   0x0A,   0x0B,   0x0C,   0x0D,   0x20,   0x85,   0xA0,   0x1680,
                                        0x2000, 0x2001, 0x2002, 0x2003, 0x2004, 0x2005, 0x2006, 0x2007, 0x2008,
                                        0x2009, 0x200A, 0x2028, 0x2029, 0x202F, 0x205F, 0x3000};

@@ -6,6 +6,13 @@
 
 void seed_with(uint64_t seed);
 
+/* Of so many cases by chance, how many are made: all of them, or one in so many as was said. The step through a list is
+   1, or a longer one where not all cases are made. That there are enough cases of a kind is expected of all of them. */
+void make_one_in(unsigned long many);
+unsigned long share_of(unsigned long cases);
+size_t step_of(size_t longer);
+void expect_of_all(const char *what, int holds);
+
 /* A number below n. */
 uint32_t below(uint32_t n);
 

@@ -11,7 +11,7 @@
 #include <stdio.h>
 #include <string.h>
 
-#define TEXTS 10000
+#define TEXTS share_of(10000)
 #define CHAIN 4    /* edits of one text */
 #define LONGEST 60 /* characters of a text */
 #define BYTES (4 * LONGEST)
@@ -113,10 +113,11 @@ static void one_text(const char *what, struct bisquemop_settings s)
 void test_characters(void)
 {
     test_by_chance(109, TEXTS, "in characters", one_text);
-    printf("%d texts: %lu lines with fewer characters than bytes before them; old lines follow %lu edits, with other "
-           "characters before them %lu, where they stood %lu\n",
-           TEXTS, fewer, follow, otherwise, in_place);
-    expect("lines with fewer characters than bytes before them", fewer >= 10 * TEXTS);
-    expect("edits that old lines follow, with other characters before them, and where they stood",
-           follow >= TEXTS / 2 && otherwise >= TEXTS / 4 && in_place >= TEXTS / 100);
+    printf(
+        "%lu texts: %lu lines with fewer characters than bytes before them; old lines follow %lu edits, with other "
+        "characters before them %lu, where they stood %lu\n",
+        TEXTS, fewer, follow, otherwise, in_place);
+    expect_of_all("lines with fewer characters than bytes before them", fewer >= 10 * TEXTS);
+    expect_of_all("edits that old lines follow, with other characters before them, and where they stood",
+                  follow >= TEXTS / 2 && otherwise >= TEXTS / 4 && in_place >= TEXTS / 100);
 }

@@ -1,11 +1,13 @@
 /*
  * The tests of the calls for C. Prints each case that fails, and at the end how many passed and failed.
  *
- * usage: checks [--edits N] [--seed N]
+ * usage: checks [--edits N] [--seed N] [--one-in N]
  *
  * N random edits are made, and as many tables and layout files spoiled at random, by default 20,000. They follow from
- * the seed, by default 1. With SMALL_MEMORY defined, the two tests that need the largest tables are left out.
+ * the seed, by default 1. Of all other texts by chance one in N is made, by default all. With SMALL_MEMORY defined, the
+ * two tests that need the largest tables are left out.
  */
+#include "chance.h"
 #include "harness.h"
 
 #include <stdio.h>
@@ -14,7 +16,7 @@
 
 static int usage(void)
 {
-    fprintf(stderr, "usage: checks [--edits N] [--seed N]\n");
+    fprintf(stderr, "usage: checks [--edits N] [--seed N] [--one-in N]\n");
     return 2;
 }
 
@@ -28,13 +30,19 @@ static int read_number(const char *word, unsigned long *n)
 
 int main(int count, char **words)
 {
-    unsigned long edits = 20000, seed = 1;
+    static const char *const names[] = {"--edits", "--seed", "--one-in"};
+    unsigned long numbers[] = {20000, 1, 1};
     for (int i = 1; i < count; i += 2) {
-        unsigned long *n = strcmp(words[i], "--edits") == 0 ? &edits : strcmp(words[i], "--seed") == 0 ? &seed : NULL;
-        if (n == NULL || i + 1 == count || !read_number(words[i + 1], n)) {
+        size_t which = 0;
+        while (which < 3 && strcmp(words[i], names[which]) != 0) {
+            which++;
+        }
+        if (which == 3 || i + 1 == count || !read_number(words[i + 1], &numbers[which])) {
             return usage();
         }
     }
+    unsigned long edits = numbers[0], seed = numbers[1];
+    make_one_in(numbers[2]);
     printf("settings\n");
     test_settings();
     printf("texts by length\n");

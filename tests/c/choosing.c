@@ -14,7 +14,7 @@
 #include <string.h>
 
 #define NUMBERS BISQUEMOP_LINE_NUMBERS
-#define TEXTS 4000
+#define TEXTS share_of(4000)
 #define CHARACTERS 60 /* of a text */
 #define BYTES (4 * CHARACTERS)
 #define MOST (BYTES + 1) /* lines of a text */
@@ -108,7 +108,8 @@ static void test_order(void)
     expect_no_choice("a setting before an alignment", both, &too_long, 1, BISQUEMOP_SETTING_OUT_OF_RANGE, 0);
     expect_no_choice("an alignment before texts", unknown, &too_long, 1, BISQUEMOP_UNKNOWN_ALIGNMENT, 4);
     expect_no_choice("both too long", good, &too_long, 1, BISQUEMOP_TEXT_TOO_LONG, sizeof long_one);
-    expect_no_choice("too long and not UTF-8, both", good, &too_long_and_bad, 1, BISQUEMOP_TEXT_TOO_LONG, sizeof longer);
+    expect_no_choice("too long and not UTF-8, both", good, &too_long_and_bad, 1, BISQUEMOP_TEXT_TOO_LONG,
+                     sizeof longer);
     expect_no_choice("not UTF-8 before too long", good, &bad_and_too_long, 1, BISQUEMOP_NOT_UTF8, 2);
     expect_no_choice("both not UTF-8", good, &bad_and_worse, 1, BISQUEMOP_NOT_UTF8, 2);
     /* the short text is looked at though the long one is chosen */
@@ -144,8 +145,8 @@ static size_t taken(const uint32_t *table, uint64_t lines, size_t len, uint32_t 
    is left out. */
 static unsigned long long_ones, whole_ones, parts, many_bytes;
 
-static void choose(const char *what, struct bisquemop_settings s, const struct two_texts *t, const uint32_t *short_table,
-                   uint64_t long_lines, uint64_t short_lines, uint32_t h)
+static void choose(const char *what, struct bisquemop_settings s, const struct two_texts *t,
+                   const uint32_t *short_table, uint64_t long_lines, uint64_t short_lines, uint32_t h)
 {
     size_t part = taken(short_table, short_lines, t->short_len, h);
     uint32_t left_out = characters_in(t->short_text + part, t->short_len - part);
@@ -170,8 +171,9 @@ static void one_pair(const char *what, struct bisquemop_settings s)
     t.short_len = random_text(short_text, below(CHARACTERS));
     uint32_t long_lines = (uint32_t)lay_text(what, s, long_text, t.long_len, table, NUMBERS * MOST);
     uint32_t short_lines = (uint32_t)lay_text(what, s, short_text, t.short_len, table, NUMBERS * MOST);
-    const uint32_t limits[] = {1, 2, 1 + below(long_lines), long_lines, long_lines + 1, long_lines - 1, short_lines,
-                               short_lines - 1, UINT32_MAX};
+    const uint32_t limits[] = {
+        1,         2, 1 + below(long_lines), long_lines, long_lines + 1, long_lines - 1, short_lines, short_lines - 1,
+        UINT32_MAX};
     for (size_t i = 0; i < sizeof limits / sizeof limits[0]; i++) {
         if (limits[i] > 0) {
             choose(what, s, &t, table, long_lines, short_lines, limits[i]);
@@ -199,6 +201,6 @@ void test_choosing(void)
     each_unlaid(test_unlaid, 0, 0);
     each_long_text(test_long_text);
     test_by_chance(110, TEXTS, "and another to choose from", one_pair);
-    expect("long texts, short ones, parts, and characters of several bytes left out",
-           long_ones > TEXTS && whole_ones > TEXTS && parts > TEXTS && many_bytes > TEXTS);
+    expect_of_all("long texts, short ones, parts, and characters of several bytes left out",
+                  long_ones > TEXTS && whole_ones > TEXTS && parts > TEXTS && many_bytes > TEXTS);
 }

@@ -14,8 +14,8 @@
 #include <string.h>
 
 #define NUMBERS BISQUEMOP_LINE_NUMBERS
-#define TEXTS 4000
-#define PLANS 150
+#define TEXTS share_of(4000)
+#define PLANS share_of(150)
 #define CHARACTERS 40 /* of a text */
 #define BYTES (4 * CHARACTERS)
 #define MOST (BYTES + 1) /* lines of a text */
@@ -80,6 +80,7 @@ static void plan(const char *what, struct bisquemop_settings s, const uint8_t *o
 
 /* ---- examples */
 
+/* clang-format off */
 static const struct {
     uint32_t glyph, alignment, wrap;
     const char *text;
@@ -111,6 +112,7 @@ static const struct {
     {6, LEFT, DROP, "a\tb", 1, 30},
     {6, RIGHT, DROP, "a\ta", 1, 30},
 };
+/* clang-format on */
 
 static void test_planned(void)
 {
@@ -210,7 +212,8 @@ static void one_fit(const char *what, struct bisquemop_settings s)
 {
     len = random_text(text, below(CHARACTERS));
     struct fitted f = fitted_by(s, text, len);
-    const uint32_t lines = (uint32_t)f.lines, limits[] = {1, 2, lines, lines + 1, lines - 1, 1 + below(lines), UINT32_MAX};
+    const uint32_t lines = (uint32_t)f.lines,
+                   limits[] = {1, 2, lines, lines + 1, lines - 1, 1 + below(lines), UINT32_MAX};
     for (size_t i = 0; i < sizeof limits / sizeof limits[0]; i++) {
         if (limits[i] > 0) {
             int good = f.lines <= limits[i] && f.whole;
@@ -256,9 +259,9 @@ void test_columns(void)
     test_no_lines();
     each_long_text(test_long_text);
     test_by_chance(114, TEXTS, "and whether it fits", one_fit);
-    expect("texts that fit, that have too many lines and that drop something",
-           yes > TEXTS && too_many > TEXTS && dropping > TEXTS / 8);
+    expect_of_all("texts that fit, that have too many lines and that drop something",
+                  yes > TEXTS && too_many > TEXTS && dropping > TEXTS / 8);
     test_by_chance(115, PLANS, "and a width for it", one_plan);
-    expect("widths found and none, some between glyphs, of plain texts and others",
-           found > PLANS / 2 && none > PLANS / 4 && between > 0 && plain > PLANS / 2 && others > PLANS / 2);
+    expect_of_all("widths found and none, some between glyphs, of plain texts and others",
+                  found > PLANS / 2 && none > PLANS / 4 && between > 0 && plain > PLANS / 2 && others > PLANS / 2);
 }

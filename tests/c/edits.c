@@ -125,10 +125,11 @@ static unsigned long part_of(unsigned long kind, unsigned long of)
 
 static void expect_kinds(unsigned long of)
 {
-    printf("%lu edits: first affected line not line 0 %lu %%, with a rest %lu %%; old lines follow %lu %%, "
-           "moved %lu %%; no line laid %lu %%; more lines %lu %%, fewer %lu %%; table too small %lu %%\n",
-           of, part_of(behind, of), part_of(resumed, of), part_of(kept, of), part_of(moved, of),
-           part_of(none_laid, of), part_of(grown, of), part_of(shrunk, of), part_of(too_small, of));
+    printf(
+        "%lu edits: first affected line not line 0 %lu %%, with a rest %lu %%; old lines follow %lu %%, "
+        "moved %lu %%; no line laid %lu %%; more lines %lu %%, fewer %lu %%; table too small %lu %%\n",
+        of, part_of(behind, of), part_of(resumed, of), part_of(kept, of), part_of(moved, of), part_of(none_laid, of),
+        part_of(grown, of), part_of(shrunk, of), part_of(too_small, of));
     if (of < 10000) {
         return;
     }

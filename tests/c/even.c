@@ -10,7 +10,7 @@
 
 #include <stdio.h>
 
-#define TEXTS 30000
+#define TEXTS share_of(30000)
 #define LONGEST 60 /* characters of a text */
 #define LINE BISQUEMOP_LINE_NUMBERS
 #define EVENT BISQUEMOP_EVENT_NUMBERS
@@ -117,8 +117,8 @@ static void one_text(const char *what, struct bisquemop_settings s)
 void test_even(void)
 {
     test_by_chance(113, TEXTS, "justified", one_text);
-    printf("%d texts: %lu justified lines with room; %lu spaces with extra pixels; %lu lines held to the edge\n", TEXTS,
-           wider, uneven, at_the_edge);
-    expect("justified lines, spaces with extra pixels, and lines at the edge",
-           wider >= TEXTS / 10 && uneven >= TEXTS / 10 && at_the_edge >= TEXTS / 100);
+    printf("%lu texts: %lu justified lines with room; %lu spaces with extra pixels; %lu lines held to the edge\n",
+           TEXTS, wider, uneven, at_the_edge);
+    expect_of_all("justified lines, spaces with extra pixels, and lines at the edge",
+                  wider >= TEXTS / 10 && uneven >= TEXTS / 10 && at_the_edge >= TEXTS / 100);
 }

@@ -11,11 +11,12 @@
 
 struct bisquemop_settings laid(uint32_t glyph, uint32_t width, uint32_t alignment, uint32_t leading, uint32_t wrap)
 {
-    struct bisquemop_settings s = {glyph, width, 24, 10, 3, 8, 40, 0, alignment, BISQUEMOP_VERTICAL_TOP,
-                                   leading, 0, wrap};
+    struct bisquemop_settings s = {glyph,   width, 24,  10, 3, 8, 40, 0, alignment, BISQUEMOP_VERTICAL_TOP,
+                                   leading, 0,     wrap};
     return s;
 }
 
+/* clang-format off */
 const struct example examples[] = {
     /* an indent as wide as the box drops "not", and the line says so */
     {6, 30, LEFT, 1, DROP, "     not the baker",
@@ -344,6 +345,7 @@ const struct example examples[] = {
      3, {0, 0, 0, 3, 0, 50, 0, 30, 0, 4, 0, /**/ 2, 0, 0, 1, 0, 6, 0, 6, 0, 4, 2, /**/ 4, 0, 0, 2, 0, 6, 0, 0, 0, 5, 4},
      4, {SPACE, 0, 1, 1, 50, 0, /**/ SPACE, 1, 2, 0, 22, 50, /**/ PRINTED, 2, 3, 0, 6, 0, /**/ SPACE, 3, 4, 0, 0, 6}},
 };
+/* clang-format on */
 
 static int drops_nothing(const struct example *x)
 {

@@ -1,6 +1,5 @@
 #include "file_rules.h"
 
-
 #include <string.h>
 
 /* ---- writing */
@@ -27,9 +26,9 @@ size_t put_numbers(uint8_t *to, uint8_t tag, const uint32_t *numbers, size_t cou
 
 void number_settings(struct bisquemop_settings s, uint32_t *numbers)
 {
-    const uint32_t all[BISQUEMOP_SETTINGS_NUMBERS] = {s.glyph,  s.width,         s.tab,       s.spacing,  s.paragraph,
-                                                      s.base,   s.height,        (uint32_t)s.top, s.alignment, s.vertical,
-                                                      s.leading, s.trailing,     s.wrap};
+    const uint32_t all[BISQUEMOP_SETTINGS_NUMBERS] = {s.glyph,   s.width,    s.tab,           s.spacing,   s.paragraph,
+                                                      s.base,    s.height,   (uint32_t)s.top, s.alignment, s.vertical,
+                                                      s.leading, s.trailing, s.wrap};
     memcpy(numbers, all, sizeof all);
 }
 

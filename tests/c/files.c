@@ -57,7 +57,8 @@ static void expect_answer(const char *what, const uint8_t *bytes, size_t len, ui
 
 static void test_written(void)
 {
-    static const uint8_t start[] = {1, 52, 0, 6, 0, 0, 0, 30, 0, 0, 0}, top[] = {251, 255, 255, 255}, end[] = {255, 0, 0};
+    static const uint8_t start[] = {1, 52, 0, 6, 0, 0, 0, 30, 0, 0, 0}, top[] = {251, 255, 255, 255},
+                         end[] = {255, 0, 0};
     size_t len = make_from("");
     expect_write("the smallest file", known, table, TABLE, 1, len, BISQUEMOP_OK, len, file);
     expect("a file of one line", len == BISQUEMOP_FILE_BYTES(1));
@@ -167,7 +168,8 @@ static void test_lengths_of(size_t size, uint32_t number)
     at = add(0, 0, lines) + put_field(changed + lines, 3, size, body);
     expect_answer("a first line of another length", changed, add(at, lines, len - lines), number, lines);
     at = add(0, 0, lines + LINE) + put_field(changed + lines + LINE, 3, size, body);
-    expect_answer("a later line of another length", changed, add(at, lines + LINE, len - lines - LINE), number, lines + LINE);
+    expect_answer("a later line of another length", changed, add(at, lines + LINE, len - lines - LINE), number,
+                  lines + LINE);
     expect_answer("one that is cut short", changed, at - 1, BISQUEMOP_BAD_FIELD, lines + LINE);
     at = add(0, 0, len) + put_field(changed + len, 3, size, body);
     expect_answer("one after the end", changed, at, BISQUEMOP_BAD_FIELD, len);
@@ -216,7 +218,8 @@ static void test_retired(void)
 
 static void test_contents(void)
 {
-    static const uint32_t tops[][2] = {{4096, 0}, {4097, 1}, {UINT32_MAX - 4095, 0}, {UINT32_MAX - 4096, 1}, {0x80000000, 1}};
+    static const uint32_t tops[][2] = {
+        {4096, 0}, {4097, 1}, {UINT32_MAX - 4095, 0}, {UINT32_MAX - 4096, 1}, {0x80000000, 1}};
     size_t len;
     for (size_t i = 0; i < sizeof tops / sizeof tops[0]; i++) {
         len = with_setting(7, tops[i][0]);
@@ -247,9 +250,10 @@ static void test_long(void)
     expect_write("a long file", known, rows, room, lines, len, BISQUEMOP_OK, len, bytes);
     struct told t = tell_file(bytes, len, BISQUEMOP_SETTINGS_NUMBERS, room);
     expect("a long file is good", t.number == BISQUEMOP_OK && t.text_len == BISQUEMOP_TEXT_MAX);
-    expect_read("a long file is read", bytes, len, BISQUEMOP_SETTINGS_NUMBERS, room, t.number, t.value, t.settings, t.table,
-                t.text_len);
-    expect_read("a line too few", bytes, len, BISQUEMOP_SETTINGS_NUMBERS, room - 1, BISQUEMOP_TOO_SMALL, lines, NULL, NULL, 0);
+    expect_read("a long file is read", bytes, len, BISQUEMOP_SETTINGS_NUMBERS, room, t.number, t.value, t.settings,
+                t.table, t.text_len);
+    expect_read("a line too few", bytes, len, BISQUEMOP_SETTINGS_NUMBERS, room - 1, BISQUEMOP_TOO_SMALL, lines, NULL,
+                NULL, 0);
 }
 #endif
 

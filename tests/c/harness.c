@@ -152,9 +152,9 @@ void expect_layout(const char *what, struct bisquemop_settings s, const uint8_t 
 {
     struct answer plain = no_answer(), spread = no_answer();
     size_t count = number == BISQUEMOP_OK ? BISQUEMOP_LINE_NUMBERS * (size_t)value : 0;
-    plain.number = bisquemop_layout(s.glyph, s.width, s.tab, s.spacing, s.paragraph, s.base, s.height, s.top,
-                                    s.alignment, s.vertical, s.leading, s.trailing, s.wrap, text, len, lend(room), room,
-                                    &plain.value);
+    plain.number =
+        bisquemop_layout(s.glyph, s.width, s.tab, s.spacing, s.paragraph, s.base, s.height, s.top, s.alignment,
+                         s.vertical, s.leading, s.trailing, s.wrap, text, len, lend(room), room, &plain.value);
     if (!compare(what, &plain, number, value)) {
         show_text(text, len);
     }
@@ -175,12 +175,12 @@ void expect_drawing(const char *what, struct bisquemop_settings s, const uint8_t
     for (int spread = 0; spread < 2; spread++) {
         struct answer a = no_answer(), counted = no_answer();
         uint32_t *table = lend(table_room), *buffer = lend_in(lent_for_events, events_room);
-        a.number = spread ? bisquemop_settings_layout_events(&s, text, len, table, table_room, buffer, events_room,
-                                                             &a.value, &counted.value)
-                          : bisquemop_layout_events(s.glyph, s.width, s.tab, s.spacing, s.paragraph, s.base, s.height,
-                                                    s.top, s.alignment, s.vertical, s.leading, s.trailing, s.wrap, text,
-                                                    len, table, table_room, buffer, events_room, &a.value,
-                                                    &counted.value);
+        a.number = spread
+                       ? bisquemop_settings_layout_events(&s, text, len, table, table_room, buffer, events_room,
+                                                          &a.value, &counted.value)
+                       : bisquemop_layout_events(s.glyph, s.width, s.tab, s.spacing, s.paragraph, s.base, s.height,
+                                                 s.top, s.alignment, s.vertical, s.leading, s.trailing, s.wrap, text,
+                                                 len, table, table_room, buffer, events_room, &a.value, &counted.value);
         counted.number = a.number;
         if (!compare(what, &a, number, value)) {
             printf(spread ? ", from a struct" : ", from thirteen numbers");
@@ -320,8 +320,8 @@ static void compare_bytes(const char *what, size_t room, const uint8_t *written,
     passed++;
 }
 
-void expect_write(const char *what, struct bisquemop_settings s, const uint32_t *table, size_t table_len, uint64_t lines,
-                  size_t room, uint32_t number, uint64_t value, const uint8_t *written)
+void expect_write(const char *what, struct bisquemop_settings s, const uint32_t *table, size_t table_len,
+                  uint64_t lines, size_t room, uint32_t number, uint64_t value, const uint8_t *written)
 {
     size_t count = number == BISQUEMOP_OK ? (size_t)value : 0;
     for (int spread = 0; spread < 2; spread++) {
@@ -424,8 +424,8 @@ void expect_y(const char *what, struct bisquemop_settings s, const uint32_t *tab
     }
     compare_y(what, plain_y, line, y);
     compare_lent(what, table_len, table, table_len);
-    spread.number =
-        bisquemop_settings_line_y(&s, lend_table(table, table_len), table_len, lines, line, &spread.value, &spread_y[1]);
+    spread.number = bisquemop_settings_line_y(&s, lend_table(table, table_len), table_len, lines, line, &spread.value,
+                                              &spread_y[1]);
     if (!compare(what, &spread, number, value)) {
         printf(", from a struct, for line %" PRIu64 " of %" PRIu64 "\n", line, lines);
     }
@@ -455,11 +455,10 @@ void expect_index(const char *what, struct bisquemop_settings s, const uint32_t 
         struct answer a = no_answer();
         const uint32_t *copy = lend_table(table, table_len);
         int32_t *index = lend_index(NULL, room);
-        a.number = spread
-                       ? bisquemop_settings_index(&s, copy, table_len, lines, index, room, &a.value)
-                       : bisquemop_index(s.glyph, s.width, s.tab, s.spacing, s.paragraph, s.base, s.height, s.top,
-                                         s.alignment, s.vertical, s.leading, s.trailing, s.wrap, copy, table_len,
-                                         lines, index, room, &a.value);
+        a.number = spread ? bisquemop_settings_index(&s, copy, table_len, lines, index, room, &a.value)
+                          : bisquemop_index(s.glyph, s.width, s.tab, s.spacing, s.paragraph, s.base, s.height, s.top,
+                                            s.alignment, s.vertical, s.leading, s.trailing, s.wrap, copy, table_len,
+                                            lines, index, room, &a.value);
         if (!compare(what, &a, number, value)) {
             printf(", for %" PRIu64 " lines and %lu ys\n", lines, (unsigned long)room);
         }
@@ -476,10 +475,11 @@ void expect_index_again(const char *what, struct bisquemop_settings s, const uin
         struct answer a = no_answer();
         const uint32_t *copy = lend_table(table, table_len);
         int32_t *lent_index = lend_index(index, room);
-        a.number = spread ? bisquemop_settings_index_again(&s, copy, table_len, lines, first, lent_index, room, &a.value)
-                          : bisquemop_index_again(s.glyph, s.width, s.tab, s.spacing, s.paragraph, s.base, s.height,
-                                                  s.top, s.alignment, s.vertical, s.leading, s.trailing, s.wrap, copy,
-                                                  table_len, lines, first, lent_index, room, &a.value);
+        a.number = spread
+                       ? bisquemop_settings_index_again(&s, copy, table_len, lines, first, lent_index, room, &a.value)
+                       : bisquemop_index_again(s.glyph, s.width, s.tab, s.spacing, s.paragraph, s.base, s.height, s.top,
+                                               s.alignment, s.vertical, s.leading, s.trailing, s.wrap, copy, table_len,
+                                               lines, first, lent_index, room, &a.value);
         if (!compare(what, &a, number, value)) {
             printf(", for %" PRIu64 " lines and %lu ys, from line %" PRIu64 " on\n", lines, (unsigned long)room, first);
         }
@@ -514,8 +514,8 @@ static void compare_which(const char *what, const struct lent_which *got, uint32
         return;
     }
     failed++;
-    printf("FAILED %s: expected text %" PRIu32 "%s, got %" PRIu32 ", or what stands beside it was written\n", what, which,
-           which == unwritten_which.which ? " as before" : "", got->which);
+    printf("FAILED %s: expected text %" PRIu32 "%s, got %" PRIu32 ", or what stands beside it was written\n", what,
+           which, which == unwritten_which.which ? " as before" : "", got->which);
 }
 
 /* What choosing must return and write. Where it is refused, the last two are what they were before. */

@@ -146,8 +146,8 @@ uint64_t lay_text(const char *what, struct bisquemop_settings s, const uint8_t *
  * Writes the file of a table to a buffer of `room` bytes, from thirteen numbers and from a struct. Where the call is
  * done, the buffer's front must be the `value` bytes at `written`; all else must stay as it was.
  */
-void expect_write(const char *what, struct bisquemop_settings s, const uint32_t *table, size_t table_len, uint64_t lines,
-                  size_t room, uint32_t number, uint64_t value, const uint8_t *written);
+void expect_write(const char *what, struct bisquemop_settings s, const uint32_t *table, size_t table_len,
+                  uint64_t lines, size_t room, uint32_t number, uint64_t value, const uint8_t *written);
 
 /*
  * Reads a file, lent as a copy of its own, to buffers of so many numbers. `settings` is what must be handed out, or

@@ -8,8 +8,10 @@
 #define NUMBERS BISQUEMOP_LINE_NUMBERS
 #define MOST 4 /* lines of an example */
 
+/* clang-format off */
 #define SHOWN(y) {BISQUEMOP_SHOWS, y}
 #define UNSEEN(y) {BISQUEMOP_HIDDEN, y}
+/* clang-format on */
 
 /* Spacing 10, paragraph 3, base 8, the top at -5, and five characters to a line. */
 static const struct bisquemop_settings plain = {6, 30, 24, 10, 3, 8, 0, -5, BISQUEMOP_ALIGN_LEFT, 0, 1, 0, 0};

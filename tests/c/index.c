@@ -11,7 +11,7 @@
 #include <string.h>
 
 #define NUMBERS BISQUEMOP_LINE_NUMBERS
-#define TEXTS 1500
+#define TEXTS share_of(1500)
 #define CHAIN 6       /* edits of one text */
 #define CHARACTERS 60 /* of a text */
 #define BYTES (8 * CHARACTERS)
@@ -244,13 +244,14 @@ static void one_edit(const char *what, struct bisquemop_settings s)
     static int32_t old[3][MOST + 3];
     struct edit e = random_edit(text, len, BYTES, inserted);
     uint64_t first = affected_line(table, lines, e.a), old_lines = lines, laid;
-    size_t start = line_number(table, first, BISQUEMOP_LINE_START), new_len = put_edited(edited, text, len, e, inserted);
+    size_t start = line_number(table, first, BISQUEMOP_LINE_START),
+           new_len = put_edited(edited, text, len, e, inserted);
     for (s.vertical = 0; s.vertical < 3; s.vertical++) {
         put_ys(s, old[s.vertical]);
     }
     s.vertical = 0;
-    expect(what, bisquemop_settings_lay_again(&s, edited + start, new_len - start, table, NUMBERS * MOST, old_lines, e.a,
-                                              e.b, e.inserted, &lines, &laid) == BISQUEMOP_OK);
+    expect(what, bisquemop_settings_lay_again(&s, edited + start, new_len - start, table, NUMBERS * MOST, old_lines,
+                                              e.a, e.b, e.inserted, &lines, &laid) == BISQUEMOP_OK);
     memcpy(text, edited, new_len);
     len = new_len;
     grown += lines > old_lines;
@@ -285,6 +286,7 @@ void test_index(void)
         test_example(what, &examples[i]);
     }
     test_by_chance(107, TEXTS, "and its index", one_text);
-    expect("edits that keep ys, to more lines and to fewer", kept_some > TEXTS && grown > TEXTS && shrunk > TEXTS);
-    expect("lines that are joined", joined > TEXTS / 4);
+    expect_of_all("edits that keep ys, to more lines and to fewer",
+                  kept_some > TEXTS && grown > TEXTS && shrunk > TEXTS);
+    expect_of_all("lines that are joined", joined > TEXTS / 4);
 }

@@ -9,7 +9,7 @@
 
 #include <stdio.h>
 
-#define TEXTS 30000
+#define TEXTS share_of(30000)
 #define LONGEST 60 /* characters of a text */
 #define LINE BISQUEMOP_LINE_NUMBERS
 #define EVENT BISQUEMOP_EVENT_NUMBERS
@@ -81,7 +81,7 @@ static void one_text(const char *what, struct bisquemop_settings s)
 void test_inside(void)
 {
     test_by_chance(102, TEXTS, "in its box", one_text);
-    printf("%d texts: %lu with a move to the edge; %lu justified, with a character that glues, past it\n", TEXTS, to_the_edge,
-           past_the_edge);
-    expect("texts with a move to the edge, and past it", to_the_edge >= TEXTS / 100 && past_the_edge >= 10);
+    printf("%lu texts: %lu with a move to the edge; %lu justified, with a character that glues, past it\n", TEXTS,
+           to_the_edge, past_the_edge);
+    expect_of_all("texts with a move to the edge, and past it", to_the_edge >= TEXTS / 100 && past_the_edge >= 10);
 }

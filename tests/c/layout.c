@@ -90,8 +90,8 @@ static void test_names(void)
                BISQUEMOP_LINE_REACH == 9 && BISQUEMOP_LINE_CHARS == 10 && BISQUEMOP_LINE_NUMBERS == 11);
     expect("the names of the end types", BISQUEMOP_END_NEW_LINE == 0 && BISQUEMOP_END_CARRIAGE_RETURN == 1 &&
                                              BISQUEMOP_END_END_OF_TEXT == 2 && BISQUEMOP_END_LINE_BREAK == 3);
-    expect("the names of the later refusals", BISQUEMOP_BAD_LINE == 5 && BISQUEMOP_BAD_EDIT == 6 &&
-                                                  BISQUEMOP_TOO_SMALL == 8);
+    expect("the names of the later refusals",
+           BISQUEMOP_BAD_LINE == 5 && BISQUEMOP_BAD_EDIT == 6 && BISQUEMOP_TOO_SMALL == 8);
 }
 
 void test_layout(void)

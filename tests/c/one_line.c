@@ -13,7 +13,7 @@
 #include <stdio.h>
 #include <string.h>
 
-#define TEXTS 10000
+#define TEXTS share_of(10000)
 #define LONGEST 60 /* characters of a text */
 #define BYTES (4 * LONGEST)
 #define LINE BISQUEMOP_LINE_NUMBERS
@@ -145,8 +145,10 @@ static struct stand by_again(const char *what, struct bisquemop_settings s, cons
 {
     static uint32_t table[LINE * (BYTES + 3)], next[LINE];
     const uint32_t part = (uint32_t)len - from.start, edge = from.rest_end - from.start + 1;
+    /* clang-format off */
     const uint32_t old[2 * LINE] = {0, 0, 0, 3, 0, 0, 0, 0, 0, edge, 0, /**/
                                     1, edge, from.rest_count, 2, 0, 0, 0, 0, 0, edge + 2, 1};
+    /* clang-format on */
     uint64_t lines = 0, laid = 0;
     memcpy(table, old, sizeof old);
     expect(what, bisquemop_settings_lay_again(&s, text + from.start, part, table, sizeof table / sizeof table[0], 2,
@@ -193,6 +195,7 @@ static void one_start(const char *what, struct bisquemop_settings s)
 /* Lines from starts and rests of no layout. The numbers come from the rules, by hand. */
 static void test_by_hand(void)
 {
+    /* clang-format off */
     static const struct {
         const char *what, *text;
         uint32_t width;
@@ -218,6 +221,7 @@ static void test_by_hand(void)
         {"a rest that is the whole text", "    ", 30, {0, 4, 4}, {0, 4, 4, 2, 0, 6, 0, 0, 0, 5, 0}, {4, 0, 0}},
         {"a rest that is cut again", "a      b", 18, {1, 7, 6}, {1, 7, 6, 3, 0, 6, 0, 0, 0, 8, 1}, {5, 7, 2}},
     };
+    /* clang-format on */
     for (size_t i = 0; i < sizeof list / sizeof list[0]; i++) {
         expect_one_line(list[i].what, laid(6, list[i].width, LEFT, 1, DROP), (const uint8_t *)list[i].text,
                         strlen(list[i].text), list[i].from, LINE, list[i].entry, list[i].next);
@@ -232,10 +236,12 @@ void test_one_line(void)
     test_by_chance(106, TEXTS, "line by line", one_text);
     unsigned long rests = with_rest;
     test_by_chance(1061, TEXTS, "from anywhere", one_start);
-    printf("%d texts: %lu in several lines, %lu lines with a rest, %lu at the text's end; from anywhere %lu within words, "
-           "%lu with a rest\n",
-           TEXTS, several, rests, at_end, within, with_rest - rests);
-    expect("texts in several lines, lines with a rest and lines at the end",
-           several >= TEXTS / 2 && rests >= TEXTS / 10 && at_end >= TEXTS / 10);
-    expect("starts within words, and starts with a rest", within >= TEXTS / 10 && with_rest - rests >= TEXTS / 2);
+    printf(
+        "%lu texts: %lu in several lines, %lu lines with a rest, %lu at the text's end; from anywhere %lu within words, "
+        "%lu with a rest\n",
+        TEXTS, several, rests, at_end, within, with_rest - rests);
+    expect_of_all("texts in several lines, lines with a rest and lines at the end",
+                  several >= TEXTS / 2 && rests >= TEXTS / 10 && at_end >= TEXTS / 10);
+    expect_of_all("starts within words, and starts with a rest",
+                  within >= TEXTS / 10 && with_rest - rests >= TEXTS / 2);
 }

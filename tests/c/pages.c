@@ -14,7 +14,7 @@
 
 #define NUMBERS BISQUEMOP_LINE_NUMBERS
 #define PAGE BISQUEMOP_PAGE_NUMBERS
-#define TEXTS 1500
+#define TEXTS share_of(1500)
 #define CHAIN 6       /* edits of one text */
 #define CHARACTERS 60 /* of a text */
 #define BYTES (8 * CHARACTERS)
@@ -280,7 +280,7 @@ static void test_long_text(const struct long_text *x)
     static uint32_t list[PAGE * (BISQUEMOP_LINES_MAX / LEAST + 1)];
     const uint32_t count = (uint32_t)x->count, limits[] = {LEAST, LEAST + 1, 9, count, count + 1, 65535, UINT32_MAX};
     const size_t room = NUMBERS * x->count;
-    for (size_t i = 0; i < sizeof limits / sizeof limits[0]; i++) {
+    for (size_t i = 0; i < sizeof limits / sizeof limits[0]; i += step_of(3)) {
         uint32_t h = limits[i] < LEAST ? LEAST : limits[i];
         uint64_t n = put_pages(x->lines, count, sizeof x->text, h, list);
         size_t enough = PAGE * (size_t)n;
@@ -320,7 +320,8 @@ static void list_after(const char *what, uint32_t h, uint64_t first, uint32_t *o
     memcpy(after, old, room * sizeof *after);
     memcpy(after, pages, PAGE * (size_t)count * sizeof *after);
     expect_pages_again(what, table, n, lines, h, first, old, room, BISQUEMOP_OK, count, after);
-    expect_pages_again(what, table, n, lines, h, first, old, PAGE * (size_t)count - 1, BISQUEMOP_TOO_SMALL, count, NULL);
+    expect_pages_again(what, table, n, lines, h, first, old, PAGE * (size_t)count - 1, BISQUEMOP_TOO_SMALL, count,
+                       NULL);
     if (first >= h) {
         /* a page before the one that holds the first affected line is not written, even if it is wrong */
         size_t kept = PAGE * (size_t)(first / h);
@@ -338,11 +339,12 @@ static void one_edit(const char *what, struct bisquemop_settings s)
     struct edit e = random_edit(text, len, BYTES, inserted);
     uint64_t first = affected_line(table, lines, e.a), old_lines = lines, old_count, laid_again;
     uint32_t h = random_limit();
-    size_t start = line_number(table, first, BISQUEMOP_LINE_START), new_len = put_edited(edited, text, len, e, inserted);
+    size_t start = line_number(table, first, BISQUEMOP_LINE_START),
+           new_len = put_edited(edited, text, len, e, inserted);
     expect_affected(what, table, NUMBERS * (size_t)lines, lines, e.a, e.b, e.inserted, BISQUEMOP_OK, first);
     old_count = put_pages(table, lines, len, h, old);
-    expect(what, bisquemop_settings_lay_again(&s, edited + start, new_len - start, table, NUMBERS * MOST, old_lines, e.a,
-                                              e.b, e.inserted, &lines, &laid_again) == BISQUEMOP_OK);
+    expect(what, bisquemop_settings_lay_again(&s, edited + start, new_len - start, table, NUMBERS * MOST, old_lines,
+                                              e.a, e.b, e.inserted, &lines, &laid_again) == BISQUEMOP_OK);
     memcpy(text, edited, new_len);
     len = new_len;
     list_all(what, s, h);
@@ -379,7 +381,7 @@ void test_pages(void)
     test_no_lines();
     each_long_text(test_long_text);
     test_by_chance(111, TEXTS, "and its pages", one_text);
-    expect("edits that keep pages, to more pages and to fewer",
-           kept_some > TEXTS && grown > TEXTS / 2 && shrunk > TEXTS / 2);
-    expect("tables that are bad", bad_tables > TEXTS / 3);
+    expect_of_all("edits that keep pages, to more pages and to fewer",
+                  kept_some > TEXTS && grown > TEXTS / 2 && shrunk > TEXTS / 2);
+    expect_of_all("tables that are bad", bad_tables > TEXTS / 3);
 }

@@ -7,13 +7,13 @@
 #include <stdio.h>
 #include <string.h>
 
-#define TEXTS 100000
+#define TEXTS share_of(100000)
 #define LONGEST 300
 
 /* A scalar value: any, or one near an end of a row of Table 3-7. */
 static uint32_t scalar(void)
 {
-    static const uint32_t near[] = {0x00,   0x7F,   0x80,   0x7FF,   0x800,   0xFFF,   0x1000,   0xD7FF,
+    static const uint32_t near[] = {0x00,   0x7F,   0x80,   0x7FF,   0x800,   0xFFF,   0x1000,  0xD7FF,
                                     0xE000, 0xFFFF, 0xFEFF, 0x10000, 0x3FFFF, 0x40000, 0xFFFFF, 0x10FFFF};
     static const uint32_t size[] = {0x80, 0x800, 0x10000, 0x110000};
     uint32_t c;
@@ -87,6 +87,6 @@ void test_random(void)
             expect("the text is only read", 0);
         }
     }
-    expect("a quarter of the random texts or more are UTF-8", good >= TEXTS / 4);
-    expect("a quarter of the random texts or more are not", TEXTS - good >= TEXTS / 4);
+    expect_of_all("a quarter of the random texts or more are UTF-8", good >= TEXTS / 4);
+    expect_of_all("a quarter of the random texts or more are not", TEXTS - good >= TEXTS / 4);
 }

@@ -13,8 +13,8 @@
 #define NUMBERS BISQUEMOP_LINE_NUMBERS
 
 /* Three characters to a line. */
-static const struct bisquemop_settings plain = {6, 18, 24, 10, 3, 8, 40, 0, BISQUEMOP_ALIGN_LEFT,
-                                                BISQUEMOP_VERTICAL_TOP, 1, 0, 0};
+static const struct bisquemop_settings plain = {
+    6, 18, 24, 10, 3, 8, 40, 0, BISQUEMOP_ALIGN_LEFT, BISQUEMOP_VERTICAL_TOP, 1, 0, 0};
 
 /* The two lines of "abc   d", of which the second has a rest of two bytes, and room for more. */
 static const uint32_t table[12 * NUMBERS] = {0, 0, 0, 3, 0, 6, 0, 18, 0, 7, 0, /**/ 4, 6, 2, 2, 0, 6, 0, 18, 0, 8, 4};
@@ -94,8 +94,7 @@ static void test_refusals(void)
         {"all inserted but the last byte", "ab\xC3\xA9", {0, 6, 3}, 6, 0},
     };
     for (size_t i = 0; i < sizeof list / sizeof list[0]; i++) {
-        struct relay given = {(const uint8_t *)list[i].part, strlen(list[i].part), table, 2 * NUMBERS, 2,
-                              list[i].edit};
+        struct relay given = {(const uint8_t *)list[i].part, strlen(list[i].part), table, 2 * NUMBERS, 2, list[i].edit};
         struct refused second = refused_before(&given);
         expect(list[i].what, second.number == list[i].number && second.value == list[i].value);
         expect_after_settings(list[i].what, given, list[i].number, list[i].value);

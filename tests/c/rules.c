@@ -183,8 +183,8 @@ uint64_t lines_laid(const struct relay *given, uint64_t first, const uint32_t *n
         const uint32_t *line = new_table + NUMBERS * i;
         uint32_t moved[NUMBERS];
         /* starts rise in both tables, so an old line that is passed is met by no later one */
-        while (j < given->lines && is_passed(given->edit, line_number(given->table, j, BISQUEMOP_LINE_START),
-                                             line[BISQUEMOP_LINE_START])) {
+        while (j < given->lines &&
+               is_passed(given->edit, line_number(given->table, j, BISQUEMOP_LINE_START), line[BISQUEMOP_LINE_START])) {
             j++;
         }
         if (j == given->lines) {

@@ -78,7 +78,7 @@ static void test_bad_sequences(void)
 /* The first and the last sequence of each row of Table 3-7, cut at each place. */
 static void test_cut_sequences(void)
 {
-    static const uint32_t ends[] = {0x80,   0x7FF,  0x800,   0xFFF,   0x1000,  0xCFFF,   0xD000,  0xD7FF,
+    static const uint32_t ends[] = {0x80,   0x7FF,  0x800,   0xFFF,   0x1000,  0xCFFF,  0xD000,   0xD7FF,
                                     0xE000, 0xFFFF, 0x10000, 0x3FFFF, 0x40000, 0xFFFFF, 0x100000, 0x10FFFF};
     for (size_t i = 0; i < sizeof ends / sizeof ends[0]; i++) {
         uint8_t bytes[4];

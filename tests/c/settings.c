@@ -18,6 +18,7 @@ struct range {
 
 #define RANGES 10
 
+/* clang-format off */
 static const struct range ranges[RANGES] = {
     {"glyph", 1, 64},
     {"width", 0, 4096},
@@ -30,6 +31,7 @@ static const struct range ranges[RANGES] = {
     {"trailing", 0, 0}, /* retired */
     {"wrap", 0, 1},
 };
+/* clang-format on */
 
 static uint32_t *setting(struct bisquemop_settings *s, int i)
 {

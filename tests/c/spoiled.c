@@ -97,7 +97,7 @@ static void random_bytes(uint8_t *to, size_t count)
 {
     size_t at = below(2) ? 0 : random_text(to, count / 4);
     while (at < count) {
-        to[at++] = (uint8_t)"  ab\n"[below(5)];
+        to[at++] = (uint8_t) "  ab\n"[below(5)];
     }
 }
 

@@ -33,6 +33,7 @@ struct example {
 
 static void test_examples(void)
 {
+    /* clang-format off */
     static const struct example examples[] = {
         {"", 0, {0}},
         /* U+200B inside a run counts 0, and at a token's start it stands alone */
@@ -62,6 +63,7 @@ static void test_examples(void)
         /* characters of one to four bytes make one word */
         {"a\xC3\xA9\xE2\x82\xAC\xF0\x9F\x98\x80", 1, {WORD, 0, 10, 0}},
     };
+    /* clang-format on */
     for (size_t i = 0; i < sizeof examples / sizeof examples[0]; i++) {
         const struct example *x = &examples[i];
         char what[64];

@@ -11,7 +11,7 @@
 #include <stdio.h>
 #include <string.h>
 
-#define TEXTS 30000
+#define TEXTS share_of(30000)
 #define LONGEST 60 /* characters of a text */
 #define LINE BISQUEMOP_LINE_NUMBERS
 #define EVENT BISQUEMOP_EVENT_NUMBERS
@@ -88,10 +88,11 @@ static void one_text(const char *what, struct bisquemop_settings s)
 void test_wraps(void)
 {
     test_by_chance(101, TEXTS, "by both wraps", one_text);
-    printf("%d texts: %lu drop nothing and are the same by both; %lu differ; %lu are kept whole by waiting; "
-           "%lu drop by both\n",
-           TEXTS, same, told_apart, kept_whole, dropped_by_both);
-    expect("half of the texts or more drop nothing", same >= TEXTS / 2);
-    expect("texts that differ, are kept whole, and drop by both",
-           told_apart >= TEXTS / 50 && kept_whole >= TEXTS / 100 && dropped_by_both >= TEXTS / 100);
+    printf(
+        "%lu texts: %lu drop nothing and are the same by both; %lu differ; %lu are kept whole by waiting; "
+        "%lu drop by both\n",
+        TEXTS, same, told_apart, kept_whole, dropped_by_both);
+    expect_of_all("half of the texts or more drop nothing", same >= TEXTS / 2);
+    expect_of_all("texts that differ, are kept whole, and drop by both",
+                  told_apart >= TEXTS / 50 && kept_whole >= TEXTS / 100 && dropped_by_both >= TEXTS / 100);
 }

@@ -167,8 +167,9 @@ static void ask_places(void)
 static void ask_index(uint64_t first)
 {
     uint64_t value = 0, room = random_room(LONG + 1), many = seldom(12) ? lines + 1 - below(3) : lines;
-    uint32_t number = first == 0 ? bisquemop_settings_index(&settings, table, TABLE, lines, ys, room, &value)
-                                 : bisquemop_settings_index_again(&settings, table, TABLE, lines, first, ys, room, &value);
+    uint32_t number = first == 0
+                          ? bisquemop_settings_index(&settings, table, TABLE, lines, ys, room, &value)
+                          : bisquemop_settings_index_again(&settings, table, TABLE, lines, first, ys, room, &value);
     add_answer(number, value);
     for (uint64_t k = 0; k < lines + 8 && k < LONG + 2; k++) {
         add_number((uint32_t)ys[k]);
@@ -231,8 +232,8 @@ static void ask_pages(void)
 {
     uint64_t value = 0, count = 0, need = BISQUEMOP_LINE_NUMBERS * (len + 1), most = need < EVENTS ? need : EVENTS;
     uint64_t table_room = random_room(most), pages_room = random_room(BISQUEMOP_PAGE_NUMBERS * (len + 1));
-    uint32_t number = bisquemop_settings_pages(&settings, text, len, random_limit(), events, table_room, pages, pages_room,
-                                               &value, &count);
+    uint32_t number = bisquemop_settings_pages(&settings, text, len, random_limit(), events, table_room, pages,
+                                               pages_room, &value, &count);
     add_answer(number, value);
     add_long(count);
     add_numbers(events, table_room);

@@ -56,8 +56,8 @@ static int read_case(void)
         given[k] = (uint32_t)number;
     }
     settings = bisquemop_settings_from(given);
-    return scanf("%" SCNu32 "%" SCNu32 "%" SCNu32 "%" SCNu32 "%" SCNu32 "%" SCNu32 "%" SCNd32, &h, &a, &b, &start, &rest_end,
-                 &rest_count, &y) == 7 &&
+    return scanf("%" SCNu32 "%" SCNu32 "%" SCNu32 "%" SCNu32 "%" SCNu32 "%" SCNu32 "%" SCNd32, &h, &a, &b, &start,
+                 &rest_end, &rest_count, &y) == 7 &&
            read_text(&text) && read_text(&inserted) && read_text(&short_text);
 }
 
@@ -115,14 +115,15 @@ static void print_text(void)
 {
     uint64_t value, count = 0;
     uint32_t next[2] = {0, 0};
-    uint32_t number = bisquemop_tokens(text.bytes, text.len, numbers, BISQUEMOP_TOKEN_NUMBERS * BISQUEMOP_TOKENS_MAX, &value);
+    uint32_t number =
+        bisquemop_tokens(text.bytes, text.len, numbers, BISQUEMOP_TOKEN_NUMBERS * BISQUEMOP_TOKENS_MAX, &value);
     print_records("tokens", number, value, numbers, BISQUEMOP_TOKEN_NUMBERS);
     number = bisquemop_settings_layout_events(&settings, text.bytes, text.len, table, LINE * LINES_ROOM, events,
                                               BISQUEMOP_EVENT_NUMBERS * BISQUEMOP_EVENTS_MAX, &value, &count);
     print_answer("events", number, value);
     print_numbers(events, number == 0 ? BISQUEMOP_EVENT_NUMBERS * count : 0);
-    number = bisquemop_settings_one_line(&settings, text.bytes, text.len, start, rest_end, rest_count, numbers, LINE, &value,
-                                         &next[0], &next[1]);
+    number = bisquemop_settings_one_line(&settings, text.bytes, text.len, start, rest_end, rest_count, numbers, LINE,
+                                         &value, &next[0], &next[1]);
     print_answer("one_line", number, value);
     memcpy(numbers + LINE, next, sizeof next);
     print_numbers(numbers, number == 0 ? LINE + 2 : 0);
@@ -149,7 +150,8 @@ static void print_places(uint64_t lines)
     if (length > 0 && start % 2 == 1) {
         file[start % length] ^= 1;
     }
-    number = bisquemop_read_file(file, length, numbers, BISQUEMOP_SETTINGS_NUMBERS, table, LINE * LINES_ROOM, &value, &length);
+    number = bisquemop_read_file(file, length, numbers, BISQUEMOP_SETTINGS_NUMBERS, table, LINE * LINES_ROOM, &value,
+                                 &length);
     print_answer("read_file", number, value);
     print_numbers(numbers, number == 0 || number == BISQUEMOP_RETIRED_SETTING ? BISQUEMOP_SETTINGS_NUMBERS : 0);
 }
@@ -173,8 +175,9 @@ static void print_again(uint64_t lines)
         return;
     }
     put_edited();
-    number = bisquemop_settings_lay_again(&settings, edited.bytes + table[LINE * first], edited.len - table[LINE * first], table,
-                                          LINE * LINES_ROOM, lines, a, b, (uint32_t)inserted.len, &value, &laid);
+    number =
+        bisquemop_settings_lay_again(&settings, edited.bytes + table[LINE * first], edited.len - table[LINE * first],
+                                     table, LINE * LINES_ROOM, lines, a, b, (uint32_t)inserted.len, &value, &laid);
     print_answer("lay_again", number, value);
     printf(" %" PRIu64, laid);
     print_numbers(table, number == 0 ? LINE * value : 0);
@@ -188,7 +191,8 @@ static void print_lists(void)
                                                BISQUEMOP_PAGE_NUMBERS * LINES_ROOM, &value, &count);
     print_answer("pages", number, value);
     print_numbers(pages, number == 0 ? BISQUEMOP_PAGE_NUMBERS * count : 0);
-    number = bisquemop_settings_choose(&settings, text.bytes, text.len, short_text.bytes, short_text.len, h, &value, &which, &count);
+    number = bisquemop_settings_choose(&settings, text.bytes, text.len, short_text.bytes, short_text.len, h, &value,
+                                       &which, &count);
     print_answer("choose", number, value);
     if (number == 0) {
         printf(" %" PRIu32 " %" PRIu64, which, count);

@@ -103,8 +103,8 @@ int main(int argc, char **argv)
         struct figures f = {0, 0, 0, 0, 0, 0, 0};
         for (size_t at = 0; at < clues.len;)
             add(&f, next_line(clues, &at), widths[k]);
-        printf("width %" PRIu32 " texts %" PRIu64 " lines %" PRIu64 " broken %" PRIu64 " dropped %" PRIu64 " refused %" PRIu64 " %" PRIu64
-               " most %" PRIu64 "\n",
+        printf("width %" PRIu32 " texts %" PRIu64 " lines %" PRIu64 " broken %" PRIu64 " dropped %" PRIu64
+               " refused %" PRIu64 " %" PRIu64 " most %" PRIu64 "\n",
                widths[k], f.texts, f.lines, f.broken, f.dropped, f.too_long, f.not_utf8, f.most);
     }
     return 0;

@@ -1,6 +1,7 @@
 """The page in a browser: what is counted, how it is driven, and what is read from it."""
 import base64
 import os
+import shutil
 import sys
 
 from selenium import webdriver
@@ -47,7 +48,7 @@ def start(*words):
     for word in [*QUIET, *root, *words]:
         options.add_argument(word)
     options.set_capability('goog:loggingPrefs', {'browser': 'ALL'})
-    driver = webdriver.Chrome(service=Service('/usr/bin/chromedriver'), options=options)
+    driver = webdriver.Chrome(service=Service(shutil.which('chromedriver')), options=options)
     driver.execute_cdp_cmd('Browser.setDownloadBehavior', {'behavior': 'allow', 'downloadPath': FOLDER})
     return driver
 

@@ -10,7 +10,7 @@
 //! | a line at a time | [`OneLine`] |
 //! | the line under a finger | [`Layout::index`], [`Index`] |
 //! | a layout that travels | [`Layout::write_file`], [`Layout::read_file`] |
-//! | pages, and a text that fits | [`Layout::lay_pages`], [`choose`], [`columns_fit`], [`columns_plan`] |
+//! | pages, and a text that fits | [`Layout::lay_pages`], [`choose`](fn@choose), [`columns_fit`], [`columns_plan`] |
 //! | words, spaces and breaks | [`tokens`] |
 //! | the names of embedded-text | [`embedded_text`] |
 //! | each call as C has it | [`sys`] |

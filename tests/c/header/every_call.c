@@ -96,8 +96,8 @@ uint32_t heights(struct lent *l)
 /* `lines` ys are lent. */
 uint32_t index_of(struct lent *l)
 {
-    uint32_t refused = bisquemop_settings_index(&l->settings, l->table, l->table_len, l->lines, l->index, l->lines,
-                                                &l->value);
+    uint32_t refused =
+        bisquemop_settings_index(&l->settings, l->table, l->table_len, l->lines, l->index, l->lines, &l->value);
     if (refused == BISQUEMOP_OK) {
         refused = bisquemop_settings_index_again(&l->settings, l->table, l->table_len, l->lines, 0, l->index, l->lines,
                                                  &l->value);
@@ -113,8 +113,8 @@ uint32_t index_of(struct lent *l)
 
 uint32_t files(struct lent *l)
 {
-    uint32_t refused = bisquemop_settings_write_file(&l->settings, l->table, l->table_len, l->lines, l->file, l->file_len,
-                                                     &l->value);
+    uint32_t refused =
+        bisquemop_settings_write_file(&l->settings, l->table, l->table_len, l->lines, l->file, l->file_len, &l->value);
     if (refused == BISQUEMOP_OK) {
         refused = bisquemop_read_file(l->file, l->value, l->numbers, BISQUEMOP_SETTINGS_NUMBERS, l->table, l->table_len,
                                       &l->lines, &l->count);
@@ -127,8 +127,8 @@ uint32_t files(struct lent *l)
 
 uint32_t choice(struct lent *l, uint32_t h)
 {
-    uint32_t refused = bisquemop_settings_choose(&l->settings, l->text, l->len, l->short_text, l->short_len, h, &l->value,
-                                                 &l->which, &l->count);
+    uint32_t refused = bisquemop_settings_choose(&l->settings, l->text, l->len, l->short_text, l->short_len, h,
+                                                 &l->value, &l->which, &l->count);
     if (refused == BISQUEMOP_OK && l->which == BISQUEMOP_SHORT_TEXT) {
         l->text = l->short_text;
     }
@@ -173,15 +173,15 @@ uint32_t by_numbers(struct lent *l)
     refused |= bisquemop_open(SETTINGS, l->text, l->len, &l->value);
     refused |= bisquemop_one_line(SETTINGS, l->text, l->len, 0, 0, 0, l->table, l->table_len, &l->value, &l->rest_end,
                                   &l->rest_count);
-    refused |= bisquemop_lay_again(SETTINGS, l->text, l->len, l->table, l->table_len, l->lines, 0, 0, 0, &l->value,
-                                   &l->count);
+    refused |=
+        bisquemop_lay_again(SETTINGS, l->text, l->len, l->table, l->table_len, l->lines, 0, 0, 0, &l->value, &l->count);
     refused |= bisquemop_height(SETTINGS, l->table, l->table_len, l->lines, &l->value);
     refused |= bisquemop_line_y(SETTINGS, l->table, l->table_len, l->lines, 0, &l->value, &l->y);
     refused |= bisquemop_index(SETTINGS, l->table, l->table_len, l->lines, l->index, l->lines, &l->value);
     refused |= bisquemop_index_again(SETTINGS, l->table, l->table_len, l->lines, 0, l->index, l->lines, &l->value);
     refused |= bisquemop_write_file(SETTINGS, l->table, l->table_len, l->lines, l->file, l->file_len, &l->value);
-    refused |= bisquemop_choose(SETTINGS, l->text, l->len, l->short_text, l->short_len, 3, &l->value, &l->which,
-                                &l->count);
+    refused |=
+        bisquemop_choose(SETTINGS, l->text, l->len, l->short_text, l->short_len, 3, &l->value, &l->which, &l->count);
     refused |= bisquemop_pages(SETTINGS, l->text, l->len, 3, l->table, l->table_len, l->pages, l->pages_len, &l->value,
                                &l->count);
     refused |= bisquemop_columns_fit(SETTINGS, l->text, l->len, 3, &l->value);
