@@ -1,6 +1,6 @@
 # Where the time of .ci/run went, as tables. Read are what rt ci said, and then a line for each step: the clock when it began and when it
 # ended, what processors had spent before it and after it, in seconds, and the command. A proof and the trial of an edit are one process
-# each, so that their seconds are those of a processor, as long as no more of them run side by side than there are processors.
+# each, and their seconds are by the clock: those of a processor as long as each has one for itself, and more on a machine that is busy besides.
 
 function seconds() {
     return substr($(NF - 1), $(NF - 1) ~ /^\(/ ? 2 : 1) + 0
@@ -38,5 +38,5 @@ END {
     print "| Step | By the clock, s | Of processors, s |"
     print "|---|---|---|"
     for (k = 1; k <= steps; k++) print step[k]
-    printf "\ntime: proofs %d s and edits %d s, tests %d s of processors; %d s in all by the clock\n", proofs, trials, tests, last - first
+    printf "\ntime: proofs %d s and edits %d s, each by the clock; tests %d s of processors; in all %d s by the clock\n", proofs, trials, tests, last - first
 }
