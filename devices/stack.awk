@@ -37,21 +37,26 @@ function wrong(what) {
     label = substr($0, index($0, "<") + 1)
     sub(/>:$/, "", label)
     if (is_within(label)) next
+    take_named()
     current = plain(label)
     frame[current] += 0
     next
 }
 
-# A relocation names what the instruction before it calls, or on wasm32 the stack pointer.
+# A relocation names what the instruction before it calls, in place of what stands in the instruction, or on wasm32 the stack pointer.
 /^\t\t+[0-9a-f]+: / {
-    if ($2 ~ /CALL|PLT32|JUMP2[46]|_JAL|BRANCH26|FUNCTION_INDEX/ || ($2 ~ /AMD64_REL32/ && is_jump)) calls(plain($3))
+    if ($2 ~ /CALL|PLT32|JUMP2[46]|_JAL|RELOC_BRANCH|FUNCTION_INDEX/ || ($2 ~ /AMD64_REL32/ && is_jump)) {
+        waiting = ""
+        calls(plain($3))
+    }
     if ($3 ~ /^__stack_pointer/ && word == "global.get") since_pointer = 0
     next
 }
 
 /^ *[0-9a-f]+:/ {
     sub(/^ *[0-9a-f]+:[ \t]*/, "")
-    sub(/[ \t]*(#|@|\/\/|;) .*$/, "")
+    sub(/[ \t]*(#+|@|\/\/|;) .*$/, "")
+    take_named()
     after_auipc = (word == "auipc")
     word = $1
     rest = $0
@@ -83,15 +88,18 @@ function instruction() {
     is_jump = word ~ /^(call|j|b|cb|tb|tail)/
     if (machine == "wasm") return wasm()
     if (is_indirect()) wrong("a call through a register: " word " " rest)
-    if (is_jump && match(rest, /<.*>$/)) named(substr(rest, RSTART + 1, RLENGTH - 2))
+    if (is_jump && match(rest, /<.*>$/)) waiting = substr(rest, RSTART + 1, RLENGTH - 2)
     if (writes_pointer()) frame[current] += lowered()
     note_below()
 }
 
-# A name that stands in an instruction itself: of another function, or of this one where it calls itself.
-function named(text) {
-    if (plain(text) != current) calls(plain(text))
-    else if (text !~ /\+0x/ && word ~ /^(call|bl|jal)/) calls(current)
+# A name that stands in an instruction itself, of another function, or of this one where it calls itself, waits for the next line: where
+# that is a relocation the name means nothing.
+function take_named() {
+    if (waiting == "") return
+    if (plain(waiting) != current) calls(plain(waiting))
+    else if (waiting !~ /\+0x/ && word ~ /^(call|bl|jal)/) calls(current)
+    waiting = ""
 }
 
 # After auipc a jump of RISC-V goes where the relocation says.
@@ -174,6 +182,7 @@ function wasm() {
 # ---- over the graph
 
 END {
+    take_named()
     for (name in frame)
         if (name ~ /^bisquemop_/) {
             current = name

@@ -106,9 +106,9 @@ needs_compilers() {
     needs clang++ clang
 }
 
-needs_kit() {
-    command -v rt >/dev/null || die "there is no command rt: put the Rattle kit's bin folder on the PATH"
-}
+has_kit() { command -v rt >/dev/null; }
+how_to_have_kit="put the Rattle kit's bin folder on the PATH"
+needs_kit() { has_kit || die "there is no command rt: $how_to_have_kit"; }
 
 # Finds the kit, in $kit, and its tools for this machine, in $tools.
 find_kit() {
@@ -117,36 +117,26 @@ find_kit() {
     tools=$kit/on/$(uname -m)/toolchain
 }
 
-# Proves and builds the library for C, for this machine, unless that is done already, and shows how far that is.
+# Proves and builds the library for C that rt writes, for x86-64, unless that is done already, and shows how far that is.
 build_library() {
     needs_kit
     needs make make
-    make -s -C "$root" library >&2 || exit 1
+    make -s -C "$root" PROVE=yes library >&2 || exit 1
 }
 
-# ---- the programs of the repository, which rt makes for x86-64
-
-# Finds the kit's loader and C library, in $tools, and on a machine of another kind the kit's emulator.
-find_tools() {
-    find_kit
-    emulator=''
-    [ "$(uname -m)" != x86_64 ] || return 0
-    emulator=$tools/bin/qemu-x86_64
-    [ -x "$emulator" ] || die "the kit has no emulator at $emulator"
-}
+# ---- the programs of the repository
 
 build_program() { # NAME
-    find_tools
     mkdir -p "$out"
     "$root/scripts/build" "$1" </dev/null || exit
 }
 
-# Runs a program for x86-64 that needs nothing but this machine, and one that `rt check` made.
+# Runs a program for x86-64 that needs nothing but this machine, and one that scripts/build has made.
 emulated() { ${emulator:+"$emulator"} "$@"; } # PROGRAM WORD..
 run_program() { # NAME WORD..
     program=$1
     shift
-    emulated "$tools/lib/ld-linux-x86-64.so.2" --library-path "$tools/lib" "$root/target/bin/$program" "$@"
+    "$root/target/programs/$program" "$@"
 }
 
 # Runs a command in the repository's folder.

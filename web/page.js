@@ -2,6 +2,7 @@
 // is drawn from the library's events. What is shown is in the address, so that a link brings it back.
 import { Drawn, End, Refusal, Refused, TEXT_MAX, defaults, limits, load } from './bisquemop.mjs';
 import { font } from './font.mjs';
+import { wasm } from './wasm.mjs';
 
 const $ = (id) => document.getElementById(id);
 
@@ -892,7 +893,7 @@ async function start() {
         return;
     }
     try {
-        library = await load(new URL('bisquemop.wasm', import.meta.url));
+        library = await load(wasm);
     } catch (error) {
         refuse(`The library could not be started: ${error.message}.`);
         return;

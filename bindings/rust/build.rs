@@ -1,6 +1,7 @@
 //! Finds the library libbisquemop.a for the target, and has it linked. It is looked for in
 //!  1. the folder BISQUEMOP_LIB_DIR, if that is set;
-//!  2. target/NAME of the repository that this package stands in, where `make TARGET=NAME` leaves it;
+//!  2. target/NAME of the repository that this package stands in, where `make TARGET=NAME` leaves it. Where it is not there,
+//!     it is compiled from the repository's dist/, if that was made of the sources that are there;
 //!  3. the folder that pkg-config names, if it is installed for this target.
 
 use std::env;
@@ -10,7 +11,7 @@ use std::process::{exit, Command};
 const ARCHIVE: &str = "libbisquemop.a";
 
 /// What the Makefile calls a target of Rust's.
-const TARGETS: [(&str, &str); 11] = [
+const TARGETS: [(&str, &str); 18] = [
     ("x86_64-unknown-linux-gnu", "x86_64-linux"),
     ("x86_64-unknown-linux-musl", "x86_64-linux"),
     ("aarch64-unknown-linux-gnu", "aarch64-linux"),
@@ -18,9 +19,16 @@ const TARGETS: [(&str, &str); 11] = [
     ("armv7-unknown-linux-gnueabihf", "armv7-linux"),
     ("riscv64gc-unknown-linux-gnu", "riscv64-linux"),
     ("thumbv7em-none-eabi", "cortex-m4"),
+    ("thumbv7em-none-eabihf", "cortex-m4f"),
+    ("thumbv6m-none-eabi", "cortex-m0plus"),
+    ("thumbv8m.main-none-eabi", "cortex-m33"),
+    ("thumbv8m.main-none-eabihf", "cortex-m33"),
+    ("riscv32imc-unknown-none-elf", "riscv32imc"),
     ("wasm32-unknown-unknown", "wasm32"),
     ("aarch64-linux-android", "aarch64-android"),
     ("aarch64-apple-ios", "arm64-ios"),
+    ("aarch64-apple-darwin", "arm64-macos"),
+    ("x86_64-apple-darwin", "x86_64-macos"),
     ("x86_64-pc-windows-msvc", "x86_64-windows"),
 ];
 
@@ -30,9 +38,21 @@ fn with_archive(folder: PathBuf) -> Option<PathBuf> {
     folder.join(ARCHIVE).is_file().then_some(folder)
 }
 
+/// Compiles the library from dist/. What is wrong is said, and nothing is left then.
+fn compile(repository: &Path, name: &str) -> Option<()> {
+    let script = repository.join("scripts/build-target");
+    if !script.is_file() {
+        return None;
+    }
+    let answer = Command::new("sh").arg(script).arg(name).output().ok()?;
+    eprint!("{}", String::from_utf8_lossy(&answer.stderr));
+    answer.status.success().then_some(())
+}
+
 fn in_repository(name: &str) -> Option<PathBuf> {
-    let package = env::var_os("CARGO_MANIFEST_DIR")?;
-    with_archive(Path::new(&package).join("../../target").join(name))
+    let repository = Path::new(&env::var_os("CARGO_MANIFEST_DIR")?).join("../..");
+    let folder = repository.join("target").join(name);
+    with_archive(folder.clone()).or_else(|| compile(&repository, name).and_then(|()| with_archive(folder)))
 }
 
 /// What pkg-config says of the library.

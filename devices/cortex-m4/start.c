@@ -1,5 +1,5 @@
 /*
- * Starts a C program on a bare Cortex-M4 that has newlib's semihosting: its words, its output and its exit status are those
+ * Starts a C program on a bare Cortex-M4, or another Cortex-M, that has newlib's semihosting: its words, its output and its exit status are those
  * of the emulator or debugger that runs it. A fault ends it with status 1.
  *
  *   arm-none-eabi-gcc -mcpu=cortex-m4 -mthumb --specs=rdimon.specs -nostartfiles -L devices/cortex-m4 -T emulator.ld \
@@ -58,10 +58,21 @@ void _fini(void)
 {
 }
 
+/* Where the C compiler may use floating point registers, they are switched on first: on these machines they are off. */
+static void switch_on_registers(void)
+{
+#ifdef __ARM_FP
+    volatile uint32_t *access = (volatile uint32_t *)0xE000ED88;
+    *access |= UINT32_C(0xF) << 20;
+    __asm__ volatile("dsb\n\tisb" ::: "memory");
+#endif
+}
+
 void reset(void)
 {
     static char *words[WORDS_ROOM + 1];
     const uint32_t *from = data_kept;
+    switch_on_registers();
     for (uint32_t *to = data_begin; to < data_end; to++) {
         *to = *from++;
     }

@@ -7,7 +7,6 @@ from driving import (
     AT_FIRST,
     CLUE,
     NAMES,
-    URL,
     choose,
     dots,
     fill,
@@ -29,8 +28,7 @@ def test_opened(driver):
     same('the clue that it opens with', CLUE, driver.execute_script("return document.getElementById('clue').value"))
     same('nothing is refused', True, is_hidden(driver, '#refusal'))
     asked = driver.execute_script("return performance.getEntriesByType('resource').map((entry) => entry.name)")
-    same('nothing comes from elsewhere', [], [name for name in asked if not name.startswith((URL, 'data:'))])
-    holds('the library came', f'{URL}bisquemop.wasm' in asked)
+    same('the page is one file, and asks for no other', [], [name for name in asked if not name.startswith('data:')])
     same('both wraps stand side by side', 2, len(driver.find_elements(By.CSS_SELECTOR, 'figure')))
     picture(driver, 'opened')
     size(driver, 1280, 620)
