@@ -223,6 +223,18 @@ add_beside() { # NAME WORD
     fi
 }
 
+# Makes a folder of links to every command of the PATH but those that are named, as patterns.
+link_commands() { # FOLDER BUT..
+    links=$1
+    shift
+    rm -rf "$links"
+    mkdir -p "$links"
+    # the first of two that have one name is the one that is run
+    printf '%s\n' "$PATH" | tr ':' '\n' | while read -r place; do ln -s "$place"/* "$links" 2>/dev/null || true; done
+    # shellcheck disable=SC2086
+    for but; do rm -f "$links"/$but; done
+}
+
 # The last line of a script that tests, and its exit status.
 finish() {
     printf '%s passed, %s failed\n' "$passed" "$failed"

@@ -1,6 +1,6 @@
 # shellcheck shell=sh disable=SC2034,SC2154
 # The module of the proved code, from which the library is compiled for every machine. It is for sh, read by `.` after helpers.sh and
-# proved.sh, and not run.
+# targets.sh, and not run.
 #
 # rt compiles for x86-64: once it has proved the library, it hands one LLVM module of it to the kit's clang. A stand-in for the kit
 # keeps a copy of that module, and is the kit in all else. Less what names x86-64 or a path, the module is kept in target/module with
@@ -74,6 +74,7 @@ put_module() { # FILE SOURCES-SUM FILE-BESIDES..
     mkdir -p "$(dirname "$module")"
     rm -f "$(dirname "$module")/sums"
     mv "$put" "$module"
+    # shellcheck disable=SC2086
     {
         echo "# sources: $sources"
         in_root $sum_command target/module/bisquemop.ll "$@"

@@ -1,6 +1,6 @@
 # shellcheck shell=sh disable=SC2034,SC2154
-# The programs of the repository, listing, pages, month and replay. It is for sh, read by `.` after helpers.sh, proved.sh, module.sh and
-# targets.sh, and not run.
+# The programs of the repository, listing, pages, month and replay. It is for sh, read by `.` after helpers.sh, targets.sh and
+# module.sh, and not run.
 #
 # rt makes them for x86-64. dist/ has the modules of those that people run, and these are compiled for this machine. Either way
 # target/programs has what runs a program.

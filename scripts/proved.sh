@@ -1,5 +1,5 @@
 # shellcheck shell=sh disable=SC2034,SC2154
-# What dist/ has, and of which sources it was made. It is for sh, read by `.` after helpers.sh, and not run.
+# What dist/ has, and of which sources it was made. It is for sh, read by `.` in scripts/targets.sh, and not run.
 #
 # dist/ has what was proved, so that nobody needs the Rattle kit to use it. dist/PROVED has the sum of each of its files, as sha256sum
 # writes them, and before these, as comments, the kit that proved them, how much was proved, and the sums of the sources. A file
@@ -17,6 +17,7 @@ sum_of_input() { $sum_command | cut -d ' ' -f 1; }
 sums_hold() { grep -v '^#' "$1" | $sum_command -c >/dev/null 2>&1; } # FILE
 
 # One sum of all files below these paths, by their names and their bytes, the same on every machine.
+# shellcheck disable=SC2086
 sum_below() { # PATH..
     (cd "$root" && find "$@" -type f | LC_ALL=C sort | tr '\n' '\0' | xargs -0 $sum_command) | sum_of_input
 }

@@ -10,6 +10,9 @@
 #   runs       the command that runs such programs here, and runs_packages; empty on the machine itself, and `none` where
 #              programs cannot be run
 
+# shellcheck source=scripts/proved.sh
+. "$root/scripts/proved.sh"
+
 # A line for each: name; LLVM's triple; what clang is told besides; C compiler; its packages; what runs programs; its package.
 target_table() {
     sed -e 's/ *| */|/g' <<'END'
@@ -81,7 +84,7 @@ find_other_compiler() {
     find_new_clang || die "there is no clang of version $oldest_clang or later$(old_clang)"
     this_clang="$clang (version $(clang_version "$clang"))"
     llvm_ar=$("$clang" --print-prog-name=llvm-ar)
-    command -v "$llvm_ar" >/dev/null || [ "$target" != "$(this_machine)" ] || llvm_ar=ar
+    command -v "$llvm_ar" >/dev/null || [ "$target" != "$(this_machine)" ] || llvm_ar='ar'
     needs "$llvm_ar" llvm-19
 }
 find_new_clang() {
@@ -154,7 +157,7 @@ link_wasm() { # ARCHIVE WASM
 
 # Builds the library for the target, from dist/ or from what is proved first, unless that is done already.
 build_for_target() {
-    (. "$root/scripts/proved.sh" && needs_proved bisquemop.ll) || exit
+    needs_proved bisquemop.ll
     needs make make
     make -s -C "$root" TARGET="$target" FOR="$made_for" library >&2 || exit 1
 }
@@ -226,7 +229,7 @@ compile_object() { # OBJECT WORD..
 
 # Runs a program that was compiled for the target. $emulator_words is what its emulator is told besides.
 emulator_words=''
-# shellcheck disable=SC2086
+# shellcheck disable=SC2046,SC2086
 run_for_target() { # PROGRAM WORD..
     case $runs in
     '') "$@" ;;
