@@ -32,11 +32,12 @@ static intptr_t ask_linux(intptr_t call, intptr_t first, intptr_t second, intptr
 }
 
 /* The first instruction. On the stack stand how many words there are, and then the words. */
-__asm__(".globl _start\n"
-        "_start:\n"
-        "    mv a0, sp\n"
-        "    andi sp, sp, -16\n"
-        "    call begin\n");
+__asm__(
+    ".globl _start\n"
+    "_start:\n"
+    "    mv a0, sp\n"
+    "    andi sp, sp, -16\n"
+    "    call begin\n");
 
 void begin(intptr_t *stack)
 {
