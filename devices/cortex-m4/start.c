@@ -1,6 +1,6 @@
 /*
- * Starts a C program on a bare Cortex-M4, or another Cortex-M, that has newlib's semihosting: its words, its output and its exit status are those
- * of the emulator or debugger that runs it. A fault ends it with status 1.
+ * Starts a C program on a bare Cortex-M4, or on another Cortex-M, that has newlib's semihosting: its words, its output and
+ * its exit status are those of the emulator or debugger that runs it. A fault ends it with status 1.
  *
  *   arm-none-eabi-gcc -mcpu=cortex-m4 -mthumb --specs=rdimon.specs -nostartfiles -L devices/cortex-m4 -T emulator.ld \
  *       devices/cortex-m4/start.c PROGRAM.c libbisquemop.a -o PROGRAM
