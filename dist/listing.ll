@@ -5013,19 +5013,24 @@ start:
   %r2 = alloca [16 x i8], align 4
   %r3 = alloca [8 x i8], align 4
   %r4 = alloca [16 x i8], align 4
+  %r5 = alloca i8, align 1
   call void @llvm.memmove.p0.p0.i64(ptr %r2, ptr %r1, i64 16, i1 false)
-  %r5 = getelementptr i8, ptr %r1, i64 16
-  call void @llvm.memmove.p0.p0.i64(ptr %r3, ptr %r5, i64 8, i1 false)
+  %r6 = getelementptr i8, ptr %r1, i64 16
+  call void @llvm.memmove.p0.p0.i64(ptr %r3, ptr %r6, i64 8, i1 false)
   call void @"moves::cursor::advanced"(ptr %r4, ptr %r2, i32 %a2)
-  %r6 = getelementptr i8, ptr %r1, i64 24
-  %r7 = load i8, ptr %r6, align 1, !range !1, !noundef !2
-  %r8 = trunc nuw i8 %r7 to i1
+  %r7 = getelementptr i8, ptr %r1, i64 24
+  %r8 = load i8, ptr %r7, align 1, !range !1, !noundef !2
+  %r9 = trunc nuw i8 %r8 to i1
+  %r10 = zext i1 %r9 to i8
+  store i8 %r10, ptr %r5, align 1
+  %r11 = load i8, ptr %r5, align 1, !range !1, !noundef !2
+  %r12 = trunc nuw i8 %r11 to i1
   call void @llvm.memmove.p0.p0.i64(ptr %r0, ptr %r4, i64 16, i1 false)
-  %r9 = getelementptr i8, ptr %r0, i64 16
-  call void @llvm.memmove.p0.p0.i64(ptr %r9, ptr %r3, i64 8, i1 false)
-  %r10 = getelementptr i8, ptr %r0, i64 24
-  %r11 = zext i1 %r8 to i8
-  store i8 %r11, ptr %r10, align 1
+  %r13 = getelementptr i8, ptr %r0, i64 16
+  call void @llvm.memmove.p0.p0.i64(ptr %r13, ptr %r3, i64 8, i1 false)
+  %r14 = getelementptr i8, ptr %r0, i64 24
+  %r15 = zext i1 %r12 to i8
+  store i8 %r15, ptr %r14, align 1
   call void @llvm.memmove.p0.p0.i64(ptr %a0, ptr %r0, i64 28, i1 false)
   ret void
 }
@@ -12091,6 +12096,140 @@ noarm.7:                                          ; preds = %start
 }
 
 ; Function Attrs: nounwind
+define internal void @"stands::stand::stand_at"(ptr noundef %a0, ptr noundef %a1, ptr noundef %a2, ptr noundef %a3, ptr noundef %a4, ptr noundef %a5, ptr noundef %a6, ptr noundef %a7) #0 {
+start:
+  %r0 = alloca [52 x i8], align 4
+  %r1 = alloca [16 x i8], align 8
+  call void @llvm.memmove.p0.p0.i64(ptr %r1, ptr %a1, i64 16, i1 false)
+  %r2 = alloca [4 x i8], align 4
+  call void @llvm.memmove.p0.p0.i64(ptr %r2, ptr %a2, i64 4, i1 false)
+  %r3 = alloca [4 x i8], align 4
+  call void @llvm.memmove.p0.p0.i64(ptr %r3, ptr %a3, i64 4, i1 false)
+  %r4 = alloca [12 x i8], align 4
+  call void @llvm.memmove.p0.p0.i64(ptr %r4, ptr %a4, i64 12, i1 false)
+  %r5 = alloca [32 x i8], align 4
+  call void @llvm.memmove.p0.p0.i64(ptr %r5, ptr %a5, i64 32, i1 false)
+  %r6 = alloca [4 x i8], align 4
+  call void @llvm.memmove.p0.p0.i64(ptr %r6, ptr %a6, i64 4, i1 false)
+  %r7 = alloca [4 x i8], align 4
+  call void @llvm.memmove.p0.p0.i64(ptr %r7, ptr %a7, i64 4, i1 false)
+  %r8 = alloca [32 x i8], align 4
+  %r9 = alloca i64, align 8
+  %r10 = alloca i64, align 8
+  %r11 = load i32, ptr %r2, align 4, !noundef !2
+  %r12 = zext i32 %r11 to i64
+  store i64 %r12, ptr %r9, align 8
+  %r13 = load i32, ptr %r6, align 4, !noundef !2
+  %r14 = zext i32 %r13 to i64
+  store i64 %r14, ptr %r10, align 8
+  %r15 = load i64, ptr %r9, align 8, !noundef !2
+  %r16 = load i64, ptr %r10, align 8, !noundef !2
+  %r17 = load i32, ptr %r7, align 4, !noundef !2
+  call void @"steps::first::known_from"(ptr %r8, ptr %r1, i64 %r15, ptr %r4, ptr %r5, i64 %r16, i32 %r17)
+  call void @llvm.memmove.p0.p0.i64(ptr %r0, ptr %r2, i64 4, i1 false)
+  %r18 = getelementptr i8, ptr %r0, i64 4
+  call void @llvm.memmove.p0.p0.i64(ptr %r18, ptr %r3, i64 4, i1 false)
+  %r19 = getelementptr i8, ptr %r0, i64 8
+  call void @llvm.memmove.p0.p0.i64(ptr %r19, ptr %r4, i64 12, i1 false)
+  %r20 = getelementptr i8, ptr %r0, i64 20
+  call void @llvm.memmove.p0.p0.i64(ptr %r20, ptr %r8, i64 32, i1 false)
+  call void @llvm.memmove.p0.p0.i64(ptr %a0, ptr %r0, i64 52, i1 false)
+  ret void
+}
+
+; Function Attrs: nounwind
+define internal void @"stands::stand::at_offset"(ptr noundef %a0, ptr noundef %a1, ptr noundef %a2, ptr noundef %a3, ptr noundef %a4) #0 {
+start:
+  %r0 = alloca [52 x i8], align 4
+  %r1 = alloca [16 x i8], align 8
+  call void @llvm.memmove.p0.p0.i64(ptr %r1, ptr %a1, i64 16, i1 false)
+  %r2 = alloca [4 x i8], align 4
+  call void @llvm.memmove.p0.p0.i64(ptr %r2, ptr %a2, i64 4, i1 false)
+  %r3 = alloca [4 x i8], align 4
+  call void @llvm.memmove.p0.p0.i64(ptr %r3, ptr %a3, i64 4, i1 false)
+  %r4 = alloca [12 x i8], align 4
+  call void @llvm.memmove.p0.p0.i64(ptr %r4, ptr %a4, i64 12, i1 false)
+  %r5 = alloca [32 x i8], align 4
+  %r6 = alloca [4 x i8], align 4
+  call void @"steps::first::nothing_known"(ptr %r5)
+  store i32 0, ptr %r6, align 4
+  call void @"stands::stand::stand_at"(ptr %r0, ptr %r1, ptr %r2, ptr %r3, ptr %r4, ptr %r5, ptr %r2, ptr %r6)
+  call void @llvm.memmove.p0.p0.i64(ptr %a0, ptr %r0, i64 52, i1 false)
+  ret void
+}
+
+; Function Attrs: nounwind
+define internal void @"stands::stand::at_front"(ptr noundef %a0, ptr noundef %a1, ptr noundef %a2, ptr noundef %a3) #0 {
+start:
+  %r0 = alloca [52 x i8], align 4
+  %r1 = alloca [16 x i8], align 8
+  call void @llvm.memmove.p0.p0.i64(ptr %r1, ptr %a1, i64 16, i1 false)
+  %r2 = alloca [4 x i8], align 4
+  call void @llvm.memmove.p0.p0.i64(ptr %r2, ptr %a2, i64 4, i1 false)
+  %r3 = alloca [12 x i8], align 4
+  call void @llvm.memmove.p0.p0.i64(ptr %r3, ptr %a3, i64 12, i1 false)
+  %r4 = alloca [4 x i8], align 4
+  store i32 0, ptr %r4, align 4
+  call void @"stands::stand::at_offset"(ptr %r0, ptr %r1, ptr %r4, ptr %r2, ptr %r3)
+  call void @llvm.memmove.p0.p0.i64(ptr %a0, ptr %r0, i64 52, i1 false)
+  ret void
+}
+
+; Function Attrs: nounwind
+define internal void @"stands::stand::at_start"(ptr noundef %a0, ptr noundef %a1) #0 {
+start:
+  %r0 = alloca [52 x i8], align 4
+  %r1 = alloca [16 x i8], align 8
+  call void @llvm.memmove.p0.p0.i64(ptr %r1, ptr %a1, i64 16, i1 false)
+  %r2 = alloca [4 x i8], align 4
+  %r3 = alloca [12 x i8], align 4
+  store i32 0, ptr %r2, align 4
+  call void @"steps::ending::nothing_left"(ptr %r3)
+  call void @"stands::stand::at_front"(ptr %r0, ptr %r1, ptr %r2, ptr %r3)
+  call void @llvm.memmove.p0.p0.i64(ptr %a0, ptr %r0, i64 52, i1 false)
+  ret void
+}
+
+; Function Attrs: nounwind
+define internal void @"stands::stand::next_stand"(ptr noundef %a0, ptr noundef %a1, ptr noundef %a2, ptr noundef %a3) #0 {
+start:
+  %r0 = alloca [52 x i8], align 4
+  %r1 = alloca [16 x i8], align 8
+  call void @llvm.memmove.p0.p0.i64(ptr %r1, ptr %a1, i64 16, i1 false)
+  %r2 = alloca [52 x i8], align 4
+  call void @llvm.memmove.p0.p0.i64(ptr %r2, ptr %a2, i64 52, i1 false)
+  %r3 = alloca [68 x i8], align 4
+  call void @llvm.memmove.p0.p0.i64(ptr %r3, ptr %a3, i64 68, i1 false)
+  %r4 = alloca [4 x i8], align 4
+  %r5 = alloca i32, align 4
+  %r6 = alloca [12 x i8], align 4
+  %r7 = alloca [32 x i8], align 4
+  %r8 = alloca [4 x i8], align 4
+  %r9 = alloca [4 x i8], align 4
+  %r10 = alloca [4 x i8], align 4
+  %r11 = getelementptr i8, ptr %r3, i64 48
+  call void @llvm.memmove.p0.p0.i64(ptr %r4, ptr %r11, i64 4, i1 false)
+  %r12 = getelementptr i8, ptr %r2, i64 4
+  %r13 = load i32, ptr %r12, align 4, !noundef !2
+  %r14 = getelementptr i8, ptr %r3, i64 52
+  %r15 = load i32, ptr %r14, align 4, !noundef !2
+  %r16 = add nuw i32 %r13, %r15
+  store i32 %r16, ptr %r5, align 4
+  %r17 = getelementptr i8, ptr %r3, i64 56
+  call void @llvm.memmove.p0.p0.i64(ptr %r6, ptr %r17, i64 12, i1 false)
+  %r18 = getelementptr i8, ptr %r2, i64 20
+  call void @llvm.memmove.p0.p0.i64(ptr %r7, ptr %r18, i64 32, i1 false)
+  call void @llvm.memmove.p0.p0.i64(ptr %r8, ptr %r2, i64 4, i1 false)
+  %r19 = getelementptr i8, ptr %r3, i64 52
+  call void @llvm.memmove.p0.p0.i64(ptr %r9, ptr %r19, i64 4, i1 false)
+  %r20 = load i32, ptr %r5, align 4, !noundef !2
+  store i32 %r20, ptr %r10, align 4
+  call void @"stands::stand::stand_at"(ptr %r0, ptr %r1, ptr %r4, ptr %r10, ptr %r6, ptr %r7, ptr %r8, ptr %r9)
+  call void @llvm.memmove.p0.p0.i64(ptr %a0, ptr %r0, i64 52, i1 false)
+  ret void
+}
+
+; Function Attrs: nounwind
 define internal void @"strides::first::first_taken"(ptr noundef %a0, ptr noundef %a1, ptr noundef %a2, ptr noundef %a3, i64 noundef %a4) #0 {
 start:
   %r0 = alloca [40 x i8], align 4
@@ -16839,140 +16978,6 @@ start:
 }
 
 ; Function Attrs: nounwind
-define internal void @"rows::stand::stand_at"(ptr noundef %a0, ptr noundef %a1, ptr noundef %a2, ptr noundef %a3, ptr noundef %a4, ptr noundef %a5, ptr noundef %a6, ptr noundef %a7) #0 {
-start:
-  %r0 = alloca [52 x i8], align 4
-  %r1 = alloca [16 x i8], align 8
-  call void @llvm.memmove.p0.p0.i64(ptr %r1, ptr %a1, i64 16, i1 false)
-  %r2 = alloca [4 x i8], align 4
-  call void @llvm.memmove.p0.p0.i64(ptr %r2, ptr %a2, i64 4, i1 false)
-  %r3 = alloca [4 x i8], align 4
-  call void @llvm.memmove.p0.p0.i64(ptr %r3, ptr %a3, i64 4, i1 false)
-  %r4 = alloca [12 x i8], align 4
-  call void @llvm.memmove.p0.p0.i64(ptr %r4, ptr %a4, i64 12, i1 false)
-  %r5 = alloca [32 x i8], align 4
-  call void @llvm.memmove.p0.p0.i64(ptr %r5, ptr %a5, i64 32, i1 false)
-  %r6 = alloca [4 x i8], align 4
-  call void @llvm.memmove.p0.p0.i64(ptr %r6, ptr %a6, i64 4, i1 false)
-  %r7 = alloca [4 x i8], align 4
-  call void @llvm.memmove.p0.p0.i64(ptr %r7, ptr %a7, i64 4, i1 false)
-  %r8 = alloca [32 x i8], align 4
-  %r9 = alloca i64, align 8
-  %r10 = alloca i64, align 8
-  %r11 = load i32, ptr %r2, align 4, !noundef !2
-  %r12 = zext i32 %r11 to i64
-  store i64 %r12, ptr %r9, align 8
-  %r13 = load i32, ptr %r6, align 4, !noundef !2
-  %r14 = zext i32 %r13 to i64
-  store i64 %r14, ptr %r10, align 8
-  %r15 = load i64, ptr %r9, align 8, !noundef !2
-  %r16 = load i64, ptr %r10, align 8, !noundef !2
-  %r17 = load i32, ptr %r7, align 4, !noundef !2
-  call void @"steps::first::known_from"(ptr %r8, ptr %r1, i64 %r15, ptr %r4, ptr %r5, i64 %r16, i32 %r17)
-  call void @llvm.memmove.p0.p0.i64(ptr %r0, ptr %r2, i64 4, i1 false)
-  %r18 = getelementptr i8, ptr %r0, i64 4
-  call void @llvm.memmove.p0.p0.i64(ptr %r18, ptr %r3, i64 4, i1 false)
-  %r19 = getelementptr i8, ptr %r0, i64 8
-  call void @llvm.memmove.p0.p0.i64(ptr %r19, ptr %r4, i64 12, i1 false)
-  %r20 = getelementptr i8, ptr %r0, i64 20
-  call void @llvm.memmove.p0.p0.i64(ptr %r20, ptr %r8, i64 32, i1 false)
-  call void @llvm.memmove.p0.p0.i64(ptr %a0, ptr %r0, i64 52, i1 false)
-  ret void
-}
-
-; Function Attrs: nounwind
-define internal void @"rows::stand::at_offset"(ptr noundef %a0, ptr noundef %a1, ptr noundef %a2, ptr noundef %a3, ptr noundef %a4) #0 {
-start:
-  %r0 = alloca [52 x i8], align 4
-  %r1 = alloca [16 x i8], align 8
-  call void @llvm.memmove.p0.p0.i64(ptr %r1, ptr %a1, i64 16, i1 false)
-  %r2 = alloca [4 x i8], align 4
-  call void @llvm.memmove.p0.p0.i64(ptr %r2, ptr %a2, i64 4, i1 false)
-  %r3 = alloca [4 x i8], align 4
-  call void @llvm.memmove.p0.p0.i64(ptr %r3, ptr %a3, i64 4, i1 false)
-  %r4 = alloca [12 x i8], align 4
-  call void @llvm.memmove.p0.p0.i64(ptr %r4, ptr %a4, i64 12, i1 false)
-  %r5 = alloca [32 x i8], align 4
-  %r6 = alloca [4 x i8], align 4
-  call void @"steps::first::nothing_known"(ptr %r5)
-  store i32 0, ptr %r6, align 4
-  call void @"rows::stand::stand_at"(ptr %r0, ptr %r1, ptr %r2, ptr %r3, ptr %r4, ptr %r5, ptr %r2, ptr %r6)
-  call void @llvm.memmove.p0.p0.i64(ptr %a0, ptr %r0, i64 52, i1 false)
-  ret void
-}
-
-; Function Attrs: nounwind
-define internal void @"rows::stand::at_front"(ptr noundef %a0, ptr noundef %a1, ptr noundef %a2, ptr noundef %a3) #0 {
-start:
-  %r0 = alloca [52 x i8], align 4
-  %r1 = alloca [16 x i8], align 8
-  call void @llvm.memmove.p0.p0.i64(ptr %r1, ptr %a1, i64 16, i1 false)
-  %r2 = alloca [4 x i8], align 4
-  call void @llvm.memmove.p0.p0.i64(ptr %r2, ptr %a2, i64 4, i1 false)
-  %r3 = alloca [12 x i8], align 4
-  call void @llvm.memmove.p0.p0.i64(ptr %r3, ptr %a3, i64 12, i1 false)
-  %r4 = alloca [4 x i8], align 4
-  store i32 0, ptr %r4, align 4
-  call void @"rows::stand::at_offset"(ptr %r0, ptr %r1, ptr %r4, ptr %r2, ptr %r3)
-  call void @llvm.memmove.p0.p0.i64(ptr %a0, ptr %r0, i64 52, i1 false)
-  ret void
-}
-
-; Function Attrs: nounwind
-define internal void @"rows::stand::at_start"(ptr noundef %a0, ptr noundef %a1) #0 {
-start:
-  %r0 = alloca [52 x i8], align 4
-  %r1 = alloca [16 x i8], align 8
-  call void @llvm.memmove.p0.p0.i64(ptr %r1, ptr %a1, i64 16, i1 false)
-  %r2 = alloca [4 x i8], align 4
-  %r3 = alloca [12 x i8], align 4
-  store i32 0, ptr %r2, align 4
-  call void @"steps::ending::nothing_left"(ptr %r3)
-  call void @"rows::stand::at_front"(ptr %r0, ptr %r1, ptr %r2, ptr %r3)
-  call void @llvm.memmove.p0.p0.i64(ptr %a0, ptr %r0, i64 52, i1 false)
-  ret void
-}
-
-; Function Attrs: nounwind
-define internal void @"rows::stand::next_stand"(ptr noundef %a0, ptr noundef %a1, ptr noundef %a2, ptr noundef %a3) #0 {
-start:
-  %r0 = alloca [52 x i8], align 4
-  %r1 = alloca [16 x i8], align 8
-  call void @llvm.memmove.p0.p0.i64(ptr %r1, ptr %a1, i64 16, i1 false)
-  %r2 = alloca [52 x i8], align 4
-  call void @llvm.memmove.p0.p0.i64(ptr %r2, ptr %a2, i64 52, i1 false)
-  %r3 = alloca [68 x i8], align 4
-  call void @llvm.memmove.p0.p0.i64(ptr %r3, ptr %a3, i64 68, i1 false)
-  %r4 = alloca [4 x i8], align 4
-  %r5 = alloca i32, align 4
-  %r6 = alloca [12 x i8], align 4
-  %r7 = alloca [32 x i8], align 4
-  %r8 = alloca [4 x i8], align 4
-  %r9 = alloca [4 x i8], align 4
-  %r10 = alloca [4 x i8], align 4
-  %r11 = getelementptr i8, ptr %r3, i64 48
-  call void @llvm.memmove.p0.p0.i64(ptr %r4, ptr %r11, i64 4, i1 false)
-  %r12 = getelementptr i8, ptr %r2, i64 4
-  %r13 = load i32, ptr %r12, align 4, !noundef !2
-  %r14 = getelementptr i8, ptr %r3, i64 52
-  %r15 = load i32, ptr %r14, align 4, !noundef !2
-  %r16 = add nuw i32 %r13, %r15
-  store i32 %r16, ptr %r5, align 4
-  %r17 = getelementptr i8, ptr %r3, i64 56
-  call void @llvm.memmove.p0.p0.i64(ptr %r6, ptr %r17, i64 12, i1 false)
-  %r18 = getelementptr i8, ptr %r2, i64 20
-  call void @llvm.memmove.p0.p0.i64(ptr %r7, ptr %r18, i64 32, i1 false)
-  call void @llvm.memmove.p0.p0.i64(ptr %r8, ptr %r2, i64 4, i1 false)
-  %r19 = getelementptr i8, ptr %r3, i64 52
-  call void @llvm.memmove.p0.p0.i64(ptr %r9, ptr %r19, i64 4, i1 false)
-  %r20 = load i32, ptr %r5, align 4, !noundef !2
-  store i32 %r20, ptr %r10, align 4
-  call void @"rows::stand::stand_at"(ptr %r0, ptr %r1, ptr %r4, ptr %r10, ptr %r6, ptr %r7, ptr %r8, ptr %r9)
-  call void @llvm.memmove.p0.p0.i64(ptr %a0, ptr %r0, i64 52, i1 false)
-  ret void
-}
-
-; Function Attrs: nounwind
 define internal noundef i64 @"rows::lines::count_lines"(ptr noundef %a0, ptr noundef %a1) #0 {
 start:
   %r0 = alloca i64, align 8
@@ -16985,7 +16990,7 @@ start:
   %r5 = alloca [68 x i8], align 4
   %r6 = alloca i8, align 1
   store i64 0, ptr %r3, align 8
-  call void @"rows::stand::at_start"(ptr %r4, ptr %r1)
+  call void @"stands::stand::at_start"(ptr %r4, ptr %r1)
   br label %loop.2
 
 loop.2:                                           ; preds = %join.5, %start
@@ -17012,7 +17017,7 @@ else.4:                                           ; preds = %loop.2
   br label %join.5
 
 join.5:                                           ; preds = %else.4
-  call void @"rows::stand::next_stand"(ptr %r4, ptr %r1, ptr %r4, ptr %r5)
+  call void @"stands::stand::next_stand"(ptr %r4, ptr %r1, ptr %r4, ptr %r5)
   br label %loop.2
 
 after.1:                                          ; No predecessors!
@@ -17138,7 +17143,7 @@ start:
   %r9 = alloca [16 x i8], align 8
   %r10 = alloca i8, align 1
   store i64 0, ptr %r4, align 8
-  call void @"rows::stand::at_start"(ptr %r5, ptr %r1)
+  call void @"stands::stand::at_start"(ptr %r5, ptr %r1)
   br label %loop.2
 
 loop.2:                                           ; preds = %join.5, %start
@@ -17176,7 +17181,7 @@ else.4:                                           ; preds = %loop.2
   br label %join.5
 
 join.5:                                           ; preds = %else.4
-  call void @"rows::stand::next_stand"(ptr %r5, ptr %r1, ptr %r5, ptr %r6)
+  call void @"stands::stand::next_stand"(ptr %r5, ptr %r1, ptr %r5, ptr %r6)
   br label %loop.2
 
 after.1:                                          ; No predecessors!
@@ -17747,7 +17752,7 @@ start:
   %r13 = alloca ptr, align 8
   %r14 = alloca [16 x i8], align 8
   store i64 0, ptr %r4, align 8
-  call void @"rows::stand::at_start"(ptr %r5, ptr %r1)
+  call void @"stands::stand::at_start"(ptr %r5, ptr %r1)
   br label %loop.2
 
 loop.2:                                           ; preds = %join.11, %start
@@ -17835,7 +17840,7 @@ else.10:                                          ; preds = %join.5
   br label %join.11
 
 join.11:                                          ; preds = %else.10
-  call void @"rows::stand::next_stand"(ptr %r5, ptr %r1, ptr %r5, ptr %r7)
+  call void @"stands::stand::next_stand"(ptr %r5, ptr %r1, ptr %r5, ptr %r7)
   br label %loop.2
 
 after.1:                                          ; No predecessors!
