@@ -6,7 +6,7 @@ usage: tools/respell.py            at the top of the repository, after the kit's
 
 A definition in camel case is in snake case afterwards. Of a lemma's dashes those stay that join two names of definitions, all others are
 underscores. A lemma that would then have its definition's name ends in _lem. Functions of src/, exported names, strings, inputs and outputs
-keep their names. The crate `unicode`, which the kit has a library of that name, is `characters`; the module `Contracts`, which the kit makes
+keep their names. The crate `unicode`, which the kit has a library of that name, is `utf8`; the module `Contracts`, which the kit makes
 in each crate, is `CallContracts`.
 """
 import collections
@@ -19,7 +19,7 @@ CRATES = os.path.join(ROOT, "crates")
 WORD = re.compile(r"[^\s(){}.;,@\"«»|\[\]\\`]+")
 DECLARES = re.compile(r"^( *)(?:(?:pub|abbrev|unfoldable|unfolding|ruleset) )*([^\s(){}.;,@\"«»:]+)(?: \{[^{}\n]*\})*(?: \([^()\n]*\))* : ")
 RULESET = re.compile(r"^(?:pub )?ruleset ([^\s=]+) =")
-CRATE = [("unicode", "characters")]
+CRATE = [("unicode", "utf8")]
 MODULE = [("promises", "Contracts", "CallContracts")]
 # The library has a word that is spelled so.
 CHOSEN = {"countBy": "count_where"}

@@ -7,8 +7,8 @@ use mathlib.Core.Bool.{true, false}
 use mathlib.Core.List.{List}
 use lib.ListN.{length}
 use Rattle.basis.specs.Choice.{pick}
-use Rattle.characters.specs.Decoding.{decode_all}
-use Rattle.characters.specs.Places.{boundary}
+use Rattle.utf8.specs.Decoding.{decode_all}
+use Rattle.utf8.specs.Places.{boundary}
 use Rattle.meaning.specs.Checks.{check_utf8}
 use Rattle.meaning.specs.WellFormed.{no_rest}
 use Rattle.meaning.specs.Edit.{chars_in, rest_fits}

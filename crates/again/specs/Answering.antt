@@ -6,7 +6,7 @@ use Rattle.std.proofs.Common.{◌∙◌}
 use mathlib.Core.List.{List, [], ◌∷◌, ◌++◌}
 use borrow.Author.Tests.{lt-ltb, le-ltb}
 use Rattle.basis.specs.Choice.{pick}
-use Rattle.characters.specs.Decoding.{decode_all}
+use Rattle.utf8.specs.Decoding.{decode_all}
 use Rattle.meaning.specs.Checks.{refuse_if, first_of, check_settings, check_length, check_utf8, check_room}
 use Rattle.meaning.specs.Table.{entry_numbers, of_entry, of_all, capacity_of, written, entries_in}
 use Rattle.meaning.specs.WellFormed.{check_table}

@@ -7,8 +7,8 @@ use borrow.Author.Tests.{leb-true, ltb-false}
 use Rattle.std.proofs.Math.Dec.{eqb}
 use Rattle.basis.specs.Choice.{pick, by_test, and_true}
 use Rattle.basis.specs.Order.{by_le}
-use Rattle.characters.specs.Decoding.{decode_all}
-use Rattle.characters.specs.Places.{boundary}
+use Rattle.utf8.specs.Decoding.{decode_all}
+use Rattle.utf8.specs.Places.{boundary}
 use Rattle.meaning.specs.Checks.{text_limit, first_of, check_settings, check_length, check_utf8}
 use Rattle.meaning.specs.Table.{entry_numbers, entry_in, entries_in}
 use Rattle.meaning.specs.WellFormed.{text_length, nothing, line, check_table}

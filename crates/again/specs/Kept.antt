@@ -4,7 +4,7 @@ use Prim.Native.Nat.{ℕ, zero, suc, ◌+◌, ◌<◌}
 use Rattle.std.proofs.Common.{arith}
 use Rattle.std.specs.Prelude.{◌≡◌, refl, true, List, [], ◌∷◌, map, length, take, drop}
 use Rattle.basis.specs.Choice.{pick_cases}
-use Rattle.characters.specs.Encoding.{size}
+use Rattle.utf8.specs.Encoding.{size}
 use Rattle.meaning.specs.LineIter.{Held}
 use Rattle.meaning.specs.Line.{lay_line, entry_at}
 use Rattle.meaning.specs.Layout.{row_at, rows_by, entry_of_row}

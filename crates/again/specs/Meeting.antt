@@ -4,8 +4,8 @@ use Rattle.std.specs.Prelude.{ℕ, ◌+◌, ◌≤◌, ◌≡◌, true, ◌&&◌
 use Rattle.std.proofs.Common.{arith, sym, ◌∙◌, append_assoc, ne_eqb, leb-true, eqb-true}
 use Rattle.basis.specs.Choice.{pick, and_true}
 use Rattle.basis.specs.Order.{by_eq}
-use Rattle.characters.specs.Encoding.{size}
-use Rattle.characters.specs.Sizes.{size_append}
+use Rattle.utf8.specs.Encoding.{size}
+use Rattle.utf8.specs.Sizes.{size_append}
 use Rattle.meaning.specs.LineIter.{Held}
 use Rattle.meaning.specs.Line.{Line, rest_of, entry_at}
 use Rattle.meaning.specs.Edit.{moved, moved_rest, meets}

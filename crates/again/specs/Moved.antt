@@ -8,7 +8,7 @@ use mathlib.Core.List.{List, ◌∷◌, map}
 use borrow.Author.Tests.{ne_eqb}
 use Rattle.basis.specs.Choice.{pick}
 use Rattle.basis.specs.Order.{by_eq}
-use Rattle.characters.specs.Encoding.{size}
+use Rattle.utf8.specs.Encoding.{size}
 use Rattle.meaning.specs.LineIter.{Held}
 use Rattle.meaning.specs.Line.{Line, lay_line, rest_of, entry_at}
 use Rattle.meaning.specs.Layout.{Row, row_at, rows_by, entry_of_row}

@@ -5,7 +5,7 @@ use Rattle.std.proofs.Common.{not-suc-le-zero, arith, sym, ◌∙◌}
 use Rattle.std.specs.Prelude.{◌≡◌, refl, length, take, drop}
 use Rattle.std.proofs.Math.Path.{ap}
 use mathlib.Core.List.{List, [], ◌∷◌, ◌++◌, map}
-use Rattle.characters.specs.Encoding.{size}
+use Rattle.utf8.specs.Encoding.{size}
 use Rattle.meaning.specs.LineIter.{Held, nothing_held}
 use Rattle.meaning.specs.Line.{lay_line, rest_of, entry_at}
 use Rattle.meaning.specs.Layout.{Row, row_at, unless_ended, rows_by, rows, layout, entry_of_row}

@@ -6,7 +6,7 @@ use Rattle.std.proofs.Math.Path.{ap, subst}
 use mathlib.Core.List.{List, ◌++◌, map}
 use Rattle.std.proofs.Math.ListN.{length, length-map}
 use Rattle.basis.specs.Order.{by_lt}
-use Rattle.characters.specs.Decoding.{decode_all}
+use Rattle.utf8.specs.Decoding.{decode_all}
 use Rattle.meaning.specs.Layout.{entry_of_row}
 use Rattle.meaning.specs.Table.{entry_numbers, of_entry, of_all, capacity_of, written, entry_in, entries_in}
 use Rattle.meaning.specs.Edit.{unaffected, moved_entry, Again, lines_again}

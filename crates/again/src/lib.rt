@@ -1,4 +1,5 @@
 // Laying a text again after an edit.
+#![tactic(auto)]
 pub mod relay;
 mod rest;
 mod stop;

@@ -1,6 +1,6 @@
 // The rest that the first affected line resumes, which fits.
 ghost use Rattle.std.specs.Prelude.{◌≤◌, ◌≡◌, true, length};
-ghost use Rattle.characters.specs.Decoding.{decode_all};
+ghost use Rattle.utf8.specs.Decoding.{decode_all};
 ghost use Rattle.meaning.specs.Checks.{text_limit, check_utf8};
 ghost use Rattle.meaning.specs.Edit.{rest_fits};
 ghost use Rattle.meaning.specs.declared.refusals.Checked.TheVariants.{Good};

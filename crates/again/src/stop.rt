@@ -21,7 +21,7 @@ use table::entries::read_entry;
 
 // How many lines are laid, the first old line that is kept, and the characters that stand before it now; the count of old lines
 // and 0 if none is.
-#[derive(Drop)]
+#[derive(Clone, Copy)]
 pub struct Found {
     pub laid: usize,
     pub kept: usize,

@@ -1,4 +1,5 @@
 // The calls for C. include/bisquemop.h says what each one does.
+#![tactic(auto)]
 ghost use Rattle.std.specs.Prelude.{◌≡◌};
 ghost use Rattle.meaning.specs.Settings.{settings_of};
 ghost use Rattle.meaning.specs.Refusals.{checked_number, checked_value};

@@ -7,8 +7,8 @@ use Rattle.std.specs.Prelude.{◌≡◌, false, List, length, take, drop}
 use Rattle.std.proofs.Math.Path.{refl, sym, ap}
 use borrow.Author.Tests.{eq-eqb, lt-leb}
 use Rattle.basis.specs.Choice.{by_test}
-use Rattle.characters.specs.Encoding.{size}
-use Rattle.characters.specs.Sizes.{size_append}
+use Rattle.utf8.specs.Encoding.{size}
+use Rattle.utf8.specs.Sizes.{size_append}
 use Rattle.meaning.specs.Cursor.{room_of, fits_in}
 use Rattle.meaning.specs.SpaceConfig.{spaces_width}
 use Rattle.meaning.specs.Words.{glues}

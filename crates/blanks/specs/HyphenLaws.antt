@@ -3,7 +3,7 @@
 use Rattle.std.specs.Prelude.{ℕ, ◌+◌, ◌≡◌, Bool, true, false, ◌||◌, not}
 use Rattle.std.proofs.Math.Nat.{add-zero}
 use Rattle.basis.specs.Choice.{pick, pick_true}
-use Rattle.characters.specs.Encoding.{bytes, size}
+use Rattle.utf8.specs.Encoding.{bytes, size}
 use Rattle.meaning.specs.Tokens.{softHyphen}
 use Rattle.meaning.specs.Cursor.{fits_in}
 use Rattle.meaning.specs.LineIter.{moved_on, hyphenated}

@@ -5,7 +5,7 @@ use Rattle.std.proofs.Common.{sym, ◌∙◌, arith}
 use borrow.Author.Tests.{lt-ltb, le-ltb, eq-eqb, ne_eqb}
 use Rattle.basis.specs.Choice.{pick}
 use Rattle.basis.specs.Order.{by_lt}
-use Rattle.characters.specs.Decoding.{valid_prefix}
+use Rattle.utf8.specs.Decoding.{valid_prefix}
 use Rattle.meaning.specs.Checks.{text_limit, check_text, check_length, check_utf8, refuse_if, first_of}
 use Rattle.meaning.specs.declared.refusals.Refusal.{Refusal}
 use Rattle.meaning.specs.declared.refusals.Refusal.TheVariants.{TextTooLong, NotUtf8}

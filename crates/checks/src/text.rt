@@ -5,7 +5,7 @@ ghost use Rattle.meaning.specs.Checks.{check_length, check_text};
 use meaning::counts::Offset;
 use meaning::refusals::{Checked, Refusal};
 use meaning::sizes::TEXT_LIMIT;
-use characters::text::valid_prefix;
+use utf8::text::valid_prefix;
 
 // Refusal 3, of a text of so many bytes.
 pub fn check_length(bytes: u64) -> Checked

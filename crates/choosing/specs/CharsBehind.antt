@@ -5,13 +5,13 @@ use Rattle.std.proofs.Common.{arith, ◌∙◌}
 use Rattle.std.proofs.Math.Path.{sym, ap, subst}
 use mathlib.Core.List.{List, [], ◌++◌, append-nil}
 use Rattle.std.proofs.Math.ListN.{drop, take-append-drop}
-use Rattle.characters.specs.Scalar.{Scalars}
-use Rattle.characters.specs.Encoding.{size, encode_all}
-use Rattle.characters.specs.Decoding.{decode_all}
-use Rattle.characters.specs.Places.{boundary, count_chars}
-use Rattle.characters.specs.Sizes.{size_append}
-use Rattle.characters.specs.Walk.{decode_all-scalars}
-use Rattle.characters.specs.Boundaries.{count-part}
+use Rattle.utf8.specs.Scalar.{Scalars}
+use Rattle.utf8.specs.Encoding.{size, encode_all}
+use Rattle.utf8.specs.Decoding.{decode_all}
+use Rattle.utf8.specs.Places.{boundary, count_chars}
+use Rattle.utf8.specs.Sizes.{size_append}
+use Rattle.utf8.specs.Walk.{decode_all-scalars}
+use Rattle.utf8.specs.Boundaries.{count-part}
 use Rattle.meaning.specs.Checks.{check_utf8}
 use Rattle.meaning.specs.Edit.{chars_in}
 use Rattle.meaning.specs.Frames.{onward}

@@ -8,8 +8,8 @@ use mathlib.Core.List.{List, [], ◌∷◌}
 use Rattle.std.proofs.Math.ListN.{length, take}
 use Rattle.std.proofs.Math.Seq.{length-take-le}
 use Rattle.basis.specs.Choice.{pick, pick_true, pick-false}
-use Rattle.characters.specs.Decoding.{decode_all}
-use Rattle.characters.specs.Places.{boundary}
+use Rattle.utf8.specs.Decoding.{decode_all}
+use Rattle.utf8.specs.Places.{boundary}
 use Rattle.meaning.specs.Checks.{first_of, check_limit, check_settings, check_length, check_utf8, check_text}
 use Rattle.meaning.specs.Frames.{onward}
 use Rattle.meaning.specs.Pages.{within_lines, taken_bytes, left_out}

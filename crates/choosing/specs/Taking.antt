@@ -5,8 +5,8 @@ use Rattle.std.proofs.Common.{zero-add, arith, sym, ◌∙◌, drop-drop}
 use Rattle.std.proofs.Math.Path.{ap}
 use borrow.Author.Tests.{le-leb, lt-leb}
 use Rattle.std.proofs.Math.ListN.{length, length-drop, drop_of_length-le}
-use Rattle.characters.specs.Encoding.{size}
-use Rattle.characters.specs.Decoding.{decode_all}
+use Rattle.utf8.specs.Encoding.{size}
+use Rattle.utf8.specs.Decoding.{decode_all}
 use Rattle.meaning.specs.Checks.{check_utf8}
 use Rattle.meaning.specs.Line.{entry_at}
 use Rattle.meaning.specs.Layout.{Row, row_at, entry_of_row, layout}

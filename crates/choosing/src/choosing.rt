@@ -1,7 +1,7 @@
 // A long text or a short one, whichever so many lines have room for: a public call (rule 10, refusal 1, refusal 2, refusal 3, refusal 4).
 ghost use Rattle.std.specs.Prelude.{◌≡◌, true, length};
-ghost use Rattle.characters.specs.Decoding.{decode_all};
-ghost use Rattle.characters.specs.Places.{boundary};
+ghost use Rattle.utf8.specs.Decoding.{decode_all};
+ghost use Rattle.utf8.specs.Places.{boundary};
 ghost use Rattle.meaning.specs.Checks.{check_utf8};
 ghost use Rattle.meaning.specs.Frames.{onward};
 ghost use Rattle.meaning.specs.Pages.{within_lines};
@@ -16,7 +16,7 @@ use checks::text::check_text;
 use meaning::answers::Chosen;
 use meaning::refusals::Checked;
 use meaning::settings::Settings;
-use characters::text::count_long;
+use utf8::text::count_long;
 
 // Refusals 1 and 2, then 3 and 4 of the long text, then of the short one.
 fn check_choosing<'a>(s: Settings, long: &'a [u8], short: &'a [u8], h: u32) -> Checked

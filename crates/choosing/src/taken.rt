@@ -8,7 +8,7 @@ use rows::stand::lay_row;
 use stands::stand::{at_start, next_stand};
 
 // Where the first lines end, and whether there are no more of them.
-#[derive(Drop)]
+#[derive(Clone, Copy)]
 pub struct Taken {
     pub end: Offset,
     pub whole: bool,

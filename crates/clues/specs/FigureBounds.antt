@@ -3,7 +3,7 @@
 use Rattle.std.specs.Prelude.{ℕ, zero, suc, ◌+◌, ◌≤◌, List, [], ◌∷◌, map, eqb, length, take, drop}
 use Rattle.std.proofs.Common.{arith, length-drop}
 use Rattle.basis.specs.Choice.{pick_cases}
-use Rattle.characters.specs.Encoding.{size}
+use Rattle.utf8.specs.Encoding.{size}
 use Rattle.meaning.specs.LineIter.{Held, nothing_held}
 use Rattle.meaning.specs.Line.{line_of, lay_line, line_tokens, entry_at}
 use Rattle.meaning.specs.Layout.{Row, row_at, rows_by, rows, entry_of_row}

@@ -14,7 +14,7 @@ use meaning::settings::Settings;
 pub const MOST_CLUES: u64 = 4294967295;
 
 // How many clues are counted, and where the bytes start that belong to none of them.
-#[derive(Drop)]
+#[derive(Clone, Copy)]
 pub struct Ended {
     pub at: usize,
     pub clues: u64,

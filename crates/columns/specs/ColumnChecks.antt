@@ -4,7 +4,7 @@ use Rattle.std.specs.Prelude.{ℕ, ◌≤◌, ◌≡◌, true, false, length}
 use Rattle.std.proofs.Common.{sym}
 use mathlib.Core.List.{List, [], ◌∷◌}
 use Rattle.basis.specs.Choice.{pick_true, pick-false}
-use Rattle.characters.specs.Decoding.{decode_all}
+use Rattle.utf8.specs.Decoding.{decode_all}
 use Rattle.meaning.specs.Checks.{first_of, check_limit, check_settings, check_length, check_utf8, check_text}
 use Rattle.meaning.specs.Columns.{fits_whole, narrowest}
 use Rattle.meaning.specs.ColumnCalls.{check_columns, fitting_answer, planning_answer}

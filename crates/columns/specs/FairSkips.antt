@@ -6,7 +6,7 @@ use Rattle.std.proofs.Math.Nat.{one-mul, div-add-mod'}
 use borrow.Author.Tests.{eqb-true, leb-true}
 use Rattle.basis.specs.Choice.{pick, pick_cases, by_test}
 use Rattle.basis.specs.Order.{by_eq}
-use Rattle.characters.specs.Decoding.{decode_all}
+use Rattle.utf8.specs.Decoding.{decode_all}
 use Rattle.meaning.specs.Columns.{fits_whole, with_width, widest_box}
 use Rattle.meaning.specs.declared.settings.Settings.{Settings}
 use Rattle.widths.specs.TabFree.{has_tab}

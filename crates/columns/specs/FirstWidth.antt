@@ -2,7 +2,7 @@
 -- Assumes nothing.
 use Rattle.std.specs.Prelude.{ℕ, suc, ◌+◌, ◌*◌, ◌/◌, ◌≤◌, ◌<◌, ◌≡◌, false, List}
 use Rattle.std.proofs.Common.{ap, div-mul-le_self, mul-div_cancel, arith}
-use Rattle.characters.specs.Decoding.{decode_all}
+use Rattle.utf8.specs.Decoding.{decode_all}
 use Rattle.meaning.specs.Checks.{check_utf8}
 use Rattle.meaning.specs.Columns.{fits_whole, with_width, widest_box}
 use Rattle.meaning.specs.declared.settings.Settings.{Settings}

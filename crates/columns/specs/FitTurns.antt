@@ -7,7 +7,7 @@ use Rattle.std.proofs.Math.Bool.{true, false}
 use borrow.Author.Tests.{le-leb, lt-leb, eq-eqb, ne_eqb}
 use Rattle.basis.specs.Choice.{pick}
 use Rattle.basis.specs.Order.{by_le}
-use Rattle.characters.specs.Decoding.{decode_all}
+use Rattle.utf8.specs.Decoding.{decode_all}
 use Rattle.meaning.specs.Layout.{entry_of_row, layout}
 use Rattle.meaning.specs.Pages.{within_lines}
 use Rattle.meaning.specs.Columns.{all_kept, fits_whole}

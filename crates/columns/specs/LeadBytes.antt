@@ -12,10 +12,10 @@ use borrow.Author.Tests.{lt-ltb, le-ltb, ne_eqb, ltb-true, ltb-false, leb-true}
 use Rattle.basis.specs.Choice.{pick, pick_cases, pick_same, by_test}
 use Rattle.basis.specs.Order.{by_lt}
 use Rattle.basis.specs.Tables.{agree-below}
-use Rattle.characters.specs.Encoding.{trail, encode, encode_all}
-use Rattle.characters.specs.Decoding.{decode_all}
-use Rattle.characters.specs.WhiteSpace.{is_white, member, white_spaces}
-use Rattle.characters.specs.Members.{above-all, between-spaces}
+use Rattle.utf8.specs.Encoding.{trail, encode, encode_all}
+use Rattle.utf8.specs.Decoding.{decode_all}
+use Rattle.utf8.specs.WhiteSpace.{is_white, member, white_spaces}
+use Rattle.utf8.specs.Members.{above-all, between-spaces}
 use Rattle.meaning.specs.Characters.{glue, class_of, in_word}
 use Rattle.meaning.specs.Checks.{check_utf8}
 use Rattle.meaning.specs.declared.refusals.Checked.TheVariants.{Good}

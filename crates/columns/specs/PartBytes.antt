@@ -12,12 +12,12 @@ use borrow.Author.Tests.{eq-eqb, ne_eqb}
 use Rattle.std.proofs.Math.ListN.{get_or, drop, drop_of_length-le}
 use Rattle.basis.specs.Choice.{pick, pick_true, pick-false, by_test}
 use Rattle.basis.specs.Order.{by_lt, by_eq}
-use Rattle.characters.specs.Encoding.{trail, encode}
-use Rattle.characters.specs.Decoding.{decode_head, decode_all}
-use Rattle.characters.specs.RoundTrip.{encode_decode}
-use Rattle.characters.specs.Sizes.{encode_one, encode_cases, bytes-is, bytes_range}
-use Rattle.characters.specs.Walk.{all_more, all_none, along}
-use Rattle.characters.specs.declared.sequence.Decoded.TheVariants.{Char}
+use Rattle.utf8.specs.Encoding.{trail, encode}
+use Rattle.utf8.specs.Decoding.{decode_head, decode_all}
+use Rattle.utf8.specs.RoundTrip.{encode_decode}
+use Rattle.utf8.specs.Sizes.{encode_one, encode_cases, bytes-is, bytes_range}
+use Rattle.utf8.specs.Walk.{all_more, all_none, along}
+use Rattle.utf8.specs.declared.sequence.Decoded.TheVariants.{Char}
 use Rattle.laws.specs.Runs.{Pass}
 use Rattle.widths.specs.LineParts.{breaks, in_part}
 use Rattle.widths.specs.TabStops.{next_stop}

@@ -7,11 +7,11 @@ use borrow.Author.Tests.{eq-eqb, ne_eqb}
 use Rattle.std.proofs.Math.Seq.{drop-cons}
 use Rattle.basis.specs.Choice.{pick}
 use Rattle.basis.specs.Order.{by_eq}
-use Rattle.characters.specs.Encoding.{encode}
-use Rattle.characters.specs.Decoding.{decode_head, decode_all}
-use Rattle.characters.specs.RoundTrip.{encode_decode}
-use Rattle.characters.specs.Walk.{all_more, all_none, along}
-use Rattle.characters.specs.declared.sequence.Decoded.TheVariants.{Char}
+use Rattle.utf8.specs.Encoding.{encode}
+use Rattle.utf8.specs.Decoding.{decode_head, decode_all}
+use Rattle.utf8.specs.RoundTrip.{encode_decode}
+use Rattle.utf8.specs.Walk.{all_more, all_none, along}
+use Rattle.utf8.specs.declared.sequence.Decoded.TheVariants.{Char}
 use Rattle.widths.specs.TabFree.{has_tab, free-rest}
 
 tab-here : (s : List ℕ) → has_tab (9 ∷ s) ≡ true

@@ -12,7 +12,7 @@ use basis::numbers::lesser;
 
 // So many lines are full, and the next one is filled up to a place; whether it has a character of a word; whether the word at hand moves to the
 // next line if it does not fit, and how much of it is in this one.
-#[derive(Drop)]
+#[derive(Clone, Copy)]
 pub struct Fill {
     pub lines: usize,
     pub at: u32,

@@ -1,6 +1,6 @@
 // Whether a text fits so many lines and loses no character: a public call (rule 10, refusal 1, refusal 2, refusal 3, refusal 4).
 ghost use Rattle.std.specs.Prelude.{◌≤◌, ◌≡◌};
-ghost use Rattle.characters.specs.Decoding.{decode_all};
+ghost use Rattle.utf8.specs.Decoding.{decode_all};
 ghost use Rattle.meaning.specs.Columns.{fits_whole};
 ghost use Rattle.meaning.specs.ColumnCalls.{fitting_answer};
 ghost use Rattle.rows.specs.RowsFrom.{TextReady};

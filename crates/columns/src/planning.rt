@@ -1,7 +1,7 @@
 // The smallest box width in which a text fits so many lines and loses no character: a public call (rule 10, refusal 1, refusal 2,
 // refusal 3, refusal 4).
 ghost use Rattle.std.specs.Prelude.{◌≤◌, ◌≡◌};
-ghost use Rattle.characters.specs.Decoding.{decode_all};
+ghost use Rattle.utf8.specs.Decoding.{decode_all};
 ghost use Rattle.meaning.specs.Checks.{check_utf8};
 ghost use Rattle.meaning.specs.declared.refusals.Checked.TheVariants.{Good};
 ghost use Rattle.meaning.specs.Columns.{narrowest};

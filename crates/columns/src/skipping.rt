@@ -12,7 +12,7 @@ use crate::width::WIDEST_BOX;
 use meaning::settings::Settings;
 
 // From one width to the next is a step, and from one that is enough on no wider one lays the text otherwise.
-#[derive(Drop)]
+#[derive(Clone, Copy)]
 pub struct Skips {
     pub step: u32,
     pub enough: u32,

@@ -1,6 +1,6 @@
 // The width that a search begins with: in each narrower box the text fills too many lines (rule 8, rule 10).
 ghost use Rattle.std.specs.Prelude.{◌≤◌, ◌≡◌};
-ghost use Rattle.characters.specs.Decoding.{decode_all};
+ghost use Rattle.utf8.specs.Decoding.{decode_all};
 ghost use Rattle.meaning.specs.Checks.{check_utf8};
 ghost use Rattle.meaning.specs.declared.refusals.Checked.TheVariants.{Good};
 ghost use Rattle.rows.specs.RowsFrom.{TextReady};

@@ -3,7 +3,7 @@ ghost use Rattle.std.specs.Prelude.{◌-◌, ◌≤◌, ◌≡◌};
 ghost use Rattle.console.specs.Digits.{decimal_in, is_digit};
 
 // A number; or that the word is none, or one above a limit.
-#[derive(Drop)]
+#[derive(Clone, Copy)]
 pub enum Decimal {
     Number(u32),
     NoNumber,

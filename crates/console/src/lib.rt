@@ -1,4 +1,5 @@
 // What the programs share: a file read to its end, bytes moved to a buffer's front, a number in a word, what they say, and the settings that they lay by.
+#![tactic(auto)]
 pub mod digits;
 pub mod front;
 pub mod input;

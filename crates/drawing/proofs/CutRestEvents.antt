@@ -10,7 +10,7 @@ use lib.Dec.{eqb}
 use lib.ListN.{length, take}
 use lib.Seq.{take-take}
 use Rattle.basis.specs.Choice.{pick}
-use Rattle.characters.specs.Encoding.{size}
+use Rattle.utf8.specs.Encoding.{size}
 use Rattle.meaning.specs.Tokens.{ender}
 use Rattle.meaning.specs.Cursor.{room_of}
 use Rattle.meaning.specs.Words.{Drawn, drawn}

@@ -10,7 +10,7 @@ use borrow.Author.Tests.{eqb-false}
 use Rattle.std.proofs.Math.ListN.{length, length-take}
 use Rattle.std.proofs.lemmas.List.{take-append-le}
 use Rattle.basis.specs.Choice.{pick_cases}
-use Rattle.characters.specs.Encoding.{size}
+use Rattle.utf8.specs.Encoding.{size}
 use Rattle.meaning.specs.Tokens.{Tok, newLine, carriageReturn, tab, softHyphen, space, word, chars_of, size_of, need_of, tokens}
 use Rattle.meaning.specs.Cursor.{room_of, fits_in, has_moved, tab_width}
 use Rattle.meaning.specs.SpaceConfig.{spaces_width}

@@ -6,7 +6,7 @@ use ink::pen::Pen;
 use meaning::cursor::Place;
 use strides::going::{Waiting, nothing_waits};
 
-#[derive(Drop)]
+#[derive(Clone, Copy)]
 pub struct Inked {
     pub place: Place,
     pub at: usize,

@@ -1,4 +1,5 @@
 // The events of a line, drawn into a lent buffer (rule 13).
+#![tactic(auto)]
 pub mod cuts;
 mod inked;
 mod lone;

@@ -23,7 +23,7 @@ use steps::step::Stepped;
 use steps::words::word_place;
 
 // Whether the pass goes on, the place from which it does, and the pen.
-#[derive(Drop)]
+#[derive(Clone, Copy)]
 pub struct Past {
     pub goes: bool,
     pub place: Place,

@@ -5,8 +5,8 @@ use mathlib.Core.Path.{◌≡◌, ap, ◌∙◌}
 use mathlib.Core.Bool.{true, false, ◌&&◌}
 use mathlib.Core.List.{List}
 use lib.ListN.{length, drop}
-use Rattle.characters.specs.Decoding.{decode_all}
-use Rattle.characters.specs.Places.{boundary_at}
+use Rattle.utf8.specs.Decoding.{decode_all}
+use Rattle.utf8.specs.Places.{boundary_at}
 use Rattle.meaning.specs.Checks.{check_utf8}
 use Rattle.meaning.specs.Table.{entry_numbers, entry_in, entries_in}
 use Rattle.meaning.specs.WellFormed.{text_length}

@@ -5,8 +5,8 @@ use mathlib.Core.Path.{◌≡◌, sym, ap, ◌∙◌}
 use mathlib.Core.Bool.{true, false}
 use mathlib.Core.List.{List}
 use lib.Dec.{leb}
-use Rattle.characters.specs.Decoding.{decode_all}
-use Rattle.characters.specs.Places.{boundary, boundary_at}
+use Rattle.utf8.specs.Decoding.{decode_all}
+use Rattle.utf8.specs.Places.{boundary, boundary_at}
 use Rattle.meaning.specs.Checks.{check_utf8}
 use Rattle.meaning.specs.WellFormed.{no_rest}
 use Rattle.meaning.specs.Edit.{chars_in, rest_fits}

@@ -5,8 +5,8 @@ use Rattle.std.proofs.Common.{arith, ap, ◌∙◌, lt-ltb, length-append}
 use Rattle.std.proofs.Math.Path.{sym}
 use Rattle.std.proofs.Math.Bool.{and_assoc}
 use Rattle.basis.specs.Choice.{pick, pick_under, by_test}
-use Rattle.characters.specs.Decoding.{decode_all}
-use Rattle.characters.specs.Places.{boundary}
+use Rattle.utf8.specs.Decoding.{decode_all}
+use Rattle.utf8.specs.Places.{boundary}
 use Rattle.meaning.specs.Checks.{text_limit, refuse_if, first_of, check_settings, check_length, check_utf8, check_text}
 use Rattle.meaning.specs.Table.{entry_numbers, entry_in, entries_in}
 use Rattle.meaning.specs.WellFormed.{text_length, check_table}

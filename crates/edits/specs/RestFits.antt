@@ -2,7 +2,7 @@
 -- Assumes nothing.
 use Rattle.std.specs.Prelude.{ℕ, ◌-◌, ◌≡◌, true, false, List, leb}
 use Rattle.basis.specs.Choice.{and_true}
-use Rattle.characters.specs.Places.{boundary}
+use Rattle.utf8.specs.Places.{boundary}
 use Rattle.meaning.specs.WellFormed.{no_rest}
 use Rattle.meaning.specs.Edit.{chars_in, rest_fits}
 use Rattle.meaning.specs.declared.line.Entry.{Entry}

@@ -1,7 +1,7 @@
 // What laying again tests before anything is laid: refusals 1 to 6, in this order.
 // Refusal 1, refusal 2, refusal 3, refusal 4, refusal 5, refusal 6.
 ghost use Rattle.std.specs.Prelude.{◌≡◌, length};
-ghost use Rattle.characters.specs.Decoding.{decode_all};
+ghost use Rattle.utf8.specs.Decoding.{decode_all};
 ghost use Rattle.meaning.specs.Checks.{check_utf8};
 ghost use Rattle.meaning.specs.Table.{entries_in};
 ghost use Rattle.meaning.specs.WellFormed.{check_table};
@@ -24,7 +24,7 @@ use meaning::settings::Settings;
 use meaning::sizes::TEXT_LIMIT;
 use table::edited::{Whole, edited_whole};
 use table::entries::read_entry;
-use characters::text::is_boundary;
+use utf8::text::is_boundary;
 
 // Refusal 3 of the edited whole, where the old text has so many bytes.
 fn whole_of(bytes: Offset, edit: Edit) -> Checked

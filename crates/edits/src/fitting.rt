@@ -1,7 +1,7 @@
 // The rest that the first affected line resumes: refusal 5 of it.
 ghost use Rattle.std.specs.Prelude.{◌≡◌, true};
-ghost use Rattle.characters.specs.Decoding.{decode_all};
-ghost use Rattle.characters.specs.Places.{boundary};
+ghost use Rattle.utf8.specs.Decoding.{decode_all};
+ghost use Rattle.utf8.specs.Places.{boundary};
 ghost use Rattle.meaning.specs.Checks.{check_utf8};
 ghost use Rattle.meaning.specs.Edit.{chars_in, rest_fits};
 ghost use Rattle.meaning.specs.declared.refusals.Checked.TheVariants.{Good};
@@ -10,7 +10,7 @@ ghost use Rattle.edits.specs.RestFits.{rest_end};
 use basis::numbers::less_wide;
 use look::one_line::has_no_rest;
 use meaning::line::Entry;
-use characters::text::{count_chars, is_boundary};
+use utf8::text::{count_chars, is_boundary};
 
 // Where an entry's rest ends in a part that stands from the entry's start on.
 pub fn rest_end(e: Entry) -> usize

@@ -9,7 +9,7 @@ use Rattle.std.proofs.Math.Bool.{not}
 use Rattle.std.proofs.lemmas.Bool.{false≢true, eqb-false}
 use Rattle.std.proofs.Math.ListN.{drop}
 use Rattle.basis.specs.Choice.{pick_cases}
-use Rattle.characters.specs.Encoding.{size}
+use Rattle.utf8.specs.Encoding.{size}
 use Rattle.meaning.specs.Tokens.{Tok, newLine, carriageReturn, tab, softHyphen, space, word}
 use Rattle.meaning.specs.SpaceConfig.{spaces_width}
 use Rattle.meaning.specs.Alignment.{spaces_of, plain_spaces, ends_paragraph, place}

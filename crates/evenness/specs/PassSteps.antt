@@ -4,7 +4,7 @@ use Rattle.std.specs.Prelude.{ℕ, ◌+◌, ◌*◌, ◌/◌, ◌≡◌, Bool, t
 use Rattle.std.proofs.Math.Path.{refl}
 use mathlib.Core.List.{List, [], ◌∷◌, ◌++◌}
 use Rattle.basis.specs.Choice.{pick_cases, pick_true, pick-false}
-use Rattle.characters.specs.Encoding.{size}
+use Rattle.utf8.specs.Encoding.{size}
 use Rattle.meaning.specs.Tokens.{Tok, space, word, chars_of, size_of, need_of}
 use Rattle.meaning.specs.Cursor.{room_of, fits_in, has_moved}
 use Rattle.meaning.specs.SpaceConfig.{spaces_width}

@@ -2,7 +2,7 @@
 -- Assumes nothing.
 use Rattle.std.specs.Prelude.{ℕ, ◌+◌, ◌-◌, ◌*◌, ◌≡◌, refl, List, [], ◌∷◌, ◌++◌, length}
 use Rattle.std.proofs.Common.{sym, ap, subst, ◌∙◌, inl, append-nil, arith}
-use Rattle.characters.specs.Encoding.{bytes, size}
+use Rattle.utf8.specs.Encoding.{bytes, size}
 use Rattle.meaning.specs.SpaceConfig.{spaces_after}
 use Rattle.meaning.specs.Words.{Drawn, drawn, Stretches, last, glued, stretches, printed_first, drawn_stretches, drawn_word}
 use Rattle.meaning.specs.declared.cursor.Spaces.{Spaces}

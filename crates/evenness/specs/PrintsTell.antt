@@ -12,8 +12,8 @@ use native.Mathlib.Omega.{arith}
 use borrow.Author.Tests.{eqb-false}
 use Rattle.std.proofs.Math.Seq.{take-length}
 use Rattle.basis.specs.Choice.{pick_cases}
-use Rattle.characters.specs.Encoding.{size}
-use Rattle.characters.specs.Sizes.{bytes_range, size_append}
+use Rattle.utf8.specs.Encoding.{size}
+use Rattle.utf8.specs.Sizes.{bytes_range, size_append}
 use Rattle.meaning.specs.Tokens.{Tok, newLine, carriageReturn, tab, softHyphen, space, word, tokens, chars_of, size_of, need_of}
 use Rattle.meaning.specs.Cursor.{room_of, fits_in, has_moved, tab_width}
 use Rattle.meaning.specs.SpaceConfig.{spaces_width}

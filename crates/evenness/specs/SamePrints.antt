@@ -11,7 +11,7 @@ use native.Mathlib.Omega.{arith}
 use borrow.Author.Tests.{leb-false, eqb-true, eq-eqb}
 use Rattle.std.proofs.Math.ListN.{length, length-take}
 use Rattle.basis.specs.Choice.{by_test}
-use Rattle.characters.specs.Encoding.{size}
+use Rattle.utf8.specs.Encoding.{size}
 use Rattle.meaning.specs.Tokens.{Tok, newLine, carriageReturn, tab, softHyphen, space, word, size_of}
 use Rattle.meaning.specs.Cursor.{room_of, fits_in, advance}
 use Rattle.meaning.specs.SpaceConfig.{spaces_width}

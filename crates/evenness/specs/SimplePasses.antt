@@ -6,7 +6,7 @@ use Rattle.std.proofs.Math.Path.{refl}
 use Rattle.std.proofs.Common.{sym, ap, subst, ◌∙◌, mul-le-mul_right, arith}
 use Rattle.std.proofs.lemmas.Bool.{false≢true}
 use Rattle.basis.specs.Choice.{pick_cases, pick_true, by_test}
-use Rattle.characters.specs.Encoding.{bytes, size}
+use Rattle.utf8.specs.Encoding.{bytes, size}
 use Rattle.meaning.specs.Tokens.{Tok, newLine, carriageReturn, tab, softHyphen, space, word, size_of}
 use Rattle.meaning.specs.Cursor.{room_of, fits_in}
 use Rattle.meaning.specs.SpaceConfig.{spaces_width, spaces_after}

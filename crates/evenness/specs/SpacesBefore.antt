@@ -3,8 +3,8 @@
 use Rattle.std.specs.Prelude.{ℕ, ◌+◌, ◌-◌, ◌≤◌, ◌<◌, ◌≡◌, refl, List, [], ◌∷◌, ◌++◌, eqb, ltb}
 use Rattle.std.proofs.Common.{sym, ap, ◌∙◌, arith, lt-ltb, le-ltb, ne_eqb}
 use Rattle.basis.specs.Choice.{pick, pick_true, pick-false}
-use Rattle.characters.specs.Encoding.{bytes, size}
-use Rattle.characters.specs.Sizes.{bytes_range}
+use Rattle.utf8.specs.Encoding.{bytes, size}
+use Rattle.utf8.specs.Sizes.{bytes_range}
 use Rattle.meaning.specs.Tokens.{Tok, newLine, carriageReturn, tab, softHyphen, space, word, size_of}
 use Rattle.meaning.specs.Words.{glues}
 use Rattle.laws.specs.Measuring.{glues_append}

@@ -6,10 +6,10 @@ use Rattle.std.proofs.Math.Path.{sym, ap}
 use Rattle.std.proofs.Common.{◌∙◌}
 use Rattle.std.proofs.Math.ListN.{length}
 use Rattle.basis.specs.Choice.{pick, pick_cases, pick_under, by_test}
-use Rattle.characters.specs.Encoding.{size}
-use Rattle.characters.specs.Decoding.{decode_all}
-use Rattle.characters.specs.Places.{boundary}
-use Rattle.characters.specs.Boundaries.{boundary-is}
+use Rattle.utf8.specs.Encoding.{size}
+use Rattle.utf8.specs.Decoding.{decode_all}
+use Rattle.utf8.specs.Places.{boundary}
+use Rattle.utf8.specs.Boundaries.{boundary-is}
 use Rattle.meaning.specs.Checks.{check_settings, check_utf8, check_text, text_limit}
 use Rattle.meaning.specs.LineIter.{Held, nothing_held}
 use Rattle.meaning.specs.Table.{of_entry, written}

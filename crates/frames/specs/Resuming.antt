@@ -4,8 +4,8 @@ use Rattle.std.specs.Prelude.{ℕ, ◌+◌, ◌-◌, ◌≤◌, ◌<◌, ◌≡�
 use Rattle.std.proofs.Common.{arith, ◌∙◌, lt-ltb, le-ltb, ltb-true, leb-true, length-drop}
 use Rattle.std.proofs.Math.Dec.{ltb}
 use Rattle.basis.specs.Choice.{pick, and_true}
-use Rattle.characters.specs.Decoding.{decode_all}
-use Rattle.characters.specs.Places.{boundary}
+use Rattle.utf8.specs.Decoding.{decode_all}
+use Rattle.utf8.specs.Places.{boundary}
 use Rattle.meaning.specs.Checks.{check_utf8}
 use Rattle.meaning.specs.Edit.{chars_in}
 use Rattle.meaning.specs.Frames.{is_none, onward, rest_lies, stand_good}

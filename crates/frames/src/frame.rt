@@ -1,6 +1,6 @@
 // One line of a text from any start: a public call (rule 10, refusal 1, refusal 2, refusal 3, refusal 4, refusal 5, refusal 8).
 ghost use Rattle.std.specs.Prelude.{◌≤◌, ◌≡◌, length};
-ghost use Rattle.characters.specs.Decoding.{decode_all};
+ghost use Rattle.utf8.specs.Decoding.{decode_all};
 ghost use Rattle.meaning.specs.Table.{entry_numbers, of_entry, written};
 ghost use Rattle.meaning.specs.Frames.{one_line_lem};
 ghost use Rattle.meaning.specs.Calls.{frame_answer, frame_entry};

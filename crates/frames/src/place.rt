@@ -1,7 +1,7 @@
 // Where a line may be laid, and what it resumes there (refusal 5).
 ghost use Rattle.std.specs.Prelude.{◌+◌, ◌-◌, ◌≤◌, ◌≡◌, true, length};
-ghost use Rattle.characters.specs.Decoding.{decode_all};
-ghost use Rattle.characters.specs.Places.{boundary};
+ghost use Rattle.utf8.specs.Decoding.{decode_all};
+ghost use Rattle.utf8.specs.Places.{boundary};
 ghost use Rattle.meaning.specs.Checks.{text_limit, check_utf8};
 ghost use Rattle.meaning.specs.Edit.{chars_in};
 ghost use Rattle.meaning.specs.Frames.{is_none, onward, rest_lies, stand_good};
@@ -12,7 +12,7 @@ use meaning::counts::Chars;
 use meaning::line::Rest;
 use steps::ending::nothing_left;
 use steps::step::Resumed;
-use characters::text::{count_chars, count_long, is_boundary};
+use utf8::text::{count_chars, count_long, is_boundary};
 
 // Nothing is resumed.
 fn is_none(rest: Rest) -> bool

@@ -9,7 +9,7 @@ use borrow.Author.Tests.{eq-eqb, ne_eqb}
 use lib.Dec.{eqb}
 use lib.ListN.{length}
 use Rattle.basis.specs.Choice.{pick, by_test}
-use Rattle.characters.specs.Encoding.{bytes}
+use Rattle.utf8.specs.Encoding.{bytes}
 use Rattle.meaning.specs.Characters.{glue}
 use Rattle.meaning.specs.SpaceConfig.{spaces_width, spaces_after}
 use Rattle.meaning.specs.Words.{drawn}

@@ -6,10 +6,10 @@ use mathlib.Core.Bool.{false}
 use mathlib.Core.List.{List, [], ◌∷◌}
 use native.Mathlib.Omega.{arith}
 use lib.ListN.{length, take}
-use Rattle.characters.specs.Encoding.{bytes}
-use Rattle.characters.specs.Decoding.{decode_at}
-use Rattle.characters.specs.Walk.{is_char, decode_at-bytes}
-use Rattle.characters.specs.declared.sequence.Decoded.TheVariants.{Char}
+use Rattle.utf8.specs.Encoding.{bytes}
+use Rattle.utf8.specs.Decoding.{decode_at}
+use Rattle.utf8.specs.Walk.{is_char, decode_at-bytes}
+use Rattle.utf8.specs.declared.sequence.Decoded.TheVariants.{Char}
 use Rattle.meaning.specs.Words.{drawn, drawn_word}
 use Rattle.meaning.specs.declared.cursor.Spaces.{Spaces}
 use Rattle.meaning.specs.declared.line.EventKind.TheVariants.{Printed}

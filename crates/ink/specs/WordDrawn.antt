@@ -3,8 +3,8 @@
 use Rattle.std.specs.Prelude.{ℕ, ◌+◌, ◌*◌, ◌≤◌, ◌≡◌, refl, true, false, List, [], ◌∷◌, ◌++◌, eqb, length}
 use Rattle.std.proofs.Common.{ap, ◌∙◌, append-nil, append_assoc, add-zero, arith, eq-eqb, ne_eqb, length-append}
 use Rattle.basis.specs.Choice.{pick, by_test}
-use Rattle.characters.specs.Encoding.{bytes, size}
-use Rattle.characters.specs.Sizes.{bytes_range, size_append}
+use Rattle.utf8.specs.Encoding.{bytes, size}
+use Rattle.utf8.specs.Sizes.{bytes_range, size_append}
 use Rattle.meaning.specs.Characters.{glue}
 use Rattle.meaning.specs.SpaceConfig.{spaces_width, spaces_after}
 use Rattle.meaning.specs.Words.{Drawn, drawn, Stretches, last, glued, grow, stretches, printed_first, drawn_stretches, drawn_word}

@@ -8,7 +8,7 @@ use meaning::line::{Event, EventKind};
 use table::events::put_event;
 
 // How many events there are so far, and where the pen stands.
-#[derive(Drop)]
+#[derive(Clone, Copy)]
 pub struct Pen {
     pub next: usize,
     pub x: Pixels,

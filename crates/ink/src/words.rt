@@ -2,7 +2,7 @@
 ghost use Rattle.std.specs.Prelude.{◌+◌, ◌≤◌, ◌≡◌, [], ◌∷◌, take};
 ghost use Rattle.meaning.specs.Words.{drawn, drawn_word};
 ghost use Rattle.meaning.specs.declared.line.EventKind.TheVariants.{Printed};
-ghost use Rattle.characters.specs.Encoding.{bytes};
+ghost use Rattle.utf8.specs.Encoding.{bytes};
 ghost use Rattle.parser.specs.Lexing.{chars_from};
 ghost use Rattle.moves.specs.Fine.{FineSpaces};
 ghost use Rattle.ink.specs.Sheet.{sheet, drawn_on};
@@ -14,7 +14,7 @@ use meaning::cursor::Spaces;
 use meaning::line::EventKind;
 use moves::space_config::{spaces_after, spaces_width};
 use parser::glue::is_glue;
-use characters::sequence::{Decoded, decode};
+use utf8::sequence::{Decoded, decode};
 
 // A stretch of a width, and the gluing character after it. An empty stretch is not printed.
 fn close_stretch(
@@ -38,7 +38,7 @@ fn close_stretch(
 }
 
 // A word between two of its characters: the pen before the open stretch, the spaces left, where the stretch began, and its width.
-#[derive(Drop)]
+#[derive(Clone, Copy)]
 struct Stretch {
     pen: Pen,
     spaces: Spaces,

@@ -10,8 +10,8 @@ use Rattle.std.proofs.lemmas.List.{take-append-le}
 use Rattle.std.proofs.lemmas.Bool.{lt-leb}
 use Rattle.basis.specs.Choice.{pick, by_test}
 use Rattle.basis.specs.Order.{by_le}
-use Rattle.characters.specs.Encoding.{size}
-use Rattle.characters.specs.Sizes.{size_append}
+use Rattle.utf8.specs.Encoding.{size}
+use Rattle.utf8.specs.Sizes.{size_append}
 use Rattle.meaning.specs.LineIter.{Held, nothing_held}
 use Rattle.meaning.specs.Line.{lay_line, entry_at}
 use Rattle.meaning.specs.Layout.{Row, row_at, unless_ended, rows_by, rows, layout, entry_of_row}

@@ -7,13 +7,13 @@ use mathlib.Core.List.{List, [], ◌∷◌, ◌++◌}
 use Rattle.std.proofs.Math.ListN.{take, drop}
 use Rattle.std.proofs.Math.Seq.{length-take-le}
 use Rattle.basis.specs.Choice.{pick}
-use Rattle.characters.specs.Scalar.{Scalars}
-use Rattle.characters.specs.Encoding.{bytes, size, encode_all}
-use Rattle.characters.specs.Decoding.{decode_all}
-use Rattle.characters.specs.Places.{boundary, count_chars}
-use Rattle.characters.specs.Sizes.{bytes_range, take-encoded, drop-encoded}
-use Rattle.characters.specs.Walk.{decode_all-encode, decode_all-scalars}
-use Rattle.characters.specs.Boundaries.{boundary-is, count-text}
+use Rattle.utf8.specs.Scalar.{Scalars}
+use Rattle.utf8.specs.Encoding.{bytes, size, encode_all}
+use Rattle.utf8.specs.Decoding.{decode_all}
+use Rattle.utf8.specs.Places.{boundary, count_chars}
+use Rattle.utf8.specs.Sizes.{bytes_range, take-encoded, drop-encoded}
+use Rattle.utf8.specs.Walk.{decode_all-encode, decode_all-scalars}
+use Rattle.utf8.specs.Boundaries.{boundary-is, count-text}
 use Rattle.meaning.specs.Checks.{check_utf8}
 use Rattle.meaning.specs.Edit.{chars_in}
 use Rattle.meaning.specs.Frames.{onward}

@@ -8,10 +8,10 @@ use Rattle.std.proofs.Common.{◌∙◌, length-append, length-take, take-append
 use mathlib.Core.List.{List, [], ◌++◌, map, append_assoc}
 use Rattle.std.proofs.Math.ListN.{drop}
 use Rattle.std.proofs.Math.Seq.{take-append_seam}
-use Rattle.characters.specs.Encoding.{size}
-use Rattle.characters.specs.Places.{boundary}
-use Rattle.characters.specs.Sizes.{size_append}
-use Rattle.characters.specs.Boundaries.{boundary-is}
+use Rattle.utf8.specs.Encoding.{size}
+use Rattle.utf8.specs.Places.{boundary}
+use Rattle.utf8.specs.Sizes.{size_append}
+use Rattle.utf8.specs.Boundaries.{boundary-is}
 use Rattle.meaning.specs.LineIter.{Held, nothing_held}
 use Rattle.meaning.specs.Line.{lay_line, entry_at}
 use Rattle.meaning.specs.Layout.{Row, row_at, rows_by, most_lines, rows, entry_of_row, layout}

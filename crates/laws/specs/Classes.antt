@@ -3,7 +3,7 @@
 use Rattle.std.specs.Prelude.{ℕ, ◌≡◌, true, false, ◌&&◌, not, eqb}
 use Rattle.std.proofs.Common.{eqb-true}
 use Rattle.basis.specs.Choice.{pick_cases}
-use Rattle.characters.specs.WhiteSpace.{is_white}
+use Rattle.utf8.specs.WhiteSpace.{is_white}
 use Rattle.meaning.specs.Characters.{glue, Class, lf, cr, ht, shy, zwsp, blank, letter, class_of, in_word, in_run}
 
 -- The character of a class that has one, and whether the others are white space that does not glue.

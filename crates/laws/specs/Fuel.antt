@@ -2,7 +2,7 @@
 -- Assumes nothing.
 use Rattle.std.specs.Prelude.{ℕ, zero, suc, ◌+◌, ◌≤◌, ◌<◌, ◌≡◌, refl, List, ◌∷◌, length, take, drop}
 use Rattle.std.proofs.Common.{not-suc-le-zero, ap}
-use Rattle.characters.specs.Encoding.{size}
+use Rattle.utf8.specs.Encoding.{size}
 use Rattle.meaning.specs.LineIter.{Held}
 use Rattle.meaning.specs.Line.{lay_line}
 use Rattle.meaning.specs.Layout.{Row, row_at, rows_by}

@@ -6,9 +6,9 @@ use Rattle.std.specs.Prelude.{ℕ, ◌*◌, ◌≤◌, ◌<◌, ◌≡◌, refl,
 use Rattle.std.proofs.Common.{arith, ◌∙◌}
 use borrow.Author.Tests.{lt-ltb, le-ltb, le-leb, eq-eqb, ne_eqb, ltb-false}
 use Rattle.basis.specs.Choice.{pick, pick_true, pick-false}
-use Rattle.characters.specs.Scalar.{Scalars}
-use Rattle.characters.specs.Encoding.{size, encode_all}
-use Rattle.characters.specs.Prefix.{prefix-whole}
+use Rattle.utf8.specs.Scalar.{Scalars}
+use Rattle.utf8.specs.Encoding.{size, encode_all}
+use Rattle.utf8.specs.Prefix.{prefix-whole}
 use Rattle.meaning.specs.Checks.{refuse_if, check_limit, check_length, check_utf8, check_room}
 use Rattle.meaning.specs.Layout.{layout}
 use Rattle.meaning.specs.Table.{entry_numbers, capacity_of, entries_in}

@@ -8,7 +8,7 @@ use mathlib.Core.List.{List, [], ◌∷◌, ◌++◌}
 use borrow.Author.Tests.{eqb-false}
 use Rattle.std.proofs.Math.Dec.{eqb}
 use Rattle.basis.specs.Choice.{pick_cases}
-use Rattle.characters.specs.Encoding.{size}
+use Rattle.utf8.specs.Encoding.{size}
 use Rattle.meaning.specs.Alignment.{plain_spaces, ends_paragraph, place}
 use Rattle.meaning.specs.Words.{Drawn, glues}
 use Rattle.meaning.specs.LineIter.{Held, nothing_held}

@@ -3,7 +3,7 @@
 use Rattle.std.specs.Prelude.{ℕ, zero, suc, ◌+◌, ◌≤◌, ◌<◌, ◌≡◌, refl, List, [], ◌∷◌, length, take, drop}
 use Rattle.std.proofs.Common.{arith, length-drop}
 use Rattle.std.proofs.lemmas.List.{length-map}
-use Rattle.characters.specs.Encoding.{size}
+use Rattle.utf8.specs.Encoding.{size}
 use Rattle.meaning.specs.LineIter.{Held, nothing_held}
 use Rattle.meaning.specs.Line.{lay_line, end_number, entry_at}
 use Rattle.meaning.specs.Layout.{Row, row_at, unless_ended, rows_by, most_lines, rows, entry_of_row, layout}

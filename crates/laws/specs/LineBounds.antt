@@ -4,7 +4,7 @@ use Rattle.std.specs.Prelude.{ℕ, ◌+◌, ◌≤◌, ◌≡◌, refl, length, 
 use Rattle.std.proofs.Math.Path.{subst}
 use mathlib.Core.List.{List}
 use Rattle.std.proofs.Common.{arith, length-drop}
-use Rattle.characters.specs.Encoding.{size}
+use Rattle.utf8.specs.Encoding.{size}
 use Rattle.meaning.specs.Tokens.{Tok}
 use Rattle.meaning.specs.Alignment.{plain_spaces}
 use Rattle.meaning.specs.LineIter.{Held}

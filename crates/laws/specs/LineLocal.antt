@@ -3,8 +3,8 @@
 use Rattle.std.specs.Prelude.{ℕ, zero, suc, ◌≤◌, ◌≡◌, List, [], ◌∷◌, ◌++◌, length, take}
 use Rattle.std.proofs.Common.{arith, sym, ◌∙◌}
 use Rattle.std.proofs.lemmas.List.{take-append-le}
-use Rattle.characters.specs.Encoding.{size}
-use Rattle.characters.specs.Sizes.{bytes_range}
+use Rattle.utf8.specs.Encoding.{size}
+use Rattle.utf8.specs.Sizes.{bytes_range}
 use Rattle.meaning.specs.LineIter.{Held}
 use Rattle.meaning.specs.Line.{line_tokens, lay_line, rest_of, entry_at}
 use Rattle.meaning.specs.Layout.{row_at}

@@ -7,8 +7,8 @@ use Rattle.std.proofs.Common.{arith, leb-true}
 use Rattle.std.proofs.lemmas.Bool.{not-false}
 use Rattle.std.proofs.Math.ListN.{drop}
 use Rattle.basis.specs.Choice.{pick_cases, and_true}
-use Rattle.characters.specs.Encoding.{bytes, size}
-use Rattle.characters.specs.Places.{boundary}
+use Rattle.utf8.specs.Encoding.{bytes, size}
+use Rattle.utf8.specs.Places.{boundary}
 use Rattle.meaning.specs.LineIter.{Held}
 use Rattle.meaning.specs.Line.{lay_line, end_number, rest_of, entry_at}
 use Rattle.meaning.specs.Layout.{Row, row_at, rows}

@@ -3,7 +3,7 @@
 use Rattle.std.specs.Prelude.{ℕ, ◌+◌, ◌-◌, ◌≤◌, ◌≡◌, refl, Bool, true, false, List, [], ◌∷◌}
 use Rattle.std.proofs.Common.{arith, ap, subst, inl, inr}
 use Rattle.basis.specs.Choice.{pick, pick_cases}
-use Rattle.characters.specs.Encoding.{size}
+use Rattle.utf8.specs.Encoding.{size}
 use Rattle.meaning.specs.Tokens.{Tok, newLine, carriageReturn, tab, softHyphen, space, word, chars_of, size_of, need_of}
 use Rattle.meaning.specs.Cursor.{tab_width}
 use Rattle.meaning.specs.SpaceConfig.{spaces_width}

@@ -3,7 +3,7 @@
 use Rattle.std.specs.Prelude.{ℕ, suc, ◌+◌, ◌-◌, ◌*◌, ◌≤◌, ◌≡◌, refl, List, [], ◌∷◌, ◌++◌, length}
 use Rattle.std.proofs.Common.{ap, ◌∙◌, arith}
 use Rattle.basis.specs.Choice.{pick, pick_cases, by_test}
-use Rattle.characters.specs.Encoding.{bytes, size}
+use Rattle.utf8.specs.Encoding.{bytes, size}
 use Rattle.meaning.specs.Characters.{glue}
 use Rattle.meaning.specs.SpaceConfig.{spaces_width, spaces_after}
 use Rattle.meaning.specs.Words.{Drawn, Stretches, last, glued, grow, stretches, glues, printed_first, drawn_stretches, drawn_word}

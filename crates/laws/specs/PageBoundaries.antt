@@ -3,9 +3,9 @@
 use Rattle.std.specs.Prelude.{ℕ, zero, suc, ◌+◌, ◌*◌, ◌≡◌, true, List, [], ◌∷◌, length, drop}
 use Rattle.std.proofs.Common.{sym, ap, arith}
 use Rattle.std.proofs.Math.Seq.{take-length}
-use Rattle.characters.specs.Encoding.{size}
-use Rattle.characters.specs.Places.{boundary}
-use Rattle.characters.specs.Boundaries.{boundary-is}
+use Rattle.utf8.specs.Encoding.{size}
+use Rattle.utf8.specs.Places.{boundary}
+use Rattle.utf8.specs.Boundaries.{boundary-is}
 use Rattle.meaning.specs.Layout.{layout}
 use Rattle.meaning.specs.Pages.{end_before, taken_bytes}
 use Rattle.meaning.specs.declared.settings.Settings.{Settings}

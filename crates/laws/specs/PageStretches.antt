@@ -7,9 +7,9 @@ use Rattle.std.proofs.Math.Nat.{sub_self, sub-zero}
 use Rattle.std.proofs.Math.ListN.{length}
 use Rattle.std.proofs.Math.Seq.{drop-nil}
 use Rattle.basis.specs.Order.{within, within-true}
-use Rattle.characters.specs.Encoding.{size, encode_all}
-use Rattle.characters.specs.Sizes.{size_is}
-use Rattle.characters.specs.Decoding.{decode_all}
+use Rattle.utf8.specs.Encoding.{size, encode_all}
+use Rattle.utf8.specs.Sizes.{size_is}
+use Rattle.utf8.specs.Decoding.{decode_all}
 use Rattle.meaning.specs.Checks.{check_utf8}
 use Rattle.meaning.specs.Layout.{layout}
 use Rattle.meaning.specs.Table.{entry_numbers, capacity_of, entries_in}

@@ -4,14 +4,14 @@ use Rattle.std.specs.Prelude.{ℕ, zero, suc, ◌≤◌, ◌≡◌, true, not, L
 use Rattle.std.proofs.Common.{arith, sym, ap, ◌∙◌, take-append-drop, length-take-le}
 use borrow.Author.Tests.{eqb-true, not-false}
 use Rattle.std.proofs.Math.Dec.{eqb}
-use Rattle.characters.specs.Scalar.{Scalars}
-use Rattle.characters.specs.Encoding.{size, encode_all}
-use Rattle.characters.specs.Decoding.{valid_prefix, decode_all}
-use Rattle.characters.specs.Places.{boundary, boundary_at, count_chars}
-use Rattle.characters.specs.Sizes.{size_is, take-encoded}
-use Rattle.characters.specs.Prefix.{prefix-whole, text_decode}
-use Rattle.characters.specs.Walk.{decode_all-encode, decode_all-scalars}
-use Rattle.characters.specs.Boundaries.{boundary-is, boundary-bytes, count-text}
+use Rattle.utf8.specs.Scalar.{Scalars}
+use Rattle.utf8.specs.Encoding.{size, encode_all}
+use Rattle.utf8.specs.Decoding.{valid_prefix, decode_all}
+use Rattle.utf8.specs.Places.{boundary, boundary_at, count_chars}
+use Rattle.utf8.specs.Sizes.{size_is, take-encoded}
+use Rattle.utf8.specs.Prefix.{prefix-whole, text_decode}
+use Rattle.utf8.specs.Walk.{decode_all-encode, decode_all-scalars}
+use Rattle.utf8.specs.Boundaries.{boundary-is, boundary-bytes, count-text}
 use Rattle.meaning.specs.Checks.{check_utf8}
 use Rattle.meaning.specs.Edit.{chars_in}
 use Rattle.meaning.specs.declared.refusals.Refusal.TheVariants.{NotUtf8}

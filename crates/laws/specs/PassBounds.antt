@@ -4,8 +4,8 @@ use Rattle.std.specs.Prelude.{ℕ, ◌+◌, ◌≤◌, ◌≡◌, refl, List, []
 use Rattle.std.proofs.Common.{add_assoc, arith, length-append, take-append-drop}
 use Rattle.std.proofs.lemmas.List.{take-append-le}
 use Rattle.std.proofs.Math.Seq.{take-append-add}
-use Rattle.characters.specs.Encoding.{size}
-use Rattle.characters.specs.Sizes.{size_append}
+use Rattle.utf8.specs.Encoding.{size}
+use Rattle.utf8.specs.Sizes.{size_append}
 use Rattle.meaning.specs.Tokens.{Tok, chars_of, size_of, need_of}
 use Rattle.meaning.specs.LineIter.{Step, go, stop, Ran, step, pass_on, process}
 use Rattle.meaning.specs.declared.settings.Settings.{Settings}

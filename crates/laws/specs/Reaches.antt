@@ -3,7 +3,7 @@
 use Rattle.std.specs.Prelude.{ℕ, ◌+◌, ◌*◌, ◌≤◌, Bool, true, false, ◌||◌, List, [], ◌∷◌, length}
 use Rattle.std.proofs.Common.{arith}
 use Rattle.basis.specs.Choice.{pick_cases}
-use Rattle.characters.specs.Encoding.{size}
+use Rattle.utf8.specs.Encoding.{size}
 use Rattle.meaning.specs.Tokens.{Tok, newLine, carriageReturn, tab, softHyphen, space, word, ender, size_of, ender_of, need_of}
 use Rattle.meaning.specs.Cursor.{fits_in, advance, tab_width}
 use Rattle.meaning.specs.SpaceConfig.{spaces_width, spaces_after}

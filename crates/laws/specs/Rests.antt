@@ -4,8 +4,8 @@ use Rattle.std.specs.Prelude.{ℕ, ◌+◌, ◌-◌, ◌≤◌, ◌≡◌, refl,
 use Rattle.std.proofs.Common.{arith, length-append, le-leb, eq-eqb, ne_eqb}
 use Rattle.basis.specs.Choice.{pick}
 use Rattle.basis.specs.Order.{by_eq}
-use Rattle.characters.specs.Encoding.{size}
-use Rattle.characters.specs.Boundaries.{boundary-is}
+use Rattle.utf8.specs.Encoding.{size}
+use Rattle.utf8.specs.Boundaries.{boundary-is}
 use Rattle.meaning.specs.LineIter.{Held}
 use Rattle.meaning.specs.Line.{Line, rest_of, entry_at}
 use Rattle.meaning.specs.WellFormed.{no_rest}

@@ -6,8 +6,8 @@ use Rattle.std.proofs.Common.{◌∙◌, inl, inr, ⊎_elim}
 use mathlib.Core.List.{List, [], ◌∷◌, ◌++◌}
 use native.Mathlib.Omega.{arith}
 use Rattle.basis.specs.Choice.{pick, pick_true, pick-false, by_test}
-use Rattle.characters.specs.Encoding.{size}
-use Rattle.characters.specs.Sizes.{bytes_range}
+use Rattle.utf8.specs.Encoding.{size}
+use Rattle.utf8.specs.Sizes.{bytes_range}
 use Rattle.meaning.specs.Tokens.{run, after, ender}
 
 -- Each character passes the test.

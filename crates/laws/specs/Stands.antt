@@ -2,8 +2,8 @@
 -- Assumes nothing.
 use Rattle.std.specs.Prelude.{ℕ, suc, ◌+◌, ◌≤◌, ◌<◌, ◌≡◌, refl, List, [], ◌++◌, length, take, drop}
 use Rattle.std.proofs.Common.{arith, ap, ◌∙◌, append_assoc, length-append, length-drop, take-append-drop}
-use Rattle.characters.specs.Encoding.{size}
-use Rattle.characters.specs.Sizes.{size_append}
+use Rattle.utf8.specs.Encoding.{size}
+use Rattle.utf8.specs.Sizes.{size_append}
 use Rattle.meaning.specs.LineIter.{Held, nothing_held}
 use Rattle.meaning.specs.Line.{lay_line}
 use Rattle.meaning.specs.Layout.{Row, unless_ended}

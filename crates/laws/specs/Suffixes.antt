@@ -5,8 +5,8 @@ use Rattle.std.proofs.Common.{arith, sym, ap, ◌∙◌, length-append, length-t
 use Rattle.std.proofs.Math.Seq.{take-append_seam}
 use Rattle.std.proofs.lemmas.Bool.{lt-leb}
 use Rattle.basis.specs.Choice.{pick}
-use Rattle.characters.specs.Encoding.{bytes, size}
-use Rattle.characters.specs.Sizes.{bytes_range, size_append}
+use Rattle.utf8.specs.Encoding.{bytes, size}
+use Rattle.utf8.specs.Sizes.{bytes_range, size_append}
 use Rattle.meaning.specs.Edit.{chars_in}
 use Rattle.laws.specs.TokenLaws.{length-size}
 

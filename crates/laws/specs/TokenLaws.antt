@@ -3,8 +3,8 @@
 use Rattle.std.specs.Prelude.{ℕ, zero, suc, ◌+◌, ◌≤◌, ◌≡◌, refl, List, [], ◌∷◌, ◌++◌, eqb, length}
 use Rattle.std.proofs.Common.{sym, ap, ◌∙◌, arith}
 use Rattle.basis.specs.Choice.{pick, pick_cases}
-use Rattle.characters.specs.Encoding.{bytes, size}
-use Rattle.characters.specs.Sizes.{bytes_range, size_append}
+use Rattle.utf8.specs.Encoding.{bytes, size}
+use Rattle.utf8.specs.Sizes.{bytes_range, size_append}
 use Rattle.meaning.specs.Characters.{Class, lf, cr, ht, shy, zwsp, blank, letter, class_of, in_word, in_run}
 use Rattle.meaning.specs.Tokens.{Tok, newLine, carriageReturn, tab, softHyphen, space, word, run, first, others, counted, tokens_by, tokens, chars_of, size_of}
 use Rattle.laws.specs.Spell.{text_of, spell, SoundTok, Sound}

@@ -9,8 +9,8 @@ use native.Mathlib.Omega.{arith}
 use borrow.Author.Tests.{lt-ltb, le-leb, eq-eqb, ne_eqb}
 use Rattle.basis.specs.Choice.{pick, pick_true}
 use Rattle.basis.specs.Order.{by_eq, within-is}
-use Rattle.characters.specs.Encoding.{size}
-use Rattle.characters.specs.Sizes.{size_append}
+use Rattle.utf8.specs.Encoding.{size}
+use Rattle.utf8.specs.Sizes.{size_append}
 use Rattle.meaning.specs.LineIter.{Held, nothing_held}
 use Rattle.meaning.specs.Line.{Line, lay_line, end_number, rest_of, entry_at}
 use Rattle.meaning.specs.Layout.{Row, row_at, rows, entry_of_row, layout}

@@ -1,1 +1,2 @@
 // Theorems about the definitions of `meaning`. Nothing here runs.
+#![tactic(auto)]

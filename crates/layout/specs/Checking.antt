@@ -3,7 +3,7 @@
 use Rattle.std.specs.Prelude.{ℕ, ◌*◌, ◌≤◌, ◌<◌, ◌≡◌, refl, length}
 use Rattle.std.proofs.Common.{arith, sym, ◌∙◌}
 use mathlib.Core.List.{List, [], ◌∷◌}
-use Rattle.characters.specs.Decoding.{decode_all}
+use Rattle.utf8.specs.Decoding.{decode_all}
 use Rattle.meaning.specs.Checks.{first_of, check_settings, check_length, check_utf8, check_text, check_room}
 use Rattle.meaning.specs.Layout.{rows}
 use Rattle.meaning.specs.Table.{entry_numbers, event_numbers, capacity_of}

@@ -5,8 +5,8 @@ use Rattle.std.proofs.Common.{arith, add-zero, zero-add, ◌∙◌, length-appen
 use Rattle.std.proofs.Math.Path.{sym, ap}
 use mathlib.Core.List.{List, [], ◌∷◌, ◌++◌, append-nil}
 use Rattle.std.proofs.Math.ListN.{length}
-use Rattle.characters.specs.Encoding.{size}
-use Rattle.characters.specs.Sizes.{size_append}
+use Rattle.utf8.specs.Encoding.{size}
+use Rattle.utf8.specs.Sizes.{size_append}
 use Rattle.meaning.specs.LineIter.{Held, nothing_held, process}
 use Rattle.meaning.specs.Words.{Drawn}
 use Rattle.meaning.specs.Line.{held_tokens, line_tokens, start_place, measuring, placing, line_of, lay_line, entry_at, events_at}

@@ -17,7 +17,7 @@ use table::entries::write_entry;
 
 // How many lines are in the table, how many events in the buffer, where what is left of the word starts, and how many characters stand
 // before that.
-#[derive(Drop)]
+#[derive(Clone, Copy)]
 pub struct DrawnTo {
     pub lines: usize,
     pub events: usize,

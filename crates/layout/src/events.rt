@@ -41,7 +41,7 @@ pub fn count_events(text: &[u8], s: Settings) -> usize
 }
 
 // How many lines a text has, and how many events.
-#[derive(Drop)]
+#[derive(Clone, Copy)]
 pub struct Both {
     pub lines: usize,
     pub events: usize,

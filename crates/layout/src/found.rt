@@ -26,7 +26,7 @@ use stands::stand::Stand;
 use table::entries::write_entry;
 
 // How many lines are in the table, how many events in the buffer, and where the next line is to be laid; or that none is left.
-#[derive(Drop)]
+#[derive(Clone, Copy)]
 pub struct Drawn {
     pub lines: usize,
     pub events: usize,

@@ -12,7 +12,7 @@ use placing::plain::{plain_entry, plain_row};
 use table::entries::write_entry;
 
 // How many lines are in the table, how many events in the buffer, where the next line starts, and the characters before it.
-#[derive(Drop)]
+#[derive(Clone, Copy)]
 pub struct Passed {
     pub lines: usize,
     pub events: usize,

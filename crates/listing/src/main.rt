@@ -1,5 +1,6 @@
 // Lays the text on standard input and lists its lines: 'lines N', and the eleven numbers of each line; or 'refused N V', the
 // number of the refusal and what goes besides it. The settings are those of the scope's examples, in a box 30 wide.
+#![tactic(auto)]
 ghost use Rattle.std.specs.Prelude.{◌+◌, ◌*◌, ◌≤◌, length};
 ghost use Rattle.meaning.specs.Table.{entry_numbers};
 

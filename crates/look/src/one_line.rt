@@ -9,7 +9,7 @@ use meaning::line::Entry;
 
 // What a line is held to of the line before it: that line's start, its reach and the characters before
 // it.
-#[derive(Drop)]
+#[derive(Clone, Copy)]
 pub enum LineBefore {
     Nothing,
     Line(Offset, Offset, Chars),

@@ -4,7 +4,7 @@
 -- Assumes nothing.
 use Rattle.std.specs.Prelude.{ℕ, not, List, [], ◌∷◌, map, ltb, eqb, ℤ, length}
 use Rattle.basis.specs.Choice.{pick}
-use Rattle.characters.specs.Decoding.{decode_all}
+use Rattle.utf8.specs.Decoding.{decode_all}
 use Rattle.meaning.specs.Checks.{refuse_if, first_of, answered, afterwards, check_settings, check_length, check_utf8, check_room}
 use Rattle.meaning.specs.Tokens.{tokens, ranged}
 use Rattle.meaning.specs.Layout.{Row, rows, entry_of_row, all_events}

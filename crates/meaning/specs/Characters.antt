@@ -2,7 +2,7 @@
 -- Assumes nothing.
 use Rattle.std.specs.Prelude.{ℕ, Bool, true, false, ◌&&◌, ◌||◌, not, eqb}
 use Rattle.basis.specs.Choice.{pick}
-use Rattle.characters.specs.WhiteSpace.{is_white}
+use Rattle.utf8.specs.WhiteSpace.{is_white}
 
 -- White space that holds a word together and is drawn as one space: U+00A0, U+2007 and U+202F.
 unfoldable pub glue : ℕ → Bool

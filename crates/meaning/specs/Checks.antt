@@ -3,7 +3,7 @@
 -- Assumes nothing.
 use Rattle.std.specs.Prelude.{ℕ, Bool, not, List, [], ◌∷◌, ltb, eqb, length}
 use Rattle.basis.specs.Choice.{pick}
-use Rattle.characters.specs.Decoding.{valid_prefix}
+use Rattle.utf8.specs.Decoding.{valid_prefix}
 use Rattle.meaning.specs.Settings.{in_range, known_alignment, known_vertical}
 use Rattle.meaning.specs.declared.settings.Settings.{Settings}
 use Rattle.meaning.specs.declared.refusals.Refusal.{Refusal}

@@ -3,7 +3,7 @@
 -- Assumes nothing.
 use Rattle.std.specs.Prelude.{ℕ, List, [], ◌∷◌}
 use Rattle.basis.specs.Choice.{pick}
-use Rattle.characters.specs.Decoding.{decode_all}
+use Rattle.utf8.specs.Decoding.{decode_all}
 use Rattle.meaning.specs.Checks.{first_of, answered, check_limit, check_settings, check_text}
 use Rattle.meaning.specs.Columns.{fits_whole, narrowest}
 use Rattle.meaning.specs.declared.settings.Settings.{Settings}

@@ -2,8 +2,8 @@
 -- Assumes nothing.
 use Rattle.std.specs.Prelude.{ℕ, zero, suc, ◌+◌, ◌-◌, Bool, ◌&&◌, ◌||◌, not, List, [], ◌∷◌, ◌++◌, map, leb, eqb, length, take, drop}
 use Rattle.basis.specs.Choice.{pick}
-use Rattle.characters.specs.Encoding.{bytes, size}
-use Rattle.characters.specs.Places.{boundary}
+use Rattle.utf8.specs.Encoding.{bytes, size}
+use Rattle.utf8.specs.Places.{boundary}
 use Rattle.meaning.specs.Checks.{refuse_if, check_length}
 use Rattle.meaning.specs.LineIter.{Held, nothing_held}
 use Rattle.meaning.specs.Line.{lay_line, rest_of}

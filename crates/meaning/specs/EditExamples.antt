@@ -4,10 +4,10 @@
 -- Assumes nothing.
 use Rattle.std.specs.Prelude.{ℕ, zero, suc, List, [], ◌∷◌, ◌++◌, map, length, take, drop}
 use Prim.Native.String.{String}
-use Rattle.characters.specs.Encoding.{encode, size, encode_all}
-use Rattle.characters.specs.WellFormed.{well_formed, rows, fits, some_fits}
-use Rattle.characters.specs.Decoding.{seq_len, value, char_of, decode_head, decode_after, decode_all, valid_prefix}
-use Rattle.characters.specs.Places.{boundary}
+use Rattle.utf8.specs.Encoding.{encode, size, encode_all}
+use Rattle.utf8.specs.WellFormed.{well_formed, rows, fits, some_fits}
+use Rattle.utf8.specs.Decoding.{seq_len, value, char_of, decode_head, decode_after, decode_all, valid_prefix}
+use Rattle.utf8.specs.Places.{boundary}
 use Rattle.meaning.specs.Settings.{top_in_range, sizes_in_range, in_range}
 use Rattle.meaning.specs.Checks.{refuse_if, first_of, check_settings, check_length, check_utf8, check_room}
 use Rattle.meaning.specs.Table.{of_entry, of_all, capacity_of, written, entry_in, entries_in}

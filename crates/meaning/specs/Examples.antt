@@ -5,8 +5,8 @@ use Prim.Native.Char.{code}
 use Prim.Native.String.{String}
 use Prim.Native.String as string
 use Rattle.basis.specs.Choice.{pick}
-use Rattle.characters.specs.Encoding.{bytes, size}
-use Rattle.characters.specs.WhiteSpace.{white_spaces, member, is_white}
+use Rattle.utf8.specs.Encoding.{bytes, size}
+use Rattle.utf8.specs.WhiteSpace.{white_spaces, member, is_white}
 use Rattle.meaning.specs.Characters.{glue, class_of, in_word, in_run}
 use Rattle.meaning.specs.Tokens.{run, after, ender, counted, first, others, tokens_by, tokens, chars_of, size_of, ender_of, need_of}
 use Rattle.meaning.specs.Cursor.{room_of, fits_in, advance, has_moved, tab_width}

@@ -2,7 +2,7 @@
 -- Assumes nothing.
 use Rattle.std.specs.Prelude.{ℕ, ◌≡◌, refl, Bool, true, false, List, [], ◌∷◌, map}
 use Prim.Native.String.{String}
-use Rattle.characters.specs.Places.{boundary}
+use Rattle.utf8.specs.Places.{boundary}
 use Rattle.meaning.specs.Table.{of_entry}
 use Rattle.meaning.specs.Edit.{chars_in}
 use Rattle.meaning.specs.Frames.{is_none, none_resumed, onward, rest_lies, stand_good, held_by, one_line, first_lines}

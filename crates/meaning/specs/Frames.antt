@@ -2,8 +2,8 @@
 -- Assumes nothing.
 use Rattle.std.specs.Prelude.{ℕ, zero, suc, ◌+◌, ◌-◌, Bool, ◌&&◌, ◌||◌, List, [], ◌∷◌, leb, ltb, eqb, take, drop}
 use Rattle.basis.specs.Choice.{pick}
-use Rattle.characters.specs.Encoding.{size}
-use Rattle.characters.specs.Places.{boundary}
+use Rattle.utf8.specs.Encoding.{size}
+use Rattle.utf8.specs.Places.{boundary}
 use Rattle.meaning.specs.LineIter.{Held, nothing_held}
 use Rattle.meaning.specs.Line.{lay_line, rest_of, entry_at}
 use Rattle.meaning.specs.Edit.{chars_in}

@@ -1,7 +1,7 @@
 -- Rule 10: lines are laid one after the other, each from where the one before ended, until one ends EndOfText.
 -- Assumes nothing.
 use Rattle.std.specs.Prelude.{ℕ, zero, suc, ◌+◌, List, [], ◌∷◌, ◌++◌, map, length, take, drop}
-use Rattle.characters.specs.Encoding.{size}
+use Rattle.utf8.specs.Encoding.{size}
 use Rattle.meaning.specs.LineIter.{Held, nothing_held}
 use Rattle.meaning.specs.Line.{Line, lay_line, entry_at, events_at}
 use Rattle.meaning.specs.declared.settings.Settings.{Settings}

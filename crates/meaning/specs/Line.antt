@@ -2,7 +2,7 @@
 -- Assumes nothing.
 use Rattle.std.specs.Prelude.{ℕ, zero, suc, ◌+◌, max, true, List, [], ◌∷◌, eqb, take, drop}
 use Rattle.basis.specs.Choice.{pick}
-use Rattle.characters.specs.Encoding.{size}
+use Rattle.utf8.specs.Encoding.{size}
 use Rattle.meaning.specs.Tokens.{Tok, space, ender, tokens}
 use Rattle.meaning.specs.Alignment.{plain_spaces, place}
 use Rattle.meaning.specs.Words.{Drawn}

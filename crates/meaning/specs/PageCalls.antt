@@ -4,7 +4,7 @@
 -- Assumes nothing.
 use Rattle.std.specs.Prelude.{ℕ, ◌*◌, List, [], ◌∷◌, length, take}
 use Rattle.basis.specs.Choice.{pick}
-use Rattle.characters.specs.Decoding.{decode_all}
+use Rattle.utf8.specs.Decoding.{decode_all}
 use Rattle.meaning.specs.Checks.{first_of, answered, afterwards, check_limit, check_settings, check_text, check_room}
 use Rattle.meaning.specs.Table.{of_entry, of_all, capacity_of, written, entries_in}
 use Rattle.meaning.specs.WellFormed.{check_table}

@@ -4,7 +4,7 @@
 use Rattle.std.specs.Prelude.{ℕ, ◌≡◌, refl, List, [], ◌∷◌, map}
 use Prim.Native.String.{String}
 use Rattle.basis.specs.Choice.{pick}
-use Rattle.characters.specs.Encoding.{encode, encode_all}
+use Rattle.utf8.specs.Encoding.{encode, encode_all}
 use Rattle.meaning.specs.Checks.{check_limit, check_text}
 use Rattle.meaning.specs.Layout.{layout}
 use Rattle.meaning.specs.Table.{of_all, written}

@@ -4,8 +4,8 @@
 use Rattle.std.specs.Prelude.{ℕ, ◌≡◌, refl, List, [], ◌∷◌, map, ℤ, pos, negsuc}
 use Prim.Native.String.{String}
 use Rattle.basis.specs.Choice.{pick}
-use Rattle.characters.specs.WellFormed.{well_formed, rows, fits, some_fits}
-use Rattle.characters.specs.Decoding.{seq_len, value, char_of, decode_head, decode_after, decode_all, valid_prefix}
+use Rattle.utf8.specs.WellFormed.{well_formed, rows, fits, some_fits}
+use Rattle.utf8.specs.Decoding.{seq_len, value, char_of, decode_head, decode_after, decode_all, valid_prefix}
 use Rattle.meaning.specs.Settings.{top_in_range, sizes_in_range, in_range}
 use Rattle.meaning.specs.Checks.{refuse_if, first_of, check_settings, check_length, check_utf8, check_room}
 use Rattle.meaning.specs.Tokens.{tokens, ranged}

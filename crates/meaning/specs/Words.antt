@@ -2,7 +2,7 @@
 -- Assumes nothing.
 use Rattle.std.specs.Prelude.{ℕ, suc, ◌+◌, ◌*◌, List, [], ◌∷◌, length}
 use Rattle.basis.specs.Choice.{pick}
-use Rattle.characters.specs.Encoding.{bytes, size}
+use Rattle.utf8.specs.Encoding.{bytes, size}
 use Rattle.meaning.specs.Characters.{glue}
 use Rattle.meaning.specs.SpaceConfig.{spaces_width, spaces_after}
 use Rattle.meaning.specs.declared.cursor.Spaces.{Spaces}

@@ -2,7 +2,7 @@
 use crate::counts::Pixels;
 
 // Rule 4: where a pass stands in its line.
-#[derive(Drop)]
+#[derive(Clone, Copy)]
 pub struct LineCursor {
     pub width: Pixels,
     pub position: Pixels,
@@ -13,21 +13,21 @@ pub struct LineCursor {
 
 // What a signed move answers: how far it went and the cursor there; or, of one too long, the room that it had and the cursor that is
 // left.
-#[derive(Drop)]
+#[derive(Clone, Copy)]
 pub enum Moved {
     By(i32, LineCursor),
     Room(i32, LineCursor),
 }
 
 // Rule 5: the width of a space, and how many of the next spaces are one pixel wider.
-#[derive(Drop)]
+#[derive(Clone, Copy)]
 pub struct Spaces {
     pub width: Pixels,
     pub extra: Pixels,
 }
 
 // What a pass carries from token to token. A line is empty until it prints a word.
-#[derive(Drop)]
+#[derive(Clone, Copy)]
 pub struct Place {
     pub cursor: LineCursor,
     pub spaces: Spaces,
@@ -35,7 +35,7 @@ pub struct Place {
 }
 
 // What a soft hyphen learns of the text after it: the next word's width, or that no word follows.
-#[derive(Drop)]
+#[derive(Clone, Copy)]
 pub enum NextWord {
     Nothing,
     Width(Pixels),

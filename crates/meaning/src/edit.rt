@@ -2,7 +2,7 @@
 use crate::counts::Offset;
 
 // Old bytes from `from` up to `to` give way to `inserted` new ones.
-#[derive(Drop)]
+#[derive(Clone, Copy)]
 pub struct Edit {
     pub from: Offset,
     pub to: Offset,

@@ -2,7 +2,7 @@
 
 // How many texts there were; their lines, those of them that end by LineBreak, and the characters that they dropped; the texts refused as
 // too long (3) and as not UTF-8 (4); and the lines of the text that has most.
-#[derive(Drop)]
+#[derive(Clone, Copy)]
 pub struct Figures {
     pub texts: u64,
     pub lines: u64,

@@ -1,4 +1,5 @@
 // The types that settings and answers are made of. Nothing here runs: specs/ says what each rule of the scope means.
+#![tactic(auto)]
 pub mod answers;
 pub mod counts;
 pub mod cursor;

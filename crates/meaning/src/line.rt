@@ -3,7 +3,7 @@ use crate::counts::{Chars, Offset, Pixels};
 use crate::cursor::Spaces;
 
 // How a line ends.
-#[derive(Drop)]
+#[derive(Clone, Copy)]
 pub enum LineEnd {
     NewLine,
     CarriageReturn,
@@ -12,7 +12,7 @@ pub enum LineEnd {
 }
 
 // Rule 10: the pen and the spaces counted so far, and the two as they were just after the last print.
-#[derive(Drop)]
+#[derive(Clone, Copy)]
 pub struct Measure {
     pub pen: Pixels,
     pub spaces: Chars,
@@ -21,14 +21,14 @@ pub struct Measure {
 }
 
 // Rule 6: where a line starts, and how wide its spaces are.
-#[derive(Drop)]
+#[derive(Clone, Copy)]
 pub struct Placed {
     pub left: Pixels,
     pub spaces: Spaces,
 }
 
 // What is left of a space run that a line's end cut: where it ends and how many spaces it counts. 0 and 0: nothing is.
-#[derive(Drop)]
+#[derive(Clone, Copy)]
 pub struct Rest {
     pub end: Offset,
     pub count: Chars,
@@ -36,7 +36,7 @@ pub struct Rest {
 
 // Rule 12: the eleven numbers of a line. The ending is a number, since a lent table may hold any; `before` counts the
 // characters before the line's start.
-#[derive(Drop)]
+#[derive(Clone, Copy)]
 pub struct Entry {
     pub start: Offset,
     pub rest: Rest,
@@ -50,7 +50,7 @@ pub struct Entry {
     pub before: Chars,
 }
 
-#[derive(Drop)]
+#[derive(Clone, Copy)]
 pub enum EventKind {
     Space,
     Printed,
@@ -58,7 +58,7 @@ pub enum EventKind {
 }
 
 // Rule 13: what is drawn, and the pen before it from the box's left.
-#[derive(Drop)]
+#[derive(Clone, Copy)]
 pub struct Event {
     pub kind: EventKind,
     pub start: Offset,

@@ -2,7 +2,7 @@
 use crate::counts::Offset;
 
 // Its first line, and the bytes of the text that its lines take: from `start` on, and before `end`.
-#[derive(Drop)]
+#[derive(Clone, Copy)]
 pub struct Page {
     pub first: u32,
     pub start: Offset,

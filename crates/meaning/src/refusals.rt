@@ -3,7 +3,7 @@
 use crate::counts::Offset;
 
 // Why a call refused its input. Number 7 is not used any more. `number_of` and `besides` (specs/Refusals.antt) give the scope's number and what goes with it.
-#[derive(Drop)]
+#[derive(Clone, Copy)]
 pub enum Refusal {
     SettingOutOfRange,
     UnknownAlignment(u32),
@@ -22,7 +22,7 @@ pub enum Refusal {
 }
 
 // What a check answers.
-#[derive(Drop)]
+#[derive(Clone, Copy)]
 pub enum Checked {
     Good,
     Refused(Refusal),

@@ -2,7 +2,7 @@
 use crate::counts::Pixels;
 
 // The thirteen settings, in the scope's order and the wrap setting last.
-#[derive(Drop)]
+#[derive(Clone, Copy)]
 pub struct Settings {
     // the width of every character
     pub glyph: Pixels,

@@ -2,7 +2,7 @@
 use crate::counts::{Chars, Offset};
 
 // Rule 2. A soft hyphen is a Break.
-#[derive(Drop)]
+#[derive(Clone, Copy)]
 pub enum TokenKind {
     NewLine,
     CarriageReturn,
@@ -13,7 +13,7 @@ pub enum TokenKind {
 }
 
 // Rule 3: what a token is and which part of the text it shows. The count is that of Whitespace, 0 for every other kind.
-#[derive(Drop)]
+#[derive(Clone, Copy)]
 pub struct Token {
     pub kind: TokenKind,
     pub start: Offset,

@@ -15,7 +15,7 @@ use meaning::refusals::{Checked, Refusal};
 use meaning::settings::Settings;
 
 // How many clues are counted, how many bytes of the next one are held at the buffer's front, and whether it is too long already.
-#[derive(Drop)]
+#[derive(Clone, Copy)]
 pub struct Step {
     pub clues: u64,
     pub held: usize,

@@ -1,5 +1,6 @@
 // A month of clues in numbers: month WIDTHS [people] < CLUES. Each line of standard input is a clue, and each line of the file WIDTHS a box
 // width. Printed is a line of figures for each width, or a table for people. The other settings are those of the listing program.
+#![tactic(auto)]
 mod block;
 mod say;
 mod stream;

@@ -9,7 +9,7 @@ use libc::{STDERR_FILENO, STDIN_FILENO};
 use meaning::settings::Settings;
 
 // All clues are counted; as many as a month may have; or the input could not be read.
-#[derive(Drop)]
+#[derive(Clone, Copy)]
 pub enum Count {
     Whole,
     Stopped,
@@ -17,7 +17,7 @@ pub enum Count {
 }
 
 // What one read gave: bytes up to a place, or no more.
-#[derive(Drop)]
+#[derive(Clone, Copy)]
 pub enum Got {
     UpTo(usize),
     Nothing,

@@ -13,7 +13,7 @@ pub const MOST_WIDTHS: usize = 64;
 const DIGITS: usize = 4;
 
 // The file: so many widths; the first bad line, counted from 0; or it could not be read.
-#[derive(Drop)]
+#[derive(Clone, Copy)]
 pub enum Widths {
     Listed(usize),
     Bad(usize),

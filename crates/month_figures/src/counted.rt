@@ -19,7 +19,7 @@ const TEXT_TOO_LONG: u32 = 3;
 const NOT_UTF8: u32 = 4;
 
 // The lines that are counted so far: how many, how many of them are broken, and the characters that they dropped.
-#[derive(Drop)]
+#[derive(Clone, Copy)]
 pub struct Tally {
     pub lines: u64,
     pub broken: u64,

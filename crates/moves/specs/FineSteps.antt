@@ -6,7 +6,7 @@ use Rattle.std.proofs.Common.{mul-le-mul_left, mul-le-mul_right, div-mul-le_self
 use Rattle.std.proofs.Math.ListN.{length, length-take}
 use Rattle.basis.specs.Choice.{pick_cases}
 use Rattle.basis.specs.Order.{by_le}
-use Rattle.characters.specs.Encoding.{size}
+use Rattle.utf8.specs.Encoding.{size}
 use Rattle.meaning.specs.Tokens.{Tok, newLine, carriageReturn, tab, softHyphen, space, word, chars_of, size_of}
 use Rattle.meaning.specs.Cursor.{room_of, fits_in, advance, has_moved, tab_width}
 use Rattle.meaning.specs.SpaceConfig.{spaces_width, spaces_after}

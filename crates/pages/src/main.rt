@@ -1,6 +1,7 @@
 // Lays the text on standard input and lists its pages of so many lines: 'pages N', and of each page its first line, start and end; or
 // 'refused N V', the number of the refusal and what goes besides it. With the word `text` it prints the pages' text, for people.
 // The settings are those of the scope's examples, in a box 30 wide.
+#![tactic(auto)]
 mod shown;
 mod words;
 

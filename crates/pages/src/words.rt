@@ -2,7 +2,7 @@
 use console::digits::{Decimal, decimal_in};
 
 // A list of numbers, or text, with so many lines to a page; or words that say neither.
-#[derive(Drop)]
+#[derive(Clone, Copy)]
 pub enum Asked {
     Numbers(u32),
     Text(u32),

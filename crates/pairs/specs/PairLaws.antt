@@ -4,11 +4,11 @@ use Rattle.std.specs.Prelude.{◌≡◌, refl, true, ◌&&◌, List, ℕ, ◌+�
 use Rattle.std.proofs.Math.Path.{sym, ap}
 use Rattle.std.proofs.Common.{◌∙◌, inl, arith, eqb-true}
 use Rattle.basis.specs.Choice.{pick, and_true}
-use Rattle.characters.specs.Decoding.{value3, decode_at}
-use Rattle.characters.specs.Rows.{Three}
-use Rattle.characters.specs.Long.{decode_three}
-use Rattle.characters.specs.WhiteSpace.{white_spaces, member, is_white}
-use Rattle.characters.specs.declared.sequence.Decoded.TheVariants.{Char}
+use Rattle.utf8.specs.Decoding.{value3, decode_at}
+use Rattle.utf8.specs.Rows.{Three}
+use Rattle.utf8.specs.Long.{decode_three}
+use Rattle.utf8.specs.WhiteSpace.{white_spaces, member, is_white}
+use Rattle.utf8.specs.declared.sequence.Decoded.TheVariants.{Char}
 use Rattle.meaning.specs.Characters.{glue, class_of, in_word}
 use Rattle.parser.specs.Lexing.{chars_from}
 use Rattle.parser.specs.Scanning.{glue_of, scanned_at, scan_from, word_of, blank_of}

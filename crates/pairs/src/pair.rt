@@ -11,7 +11,7 @@ use parser::scan::{Scanned, none_scanned, scan_word, scanned_at};
 
 // Where the word starts, how far the space was looked at, and the word. A start of 0, which no word behind a space has: there is
 // no such pair. It is no enum, which would go through memory where these numbers stay in registers.
-#[derive(Drop)]
+#[derive(Clone, Copy)]
 pub struct Pair {
     pub from: Offset,
     pub looked: Offset,

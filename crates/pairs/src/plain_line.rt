@@ -9,7 +9,7 @@ use parser::ascii::{ends_at, plain_at};
 use parser::letters::skip_plain;
 
 // Where the words end that fit, and how far was looked. An end of 0: there is no such line.
-#[derive(Drop)]
+#[derive(Clone, Copy)]
 pub struct FoundLine {
     pub end: Offset,
     pub reach: Offset,

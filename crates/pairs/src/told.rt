@@ -11,10 +11,10 @@ use parser::ascii::{ends_at, space_at};
 use parser::glue::glue_len;
 use parser::letters::{first_len, skip_plain};
 use parser::scan::scanned_at;
-use characters::long::long_len;
+use utf8::long::long_len;
 
 // Where a word ends, how many of its bytes continue a character, and how many of its characters glue. An end of 0: it is not told.
-#[derive(Drop)]
+#[derive(Clone, Copy)]
 pub struct Told {
     pub end: usize,
     pub conts: u32,

@@ -11,7 +11,7 @@ use parser::glue::glue_len;
 use parser::letters::{first_len, skip_plain};
 use parser::lexeme::Lexeme;
 use parser::scan::{Scanned, none_scanned, scanned_at};
-use characters::long::long_len;
+use utf8::long::long_len;
 
 // Where so many bytes from a position on end, or where the text does.
 fn limit_at(text: &[u8], from: usize, most: u32) -> usize

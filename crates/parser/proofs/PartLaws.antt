@@ -7,10 +7,10 @@ use Prim.Native.Nat.{ℕ, zero, suc, ◌+◌, ◌-◌, ◌≤◌, ◌<◌}
 use native.Mathlib.Omega.{arith}
 use lib.ListN.{take}
 use Rattle.basis.specs.Choice.{pick, by_test}
-use Rattle.characters.specs.Encoding.{bytes, size}
-use Rattle.characters.specs.Decoding.{decode_at}
-use Rattle.characters.specs.Walk.{is_char, decode_at-bytes}
-use Rattle.characters.specs.declared.sequence.Decoded.TheVariants.{Char}
+use Rattle.utf8.specs.Encoding.{bytes, size}
+use Rattle.utf8.specs.Decoding.{decode_at}
+use Rattle.utf8.specs.Walk.{is_char, decode_at-bytes}
+use Rattle.utf8.specs.declared.sequence.Decoded.TheVariants.{Char}
 use Rattle.meaning.specs.Characters.{glue}
 use Rattle.meaning.specs.Words.{glues}
 use Rattle.parser.specs.Lexing.{chars_from, part_of}

@@ -7,11 +7,11 @@ use Prim.Native.Nat.{ℕ, zero, suc, ◌+◌, ◌-◌, ◌≤◌, ◌<◌}
 use native.Mathlib.Omega.{arith}
 use lib.ListN.{length, take}
 use Rattle.basis.specs.Choice.{by_test}
-use Rattle.characters.specs.Encoding.{bytes, size}
-use Rattle.characters.specs.Decoding.{decode_at}
-use Rattle.characters.specs.Walk.{is_char, decode_at-bytes}
-use Rattle.characters.specs.declared.sequence.Decoded.{Decoded}
-use Rattle.characters.specs.declared.sequence.Decoded.TheVariants.{Char, Bad, End}
+use Rattle.utf8.specs.Encoding.{bytes, size}
+use Rattle.utf8.specs.Decoding.{decode_at}
+use Rattle.utf8.specs.Walk.{is_char, decode_at-bytes}
+use Rattle.utf8.specs.declared.sequence.Decoded.{Decoded}
+use Rattle.utf8.specs.declared.sequence.Decoded.TheVariants.{Char, Bad, End}
 use Rattle.meaning.specs.Characters.{Class, lf, cr, ht, shy, zwsp, blank, letter, class_of, in_word}
 use Rattle.meaning.specs.Tokens.{Tok, word, run, after, ender, first, tokens, chars_of, size_of, ender_of, need_of, kind_of}
 use Rattle.meaning.specs.Words.{glues}

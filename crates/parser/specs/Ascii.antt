@@ -5,9 +5,9 @@ use Rattle.std.proofs.Common.{ap, ◌∙◌, arith, ltb-true, eqb-true}
 use Rattle.std.proofs.lemmas.Bool.{false≢true}
 use Rattle.std.proofs.Math.Dec.{eqb}
 use Rattle.basis.specs.Choice.{pick, pick_cases, and_true}
-use Rattle.characters.specs.Decoding.{decode_at}
-use Rattle.characters.specs.Ascii.{decode_ascii}
-use Rattle.characters.specs.declared.sequence.Decoded.TheVariants.{Char}
+use Rattle.utf8.specs.Decoding.{decode_at}
+use Rattle.utf8.specs.Ascii.{decode_ascii}
+use Rattle.utf8.specs.declared.sequence.Decoded.TheVariants.{Char}
 
 abbrev pub plain : ℕ → Bool
 plain b = ltb 0x20 b && ltb b 0x80

@@ -8,7 +8,7 @@ use borrow.Author.Tests.{ne_eqb}
 use Rattle.basis.specs.Choice.{pick, by_test}
 use Rattle.basis.specs.Order.{by_eq}
 use Rattle.basis.specs.Tables.{agree-below}
-use Rattle.characters.specs.WhiteSpace.{white_spaces, member, is_white}
+use Rattle.utf8.specs.WhiteSpace.{white_spaces, member, is_white}
 use Rattle.meaning.specs.Characters.{glue, Class, lf, cr, ht, shy, zwsp, blank, letter, class_of, word_class, in_word, in_run}
 
 -- ---- classes

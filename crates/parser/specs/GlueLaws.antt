@@ -5,7 +5,7 @@ use Rattle.std.proofs.Math.Path.{refl}
 use Rattle.std.proofs.Common.{sym, subst, ◌∙◌, arith, eqb-true}
 use Rattle.std.proofs.lemmas.Bool.{false≢true}
 use Rattle.basis.specs.Choice.{pick, pick_cases, by_test, by-either}
-use Rattle.characters.specs.WhiteSpace.{white_spaces, member, is_white}
+use Rattle.utf8.specs.WhiteSpace.{white_spaces, member, is_white}
 use Rattle.meaning.specs.Characters.{glue, class_of, in_word, in_run}
 use Rattle.parser.specs.Scanning.{glue_of}
 

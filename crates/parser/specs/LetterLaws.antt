@@ -9,11 +9,11 @@ use borrow.Author.Tests.{lt-ltb, ltb-true, ltb-false, eqb-true}
 use Rattle.std.proofs.Math.Dec.{eqb}
 use Rattle.std.proofs.Math.ListN.{get_or}
 use Rattle.basis.specs.Choice.{pick, pick_cases, and_true, by-either}
-use Rattle.characters.specs.Decoding.{value2, value3, decode_at}
-use Rattle.characters.specs.Rows.{Three}
-use Rattle.characters.specs.Ascii.{decode_ascii}
-use Rattle.characters.specs.Long.{Long, decode_two, decode_three}
-use Rattle.characters.specs.declared.sequence.Decoded.TheVariants.{Char}
+use Rattle.utf8.specs.Decoding.{value2, value3, decode_at}
+use Rattle.utf8.specs.Rows.{Three}
+use Rattle.utf8.specs.Ascii.{decode_ascii}
+use Rattle.utf8.specs.Long.{Long, decode_two, decode_three}
+use Rattle.utf8.specs.declared.sequence.Decoded.TheVariants.{Char}
 use Rattle.meaning.specs.Characters.{glue, in_word, in_run}
 use Rattle.parser.specs.Lexing.{chars_from}
 use Rattle.parser.specs.Scanning.{glue_of, space_of, scanned_at, scan_from}

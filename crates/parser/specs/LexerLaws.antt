@@ -8,10 +8,10 @@ use Prim.Native.Nat.{ℕ, suc, ◌+◌}
 use native.Mathlib.Omega.{arith}
 use Rattle.std.proofs.Math.ListN.{length}
 use Rattle.basis.specs.Choice.{pick}
-use Rattle.characters.specs.Encoding.{bytes, size}
-use Rattle.characters.specs.Decoding.{decode_at}
-use Rattle.characters.specs.Walk.{is_char, decode_at-bytes}
-use Rattle.characters.specs.declared.sequence.Decoded.TheVariants.{Char}
+use Rattle.utf8.specs.Encoding.{bytes, size}
+use Rattle.utf8.specs.Decoding.{decode_at}
+use Rattle.utf8.specs.Walk.{is_char, decode_at-bytes}
+use Rattle.utf8.specs.declared.sequence.Decoded.TheVariants.{Char}
 use Rattle.meaning.specs.Characters.{Class, lf, cr, ht, shy, zwsp, blank, letter, class_of, word_class, in_word, in_run}
 use Rattle.meaning.specs.Tokens.{Tok, newLine, carriageReturn, tab, softHyphen, space, word, run, after, ender, counted, first, tokens, chars_of, size_of, ender_of, need_of, kind_of, count_of}
 use Rattle.meaning.specs.Words.{glues}

@@ -1,8 +1,8 @@
 -- What the tokenizer answers at an offset of a text, from the tokens of the characters there.
 -- Assumes nothing.
 use Rattle.std.specs.Prelude.{ℕ, ◌+◌, List, [], ◌∷◌, take, drop}
-use Rattle.characters.specs.Encoding.{size}
-use Rattle.characters.specs.Decoding.{decode_all}
+use Rattle.utf8.specs.Encoding.{size}
+use Rattle.utf8.specs.Decoding.{decode_all}
 use Rattle.meaning.specs.Tokens.{Tok, newLine, carriageReturn, tab, softHyphen, space, word, chars_of, size_of, need_of, kind_of, count_of}
 use Rattle.meaning.specs.Words.{glues}
 use Rattle.parser.specs.declared.lexeme.Lexeme.{Lexeme}

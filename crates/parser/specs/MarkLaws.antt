@@ -8,12 +8,12 @@ use native.Mathlib.Omega.{arith}
 use borrow.Author.Tests.{eqb-true}
 use Rattle.std.proofs.Math.Dec.{eqb}
 use Rattle.basis.specs.Choice.{pick, and_true, by_test}
-use Rattle.characters.specs.Encoding.{bytes}
-use Rattle.characters.specs.Decoding.{value2, value3, decode_at}
-use Rattle.characters.specs.Ascii.{decode_ascii}
-use Rattle.characters.specs.Long.{decode_two, decode_three}
-use Rattle.characters.specs.Walk.{decode_at-bytes}
-use Rattle.characters.specs.declared.sequence.Decoded.TheVariants.{Char}
+use Rattle.utf8.specs.Encoding.{bytes}
+use Rattle.utf8.specs.Decoding.{value2, value3, decode_at}
+use Rattle.utf8.specs.Ascii.{decode_ascii}
+use Rattle.utf8.specs.Long.{decode_two, decode_three}
+use Rattle.utf8.specs.Walk.{decode_at-bytes}
+use Rattle.utf8.specs.declared.sequence.Decoded.TheVariants.{Char}
 use Rattle.meaning.specs.Characters.{class_of, in_word}
 use Rattle.meaning.specs.Tokens.{first, tokens}
 use Rattle.parser.specs.Lexing.{chars_from, lexeme_at, lexed_at}

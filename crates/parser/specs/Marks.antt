@@ -2,8 +2,8 @@
 -- Assumes nothing.
 use Rattle.std.specs.Prelude.{◌≡◌, Bool, false, ◌&&◌, List, ℕ, eqb}
 use Rattle.basis.specs.Choice.{pick}
-use Rattle.characters.specs.Decoding.{decode_at}
-use Rattle.characters.specs.declared.sequence.Decoded.TheVariants.{Char}
+use Rattle.utf8.specs.Decoding.{decode_at}
+use Rattle.utf8.specs.declared.sequence.Decoded.TheVariants.{Char}
 use Rattle.meaning.specs.Characters.{in_word}
 use Rattle.meaning.specs.declared.tokens.TokenKind.{TokenKind}
 use Rattle.meaning.specs.declared.tokens.TokenKind.TheVariants.{Tab, Whitespace, Break}

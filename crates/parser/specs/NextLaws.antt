@@ -6,12 +6,12 @@ use mathlib.Core.List.{List, [], ◌∷◌, ◌++◌}
 use Rattle.std.specs.Prelude.{ℕ, ◌+◌, ◌-◌, ◌≤◌, length, drop}
 use Rattle.std.proofs.Math.Nat.{add-zero}
 use Rattle.std.proofs.Math.ListN.{length-drop}
-use Rattle.characters.specs.Encoding.{bytes, size}
-use Rattle.characters.specs.Decoding.{decode_at, valid_prefix}
-use Rattle.characters.specs.Prefix.{prefix-within}
-use Rattle.characters.specs.Walk.{is_char, decode_at-bytes}
-use Rattle.characters.specs.declared.sequence.Decoded.{Decoded}
-use Rattle.characters.specs.declared.sequence.Decoded.TheVariants.{Char, Bad, End}
+use Rattle.utf8.specs.Encoding.{bytes, size}
+use Rattle.utf8.specs.Decoding.{decode_at, valid_prefix}
+use Rattle.utf8.specs.Prefix.{prefix-within}
+use Rattle.utf8.specs.Walk.{is_char, decode_at-bytes}
+use Rattle.utf8.specs.declared.sequence.Decoded.{Decoded}
+use Rattle.utf8.specs.declared.sequence.Decoded.TheVariants.{Char, Bad, End}
 use Rattle.meaning.specs.Characters.{class_of}
 use Rattle.meaning.specs.Tokens.{Tok, tokens, first, others, size_of}
 use Rattle.laws.specs.Spell.{text_of}

@@ -5,7 +5,7 @@ use Rattle.std.proofs.Math.Path.{refl}
 use Rattle.std.proofs.Common.{◌∙◌, arith}
 use mathlib.Core.List.{List, [], ◌∷◌}
 use Rattle.basis.specs.Choice.{pick, by_test}
-use Rattle.characters.specs.Encoding.{bytes, size}
+use Rattle.utf8.specs.Encoding.{bytes, size}
 use Rattle.meaning.specs.Characters.{glue}
 use Rattle.meaning.specs.Tokens.{run, after, ender, counted}
 use Rattle.meaning.specs.Words.{glues}

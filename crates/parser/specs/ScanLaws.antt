@@ -3,11 +3,11 @@
 use Rattle.std.specs.Prelude.{◌≡◌, Bool, true, false, List, [], ◌∷◌, ℕ, ◌+◌, ◌≤◌, length}
 use Rattle.std.proofs.Common.{arith}
 use Rattle.basis.specs.Choice.{pick, pick_cases}
-use Rattle.characters.specs.Decoding.{decode_at}
-use Rattle.characters.specs.Encoding.{bytes}
-use Rattle.characters.specs.Sizes.{bytes_range}
-use Rattle.characters.specs.Walk.{is_char, decode_at-char, decode_at-bytes, decode_at-within, decode_at-none, decode_at-end}
-use Rattle.characters.specs.declared.sequence.Decoded.TheVariants.{Char}
+use Rattle.utf8.specs.Decoding.{decode_at}
+use Rattle.utf8.specs.Encoding.{bytes}
+use Rattle.utf8.specs.Sizes.{bytes_range}
+use Rattle.utf8.specs.Walk.{is_char, decode_at-char, decode_at-bytes, decode_at-within, decode_at-none, decode_at-end}
+use Rattle.utf8.specs.declared.sequence.Decoded.TheVariants.{Char}
 use Rattle.meaning.specs.Tokens.{ender}
 use Rattle.parser.specs.Lexing.{chars_from}
 use Rattle.parser.specs.Scanning.{space_of, scanned_at, scan_from}

@@ -2,7 +2,7 @@
 -- Assumes nothing.
 use Rattle.std.specs.Prelude.{ℕ, ◌+◌, Bool, List, [], ◌∷◌, eqb}
 use Rattle.basis.specs.Choice.{pick}
-use Rattle.characters.specs.Encoding.{bytes}
+use Rattle.utf8.specs.Encoding.{bytes}
 use Rattle.meaning.specs.Characters.{glue}
 use Rattle.meaning.specs.declared.tokens.TokenKind.{TokenKind}
 use Rattle.meaning.specs.declared.tokens.TokenKind.TheVariants.{Whitespace, Word}

@@ -1,7 +1,7 @@
 -- A word without its first character, and without its first characters.
 -- Assumes nothing.
 use Rattle.std.specs.Prelude.{◌≡◌, List, ℕ, ◌+◌, ◌-◌, ◌≤◌, length, take}
-use Rattle.characters.specs.Encoding.{size}
+use Rattle.utf8.specs.Encoding.{size}
 use Rattle.parser.specs.Lexing.{chars_from}
 use Rattle.parser.specs.declared.lexeme.Lexeme.{Lexeme}
 

@@ -4,7 +4,7 @@ ghost use Rattle.meaning.specs.Characters.{in_word, in_run};
 ghost use Rattle.parser.specs.Scanning.{space_of};
 
 use crate::glue::is_glue;
-use characters::white_space::is_white_space;
+use utf8::white_space::is_white_space;
 
 // How many spaces a character of a space run counts.
 pub fn space_of(c: u32) -> u32

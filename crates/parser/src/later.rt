@@ -11,7 +11,7 @@ use crate::letters::letter_len;
 use crate::lexeme::{Lexed, Lexeme};
 use crate::lexer::token_at;
 use meaning::counts::Chars;
-use characters::sequence::{Decoded, decode};
+use utf8::sequence::{Decoded, decode};
 
 // A word without so many of its first characters, of which so many glue.
 fn without(x: Lexeme, chars: u32, glues: u32) -> Lexeme

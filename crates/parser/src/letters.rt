@@ -3,7 +3,7 @@ ghost use Rattle.std.specs.Prelude.{◌≤◌, ◌<◌, length};
 ghost use Rattle.parser.specs.Letters.{Letter, GoesOn, Lettered};
 
 use crate::ascii::{is_plain, plain_at};
-use characters::long::{broad_at, long_len, wide_at};
+use utf8::long::{broad_at, long_len, wide_at};
 
 // How many bytes the letter has that stands at a position, where it is told so. 0: it is not told.
 pub fn first_len(text: &[u8], at: usize) -> usize
@@ -45,7 +45,7 @@ pub fn skip_plain(text: &[u8], from: usize, limit: usize) -> usize
 }
 
 // Where letters end, and how many there are.
-#[derive(Drop)]
+#[derive(Clone, Copy)]
 pub struct Letters {
     pub end: usize,
     pub chars: u32,

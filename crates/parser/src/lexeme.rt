@@ -4,7 +4,7 @@ use meaning::tokens::TokenKind;
 
 // Where a token ends, its characters, the spaces that it counts, how many of its characters glue, and
 // the offset after the character that ends it.
-#[derive(Drop)]
+#[derive(Clone, Copy)]
 pub struct Lexeme {
     pub kind: TokenKind,
     pub end: Offset,
@@ -15,7 +15,7 @@ pub struct Lexeme {
 }
 
 // What stands at an offset: a token, or the end of the text.
-#[derive(Drop)]
+#[derive(Clone, Copy)]
 pub enum Lexed {
     End,
     Token(Lexeme),

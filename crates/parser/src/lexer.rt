@@ -1,6 +1,6 @@
 // The token that stands at an offset of a text (rule 2 and rule 3).
 ghost use Rattle.std.specs.Prelude.{◌≡◌, ◌+◌, ◌≤◌, length};
-ghost use Rattle.characters.specs.Encoding.{bytes};
+ghost use Rattle.utf8.specs.Encoding.{bytes};
 ghost use Rattle.meaning.specs.Characters.{class_of};
 ghost use Rattle.meaning.specs.Tokens.{first, tokens};
 ghost use Rattle.parser.specs.Lexing.{chars_from, lexeme_at, lexed_at};
@@ -15,8 +15,8 @@ use crate::marks::mark_len;
 use crate::scan::{Scanned, scan_run, scan_word};
 use meaning::counts::{Chars, Offset};
 use meaning::tokens::TokenKind;
-use characters::long::long_len;
-use characters::sequence::{Decoded, decode};
+use utf8::long::long_len;
+use utf8::sequence::{Decoded, decode};
 
 // A token of one character, which nothing has to end.
 fn alone(kind: TokenKind, end: usize) -> Lexeme

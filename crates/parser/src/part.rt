@@ -6,10 +6,10 @@ ghost use Rattle.parser.specs.Scanning.{part_at};
 use crate::glue::glue_of;
 use crate::letters::letter_len;
 use meaning::counts::{Chars, Offset};
-use characters::sequence::{Decoded, decode};
+use utf8::sequence::{Decoded, decode};
 
 // Where they end, and how many of them glue.
-#[derive(Drop)]
+#[derive(Clone, Copy)]
 pub struct Part {
     pub end: Offset,
     pub glues: Chars,

@@ -11,12 +11,12 @@ use crate::glue::{glue_len, glue_of};
 use crate::letters::skip_letters;
 use crate::marks::mark_len;
 use meaning::counts::{Chars, Offset};
-use characters::long::long_len;
-use characters::sequence::{Decoded, decode};
+use utf8::long::long_len;
+use utf8::sequence::{Decoded, decode};
 
 // Where a scan ended, the characters that it skipped, how many of them weigh, and the offset after the character that ended it.
 // No characters: nothing was found. It is no enum, since every reader asks for the number of characters anyway.
-#[derive(Drop)]
+#[derive(Clone, Copy)]
 pub struct Scanned {
     pub end: Offset,
     pub chars: Chars,

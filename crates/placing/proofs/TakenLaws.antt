@@ -6,14 +6,14 @@ use mathlib.Core.Path.{◌≡◌, sym, ap, ◌∙◌}
 use mathlib.Core.List.{List, [], ◌∷◌, ◌++◌}
 use lib.ListN.{length, take, drop, take-append-drop}
 use lib.Seq.{take-append-le}
-use Rattle.characters.specs.Scalar.{Scalars}
-use Rattle.characters.specs.Encoding.{size, encode_all}
-use Rattle.characters.specs.Decoding.{valid_prefix, decode_all}
-use Rattle.characters.specs.Places.{count_chars}
-use Rattle.characters.specs.Sizes.{size_is, size_append, take-encoded}
-use Rattle.characters.specs.Prefix.{encode-all_decode}
-use Rattle.characters.specs.Walk.{decode_all-scalars}
-use Rattle.characters.specs.Boundaries.{count-text}
+use Rattle.utf8.specs.Scalar.{Scalars}
+use Rattle.utf8.specs.Encoding.{size, encode_all}
+use Rattle.utf8.specs.Decoding.{valid_prefix, decode_all}
+use Rattle.utf8.specs.Places.{count_chars}
+use Rattle.utf8.specs.Sizes.{size_is, size_append, take-encoded}
+use Rattle.utf8.specs.Prefix.{encode-all_decode}
+use Rattle.utf8.specs.Walk.{decode_all-scalars}
+use Rattle.utf8.specs.Boundaries.{count-text}
 use Rattle.parser.specs.Lexing.{chars_from}
 use Rattle.steps.specs.Lexed.{chars-within}
 use Rattle.placing.specs.Taken.{Stretch}

@@ -4,7 +4,7 @@ use Rattle.std.specs.Prelude.{ℕ, ◌+◌, ◌*◌, ◌/◌, ◌≤◌, ◌&&�
 use Rattle.std.proofs.Math.Bool.{not}
 use Rattle.std.proofs.Common.{arith, length-append}
 use Rattle.basis.specs.Choice.{pick_cases}
-use Rattle.characters.specs.Encoding.{size}
+use Rattle.utf8.specs.Encoding.{size}
 use Rattle.meaning.specs.Tokens.{Tok, newLine, carriageReturn, tab, softHyphen, space, word, chars_of, size_of, need_of}
 use Rattle.meaning.specs.Cursor.{room_of, fits_in, has_moved, tab_width}
 use Rattle.meaning.specs.SpaceConfig.{spaces_width}

@@ -4,7 +4,7 @@ use Rattle.std.specs.Prelude.{ℕ, ◌+◌, ◌≤◌, max, ◌≡◌, Bool, tru
 use Rattle.std.proofs.Common.{arith, sym, ap, eq-eqb, ne_eqb, eqb-true}
 use Rattle.basis.specs.Choice.{pick, and_true}
 use Rattle.basis.specs.Order.{by_eq}
-use Rattle.characters.specs.Encoding.{size}
+use Rattle.utf8.specs.Encoding.{size}
 use Rattle.meaning.specs.Alignment.{spaces_of, plain_spaces, placed_left, place}
 use Rattle.meaning.specs.LineIter.{Ran, process}
 use Rattle.meaning.specs.Line.{unmeasured, measured, held_tokens, line_tokens, start_place, measuring, placing, line_of, lay_line, end_number, rest_of, entry_at}

@@ -7,13 +7,13 @@ use Rattle.std.proofs.Math.Path.{ap, subst}
 use native.Mathlib.Omega.{arith}
 use Rattle.std.proofs.Math.ListN.{length}
 use Rattle.basis.specs.Choice.{pick}
-use Rattle.characters.specs.Encoding.{bytes, encode, size}
-use Rattle.characters.specs.Sizes.{encode_cases, size_append}
-use Rattle.characters.specs.Decoding.{decode_at}
-use Rattle.characters.specs.RoundTrip.{encode_decode}
-use Rattle.characters.specs.Walk.{is_char, decode_at-bytes}
-use Rattle.characters.specs.declared.sequence.Decoded.{Decoded}
-use Rattle.characters.specs.declared.sequence.Decoded.TheVariants.{Char, Bad, End}
+use Rattle.utf8.specs.Encoding.{bytes, encode, size}
+use Rattle.utf8.specs.Sizes.{encode_cases, size_append}
+use Rattle.utf8.specs.Decoding.{decode_at}
+use Rattle.utf8.specs.RoundTrip.{encode_decode}
+use Rattle.utf8.specs.Walk.{is_char, decode_at-bytes}
+use Rattle.utf8.specs.declared.sequence.Decoded.{Decoded}
+use Rattle.utf8.specs.declared.sequence.Decoded.TheVariants.{Char, Bad, End}
 use Rattle.laws.specs.TokenLaws.{length-size}
 use Rattle.parser.specs.Lexing.{chars_from}
 use Rattle.parser.specs.ScanLaws.{chars-more, chars-none, char-room}

@@ -1,7 +1,7 @@
 -- A word, or what is left of it, from an offset on: the lines that it is cut into are found from its end and how many characters it has.
 -- Assumes nothing.
 use Rattle.std.specs.Prelude.{ℕ, ◌+◌, ◌≤◌, ◌<◌, ◌≡◌, List, ◌++◌, length}
-use Rattle.characters.specs.Encoding.{size}
+use Rattle.utf8.specs.Encoding.{size}
 use Rattle.meaning.specs.Characters.{in_word}
 use Rattle.meaning.specs.Tokens.{ender}
 use Rattle.meaning.specs.Words.{glues}

@@ -1,7 +1,7 @@
 -- What laying a line answers: the line that the characters at an offset of a text begin with, after a resumed rest.
 -- Assumes nothing.
 use Rattle.std.specs.Prelude.{ℕ, ◌+◌, List, take}
-use Rattle.characters.specs.Encoding.{size}
+use Rattle.utf8.specs.Encoding.{size}
 use Rattle.meaning.specs.LineIter.{Held}
 use Rattle.meaning.specs.Line.{Line, lay_line, entry_at}
 use Rattle.meaning.specs.declared.settings.Settings.{Settings}

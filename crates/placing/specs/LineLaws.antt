@@ -7,8 +7,8 @@ use Rattle.std.proofs.Common.{sym, subst, take-append-drop, take-add, ne_eqb}
 use Rattle.std.proofs.Math.ListN.{length}
 use Rattle.std.proofs.Math.Seq.{length-take-le}
 use Rattle.basis.specs.Choice.{pick, pick_cases}
-use Rattle.characters.specs.Encoding.{size}
-use Rattle.characters.specs.Sizes.{size_append}
+use Rattle.utf8.specs.Encoding.{size}
+use Rattle.utf8.specs.Sizes.{size_append}
 use Rattle.meaning.specs.Tokens.{Tok}
 use Rattle.meaning.specs.Alignment.{plain_spaces}
 use Rattle.meaning.specs.LineIter.{Held, process}

@@ -4,8 +4,8 @@ use Rattle.std.specs.Prelude.{ℕ, ◌+◌, ◌≤◌, ◌≡◌, refl, List, �
 use Rattle.std.proofs.Common.{arith, ◌∙◌, append_assoc, length-append, take-append-drop, length-take-le}
 use Rattle.std.proofs.Math.Path.{sym, ap}
 use Rattle.std.proofs.Math.Seq.{take-append_seam}
-use Rattle.characters.specs.Encoding.{size}
-use Rattle.characters.specs.Sizes.{size_append}
+use Rattle.utf8.specs.Encoding.{size}
+use Rattle.utf8.specs.Sizes.{size_append}
 use Rattle.meaning.specs.Tokens.{tokens}
 use Rattle.laws.specs.Spell.{text_of}
 use Rattle.laws.specs.TokenLaws.{chars-text, size-text, length-size}

@@ -29,7 +29,7 @@ use strides::waiting::ends_waiting;
 
 // The words of such a line: where they end, their characters with those of the spaces between them, how many of these are
 // spaces or glue, and the word that waits behind one more space, if one does. No characters: it is no such line.
-#[derive(Drop)]
+#[derive(Clone, Copy)]
 pub struct Counted {
     pub end: Offset,
     pub columns: Chars,
@@ -38,7 +38,7 @@ pub struct Counted {
 }
 
 // No such line; or how its passes end, and how many characters it takes.
-#[derive(Drop)]
+#[derive(Clone, Copy)]
 pub enum Quick {
     Not,
     Line(Ended, Chars),

@@ -3,7 +3,7 @@ ghost use Rattle.std.specs.Prelude.{◌≤◌, length};
 ghost use Rattle.placing.specs.Taken.{Stretch, Taken};
 
 use meaning::counts::{Chars, Offset};
-use characters::text::count_chars;
+use utf8::text::count_chars;
 
 // The characters from an offset up to another, at which one ends.
 pub fn chars_to(text: &[u8], at: usize, next: Offset) -> Chars

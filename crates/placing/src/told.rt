@@ -9,11 +9,11 @@ use meaning::line::LineEnd;
 use parser::ascii::{ends_at, space_at};
 use parser::glue::glue_len;
 use parser::letters::{first_len, skip_plain};
-use characters::long::long_len;
+use utf8::long::long_len;
 
 // Where the next line starts, the characters of the words that fit, how far was looked, and how the line ends. A start of 0: there is no
 // such line.
-#[derive(Drop)]
+#[derive(Clone, Copy)]
 pub struct ToldRow {
     pub next: Offset,
     pub columns: Chars,

@@ -10,8 +10,8 @@ use lib.ListN.{length, take, drop, length-take, take-append-drop}
 use lib.Seq.{take-take, take_all}
 use Rattle.basis.specs.Choice.{pick}
 use Rattle.basis.specs.Order.{by_le}
-use Rattle.characters.specs.Encoding.{size}
-use Rattle.characters.specs.Sizes.{size_append}
+use Rattle.utf8.specs.Encoding.{size}
+use Rattle.utf8.specs.Sizes.{size_append}
 use Rattle.meaning.specs.Words.{drawn}
 use Rattle.meaning.specs.declared.counts.Offset.{Offset}
 use Rattle.meaning.specs.declared.cursor.Place.{Place}

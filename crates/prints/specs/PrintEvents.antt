@@ -3,7 +3,7 @@
 use Rattle.std.specs.Prelude.{ℕ, ◌+◌, ◌*◌, ◌≡◌, refl, List, [], ◌∷◌, length, take}
 use Rattle.std.proofs.Common.{sym, ap, ◌∙◌, arith}
 use Rattle.basis.specs.Choice.{pick, by_test}
-use Rattle.characters.specs.Encoding.{size}
+use Rattle.utf8.specs.Encoding.{size}
 use Rattle.meaning.specs.Characters.{glue}
 use Rattle.meaning.specs.Words.{drawn, last, grow, stretches, glues, drawn_stretches, drawn_word}
 use Rattle.meaning.specs.declared.cursor.Spaces.{Spaces}

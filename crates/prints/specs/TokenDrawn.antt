@@ -2,7 +2,7 @@
 -- Assumes nothing.
 use Rattle.std.specs.Prelude.{ℕ, ◌+◌, ◌-◌, ◌*◌, ◌≤◌, ◌≡◌, Bool, true, false, List, [], ◌∷◌, eqb, length, take}
 use Rattle.basis.specs.Choice.{pick}
-use Rattle.characters.specs.Encoding.{size}
+use Rattle.utf8.specs.Encoding.{size}
 use Rattle.meaning.specs.Tokens.{tokens}
 use Rattle.meaning.specs.Words.{Drawn, drawn}
 use Rattle.meaning.specs.LineIter.{Step, go, stop, step}

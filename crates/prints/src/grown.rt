@@ -7,7 +7,7 @@ use meaning::line::Measure;
 use steps::step::Stepped;
 
 // Whether the token was taken whole, and the spaces and the width that it added.
-#[derive(Drop)]
+#[derive(Clone, Copy)]
 pub struct Grown {
     pub whole: bool,
     pub count: Chars,

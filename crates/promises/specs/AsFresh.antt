@@ -4,7 +4,7 @@ use Rattle.std.specs.Prelude.{ℕ, ◌≡◌, List}
 use Rattle.std.proofs.Math.Path.{sym, ap}
 use Rattle.std.proofs.Common.{◌∙◌}
 use contract.Lifetimes.{Lfts}
-use Rattle.characters.specs.Encoding.{encode_all}
+use Rattle.utf8.specs.Encoding.{encode_all}
 use Rattle.meaning.specs.Settings.{settings_of}
 use Rattle.meaning.specs.Calls.{layout_answer, layout_table}
 use Rattle.meaning.specs.Answers.{layoutNumber, layoutValue, relayNumber, relayValue}

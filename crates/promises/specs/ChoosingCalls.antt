@@ -4,8 +4,8 @@ use Rattle.std.specs.Prelude.{ℕ, ◌≤◌, ◌<◌, ◌≡◌, refl, true, ta
 use Rattle.std.proofs.Common.{◌∙◌, arith}
 use mathlib.Core.List.{List, [], ◌∷◌, ◌++◌}
 use Rattle.std.proofs.Math.ListN.{length}
-use Rattle.characters.specs.Decoding.{decode_all}
-use Rattle.characters.specs.Places.{boundary}
+use Rattle.utf8.specs.Decoding.{decode_all}
+use Rattle.utf8.specs.Places.{boundary}
 use Rattle.meaning.specs.Checks.{answered, check_limit, check_settings, check_length, check_utf8, check_text}
 use Rattle.meaning.specs.Layout.{layout}
 use Rattle.meaning.specs.Pages.{taken_bytes, left_out, pages_of}

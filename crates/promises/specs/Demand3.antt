@@ -5,7 +5,7 @@ use Rattle.std.specs.Prelude.{ℕ, ◌*◌, ◌≡◌, List, map, length, take, 
 use Rattle.std.proofs.Math.Path.{ap}
 use Rattle.std.proofs.Common.{◌∙◌}
 use contract.Lifetimes.{Lfts}
-use Rattle.characters.specs.Encoding.{encode_all}
+use Rattle.utf8.specs.Encoding.{encode_all}
 use Rattle.meaning.specs.Settings.{settings_of}
 use Rattle.meaning.specs.Checks.{check_settings}
 use Rattle.meaning.specs.Layout.{layout, entry_of_row}

@@ -6,11 +6,11 @@ use Rattle.std.proofs.Common.{arith, ap, ◌∙◌, subst, length-append, take_a
 use Rattle.std.proofs.Math.Path.{sym}
 use Rattle.std.proofs.lemmas.List.{length-map}
 use Rattle.std.proofs.Math.Seq.{drop-append_seam}
-use Rattle.characters.specs.Scalar.{Scalars}
-use Rattle.characters.specs.Encoding.{size, encode_all}
-use Rattle.characters.specs.Decoding.{decode_all}
-use Rattle.characters.specs.Sizes.{size_is, size_append}
-use Rattle.characters.specs.Walk.{decode_all-encode}
+use Rattle.utf8.specs.Scalar.{Scalars}
+use Rattle.utf8.specs.Encoding.{size, encode_all}
+use Rattle.utf8.specs.Decoding.{decode_all}
+use Rattle.utf8.specs.Sizes.{size_is, size_append}
+use Rattle.utf8.specs.Walk.{decode_all-encode}
 use Rattle.meaning.specs.Checks.{first_of, check_settings, check_length, check_utf8, check_room}
 use Rattle.meaning.specs.Layout.{layout, entry_of_row}
 use Rattle.meaning.specs.Table.{entry_numbers, of_entry, of_all, capacity_of, written, entries_in}

@@ -4,10 +4,10 @@ use Rattle.std.specs.Prelude.{ℕ, ◌+◌, ◌-◌, ◌≤◌, ◌≡◌, refl,
 use Rattle.std.proofs.Common.{arith, sym, ap, ◌∙◌, append_assoc, length-append, le-leb, eq-eqb}
 use Rattle.std.proofs.Math.Seq.{take-append_seam}
 use Rattle.basis.specs.Choice.{pick_true, and_both}
-use Rattle.characters.specs.Encoding.{size}
-use Rattle.characters.specs.Sizes.{size_append}
-use Rattle.characters.specs.Places.{boundary}
-use Rattle.characters.specs.Boundaries.{boundary-is}
+use Rattle.utf8.specs.Encoding.{size}
+use Rattle.utf8.specs.Sizes.{size_append}
+use Rattle.utf8.specs.Places.{boundary}
+use Rattle.utf8.specs.Boundaries.{boundary-is}
 use Rattle.meaning.specs.Layout.{layout}
 use Rattle.meaning.specs.WellFormed.{text_length}
 use Rattle.meaning.specs.Edit.{affected, in_order, new_length, check_whole, check_rest, check_order, part_fits, check_edit}

@@ -5,8 +5,8 @@ use Rattle.std.proofs.Common.{arith, ap, ◌∙◌, take-append-drop}
 use Rattle.std.proofs.Math.Path.{sym}
 use Rattle.std.proofs.Math.ListN.{take}
 use Rattle.std.proofs.Math.Seq.{take-append_seam}
-use Rattle.characters.specs.Encoding.{size, encode_all}
-use Rattle.characters.specs.Sizes.{size_append, drop-encoded}
+use Rattle.utf8.specs.Encoding.{size, encode_all}
+use Rattle.utf8.specs.Sizes.{size_append, drop-encoded}
 use Rattle.meaning.specs.Layout.{rows_by, layout, entry_of_row}
 use Rattle.meaning.specs.Edit.{unaffected, affected, chars_in, held_of, again, lines_again}
 use Rattle.meaning.specs.declared.settings.Settings.{Settings}

@@ -5,10 +5,10 @@ use Rattle.std.specs.Prelude.{ℕ, ◌*◌, ◌≤◌, ◌≡◌, refl, List}
 use Rattle.std.proofs.Common.{arith}
 use Rattle.std.proofs.Math.Path.{sym}
 use Rattle.std.proofs.Math.ListN.{length}
-use Rattle.characters.specs.Scalar.{Scalars}
-use Rattle.characters.specs.Encoding.{size, encode_all}
-use Rattle.characters.specs.Sizes.{size_is}
-use Rattle.characters.specs.Walk.{decode_all-encode}
+use Rattle.utf8.specs.Scalar.{Scalars}
+use Rattle.utf8.specs.Encoding.{size, encode_all}
+use Rattle.utf8.specs.Sizes.{size_is}
+use Rattle.utf8.specs.Walk.{decode_all-encode}
 use Rattle.meaning.specs.Checks.{first_of, answered, afterwards, check_settings}
 use Rattle.meaning.specs.Layout.{rows, layout}
 use Rattle.meaning.specs.Table.{entry_numbers, of_entry, of_all, written, entries_in}

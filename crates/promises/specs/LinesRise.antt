@@ -5,7 +5,7 @@
 use Rattle.std.specs.Prelude.{ℕ, suc, ◌≤◌, ◌≡◌, List, length}
 use Rattle.std.proofs.Common.{sym, ap, subst, ◌∙◌, arith}
 use contract.Lifetimes.{Lfts}
-use Rattle.characters.specs.Decoding.{decode_all}
+use Rattle.utf8.specs.Decoding.{decode_all}
 use Rattle.meaning.specs.Table.{entries_in}
 use Rattle.meaning.specs.Layout.{most_lines, layout}
 use Rattle.meaning.specs.Calls.{text_rows, text_entries}

@@ -5,7 +5,7 @@ use Rattle.std.specs.Prelude.{ℕ, ◌≡◌, List}
 use Rattle.std.proofs.Math.Path.{sym, ap}
 use Rattle.std.proofs.Common.{◌∙◌}
 use contract.Lifetimes.{Lfts}
-use Rattle.characters.specs.Decoding.{decode_all}
+use Rattle.utf8.specs.Decoding.{decode_all}
 use Rattle.meaning.specs.Settings.{settings_of}
 use Rattle.meaning.specs.Checks.{check_settings}
 use Rattle.meaning.specs.Calls.{text_rows, text_entries, text_events, check_layout, layout_answer, layout_table, check_drawing, drawing_answer, drawing_table, drawing_events}

@@ -4,7 +4,7 @@
 use Rattle.std.specs.Prelude.{ℕ, zero, suc, ◌*◌, ◌/◌, ◌≤◌, ◌<◌, ◌≡◌, refl, List, ◌∷◌, ◌++◌, map, length, take}
 use Rattle.std.proofs.Math.Path.{sym}
 use Rattle.std.proofs.Common.{ap, ◌∙◌, div-mul-le_self, arith, take-take}
-use Rattle.characters.specs.Encoding.{size, encode_all}
+use Rattle.utf8.specs.Encoding.{size, encode_all}
 use Rattle.meaning.specs.LineIter.{Held}
 use Rattle.meaning.specs.Line.{entry_at}
 use Rattle.meaning.specs.Checks.{first_of, afterwards, check_room}

@@ -5,7 +5,7 @@ use Rattle.std.specs.Prelude.{ℕ, ◌*◌, ◌≤◌, ◌≡◌, List, length, 
 use Rattle.std.proofs.Math.Path.{sym}
 use Rattle.std.proofs.Common.{ap, ◌∙◌}
 use contract.Lifetimes.{Lfts}
-use Rattle.characters.specs.Encoding.{encode_all}
+use Rattle.utf8.specs.Encoding.{encode_all}
 use Rattle.meaning.specs.Settings.{settings_of}
 use Rattle.meaning.specs.Layout.{layout}
 use Rattle.meaning.specs.Table.{of_all}

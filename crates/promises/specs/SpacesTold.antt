@@ -4,7 +4,7 @@
 use Rattle.std.specs.Prelude.{ℕ, List}
 use Rattle.std.proofs.Common.{sym, subst}
 use contract.Lifetimes.{Lfts}
-use Rattle.characters.specs.Decoding.{decode_all}
+use Rattle.utf8.specs.Decoding.{decode_all}
 use Rattle.meaning.specs.Table.{entries_in}
 use Rattle.meaning.specs.Layout.{layout}
 use Rattle.meaning.specs.Calls.{text_rows, text_entries}

@@ -5,7 +5,7 @@ use Rattle.std.proofs.Common.{arith, sym, ap, ◌∙◌}
 use Rattle.std.proofs.Math.Bool.{false≢true}
 use contract.Lifetimes.{Lfts}
 use Rattle.basis.specs.Choice.{pick}
-use Rattle.characters.specs.Decoding.{decode_all}
+use Rattle.utf8.specs.Decoding.{decode_all}
 use Rattle.meaning.specs.Settings.{settings_of}
 use Rattle.meaning.specs.Checks.{answered}
 use Rattle.meaning.specs.Layout.{layout}

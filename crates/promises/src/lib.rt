@@ -1,1 +1,2 @@
 // Promises about the contracts of the public calls. Nothing here runs.
+#![tactic(auto)]

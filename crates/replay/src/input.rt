@@ -6,14 +6,14 @@ use console::front::to_front;
 use libc::STDIN_FILENO;
 
 // What was read and not yet taken: the buffer's bytes from `at` up to `end`.
-#[derive(Drop)]
+#[derive(Clone, Copy)]
 pub struct Held {
     pub at: usize,
     pub end: usize,
 }
 
 // A line of the buffer, which starts at `start` and has its line feed at `stop`. What was read ends at `end`.
-#[derive(Drop)]
+#[derive(Clone, Copy)]
 pub struct Part {
     pub start: usize,
     pub stop: usize,
@@ -21,14 +21,14 @@ pub struct Part {
 }
 
 // What one read gave: bytes up to a place, or no more.
-#[derive(Drop)]
+#[derive(Clone, Copy)]
 pub enum Got {
     UpTo(usize),
     Nothing,
     Failed,
 }
 
-#[derive(Drop)]
+#[derive(Clone, Copy)]
 pub enum Line {
     Found(Part),
     Ended,

@@ -13,7 +13,7 @@ const TEXT: usize = SETTINGS + 1;
 // The most numbers of a line.
 const NUMBERS: usize = 4096;
 
-#[derive(Drop)]
+#[derive(Clone, Copy)]
 pub enum Verdict {
     Comment,
     Agrees,

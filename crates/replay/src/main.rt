@@ -4,6 +4,7 @@
 // A recording is text. A line that begins with '#' is a comment; every other line is a case, decimals with a space between any
 // two: glyph, width, tab, alignment, leading, a 0 for the retired setting; and four counts, each followed by what it counts: the text's bytes, its
 // tokens (kind, start, end, count), its lines (an entry's first eight numbers) and its events (six numbers).
+#![tactic(auto)]
 mod case;
 mod input;
 mod judge;

@@ -3,14 +3,14 @@ ghost use Rattle.std.specs.Prelude.{◌≡◌, length, take};
 ghost use Rattle.replay.specs.Numbers.{unbegun, fed_of, line_numbers};
 
 // What was read of a number: whether it has a digit yet, and its value so far.
-#[derive(Drop)]
+#[derive(Clone, Copy)]
 pub struct Number {
     pub begun: bool,
     pub value: u32,
 }
 
 // What the next byte makes of it.
-#[derive(Drop)]
+#[derive(Clone, Copy)]
 pub enum Fed {
     Grown(u32),
     Ended,

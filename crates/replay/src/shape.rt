@@ -6,20 +6,20 @@ use meaning::sizes::{EVENT_NUMBERS, TOKEN_NUMBERS};
 
 // The places of three counts: of the tokens, the lines and the events. The count of the text's bytes stands at 6, after the
 // settings. What is counted follows its count.
-#[derive(Drop)]
+#[derive(Clone, Copy)]
 pub struct Case {
     pub tokens: usize,
     pub lines: usize,
     pub events: usize,
 }
 
-#[derive(Drop)]
+#[derive(Clone, Copy)]
 pub enum Shape {
     Case(Case),
     Malformed,
 }
 
-#[derive(Drop)]
+#[derive(Clone, Copy)]
 pub enum Place {
     At(usize),
     Malformed,

@@ -5,14 +5,14 @@ ghost use Rattle.replay.specs.Tally.{agreed_of, differed_of, counted_of, Sound};
 use crate::judge::Verdict;
 
 // How many cases there were, how many differ, and which was the first of those.
-#[derive(Drop)]
+#[derive(Clone, Copy)]
 pub struct Tally {
     pub cases: u64,
     pub differ: u64,
     pub first: u64,
 }
 
-#[derive(Drop)]
+#[derive(Clone, Copy)]
 pub enum Counted {
     To(Tally),
     Malformed,

@@ -5,7 +5,7 @@ use Rattle.std.proofs.Common.{zero-add, arith, sym, subst, ◌∙◌}
 use Rattle.std.proofs.Math.Path.{refl, ap}
 use mathlib.Core.List.{List, [], ◌∷◌, map}
 use Rattle.std.proofs.Math.ListN.{length, drop, length-map}
-use Rattle.characters.specs.Encoding.{size}
+use Rattle.utf8.specs.Encoding.{size}
 use Rattle.meaning.specs.Checks.{text_limit}
 use Rattle.meaning.specs.Line.{Line, lay_line, entry_at}
 use Rattle.meaning.specs.Layout.{Row, row_at, unless_ended, rows_by, rows, entry_of_row}

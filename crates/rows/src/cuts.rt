@@ -14,7 +14,7 @@ use placing::plain::plain_entry;
 use table::entries::write_entry;
 
 // How many lines are in the table, where what is left of the word starts, and how many characters stand before that.
-#[derive(Drop)]
+#[derive(Clone, Copy)]
 pub struct CutTo {
     pub lines: usize,
     pub at: u32,

@@ -18,7 +18,7 @@ use steps::first::Known;
 use table::entries::write_entry;
 
 // How many lines are in the table, and where the next one is to be laid; or that none is left.
-#[derive(Drop)]
+#[derive(Clone, Copy)]
 pub struct Reached {
     pub lines: usize,
     pub stand: Stand,

@@ -17,7 +17,7 @@ use steps::ending::ends_before;
 use steps::step::{Ended, Resumed};
 
 // Not such a line, or it is not told; or how the pass ends.
-#[derive(Drop)]
+#[derive(Clone, Copy)]
 pub enum Hyphened {
     Not,
     Line(Ended),

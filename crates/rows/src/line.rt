@@ -26,7 +26,7 @@ use steps::step::{Ended, Resumed};
 
 // How a line's passes came out: where they placed it, how wide it is, how far the measuring looked, how the drawing ended and how many
 // characters it took. It is what goes through memory, so that a line of words, which has no pass, does not.
-#[derive(Drop)]
+#[derive(Clone, Copy)]
 pub struct Passes {
     pub placed: Placed,
     pub width: Pixels,

@@ -13,7 +13,7 @@ use steps::first::nothing_known;
 use table::entries::write_entry;
 
 // How many lines are in the table, where the next one starts, and the characters before it.
-#[derive(Drop)]
+#[derive(Clone, Copy)]
 pub struct Passed {
     pub lines: usize,
     pub at: Offset,

@@ -5,7 +5,7 @@ use steps::step::Resumed;
 
 // A line that is laid: its entry, whether it ends the text, where the next line starts, how many characters it took up to there
 // and what the next one resumes.
-#[derive(Drop)]
+#[derive(Clone, Copy)]
 pub struct LaidRow {
     pub entry: Entry,
     pub last: bool,

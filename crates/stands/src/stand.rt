@@ -13,7 +13,7 @@ use steps::first::{Known, known_from, nothing_known};
 use steps::step::Resumed;
 
 // Where a line is to be laid: its offset, the characters before it, the rest that it resumes, and a word that may be known there.
-#[derive(Drop)]
+#[derive(Clone, Copy)]
 pub struct Stand {
     pub at: Offset,
     pub before: Chars,

@@ -7,8 +7,8 @@ use mathlib.Core.Path.{◌≡◌, refl, sym}
 use mathlib.Core.List.{List, [], ◌∷◌}
 use lib.ListN.{length, take, drop, take-append-drop}
 use lib.Seq.{length-take-le}
-use Rattle.characters.specs.Encoding.{size}
-use Rattle.characters.specs.Sizes.{bytes_range}
+use Rattle.utf8.specs.Encoding.{size}
+use Rattle.utf8.specs.Sizes.{bytes_range}
 use Rattle.meaning.specs.Tokens.{ender, tokens, chars_of, size_of, ender_of, need_of}
 use Rattle.meaning.specs.Line.{held_tokens}
 use Rattle.laws.specs.TokenLaws.{length-size}

@@ -2,7 +2,7 @@
 -- Assumes nothing.
 use Rattle.std.specs.Prelude.{ℕ, ◌≡◌, List}
 use Rattle.std.proofs.Common.{arith, sym, ap, ◌∙◌}
-use Rattle.characters.specs.Encoding.{size}
+use Rattle.utf8.specs.Encoding.{size}
 use Rattle.meaning.specs.Tokens.{tokens}
 use Rattle.meaning.specs.declared.tokens.TokenKind.TheVariants.{Word}
 use Rattle.parser.specs.Lexing.{chars_from, lexed_at}

@@ -2,10 +2,10 @@
 -- Assumes nothing.
 use Rattle.std.specs.Prelude.{ℕ, ◌+◌, ◌-◌, ◌≤◌, ◌<◌, ◌≡◌, refl, List, [], ◌∷◌, ◌++◌, length, drop}
 use Rattle.std.proofs.Common.{arith, sym, ap, ◌∙◌, subst, length-drop, take_at}
-use Rattle.characters.specs.Encoding.{size}
-use Rattle.characters.specs.Sizes.{size_append}
-use Rattle.characters.specs.Decoding.{valid_prefix}
-use Rattle.characters.specs.Prefix.{prefix-within}
+use Rattle.utf8.specs.Encoding.{size}
+use Rattle.utf8.specs.Sizes.{size_append}
+use Rattle.utf8.specs.Decoding.{valid_prefix}
+use Rattle.utf8.specs.Prefix.{prefix-within}
 use Rattle.meaning.specs.Characters.{class_of}
 use Rattle.meaning.specs.Tokens.{Tok, newLine, carriageReturn, tab, softHyphen, space, word, first, others, tokens, chars_of, size_of, ender_of, need_of, kind_of, count_of}
 use Rattle.laws.specs.Spell.{text_of, SoundTok}

@@ -3,7 +3,7 @@
 use Rattle.std.specs.Prelude.{ℕ, zero, suc, ◌+◌, ◌≤◌, ◌≡◌, refl, List, [], ◌∷◌, ◌++◌, length, take, drop}
 use Rattle.std.proofs.Common.{arith, sym, subst, take-append-drop, length-take-le}
 use Rattle.std.proofs.Math.Path.{ap}
-use Rattle.characters.specs.Encoding.{size}
+use Rattle.utf8.specs.Encoding.{size}
 use Rattle.meaning.specs.Tokens.{Tok, space, ender, tokens, size_of, need_of}
 use Rattle.meaning.specs.Line.{held_tokens}
 use Rattle.laws.specs.Spell.{text_of, SoundTok}

@@ -8,7 +8,7 @@ use Rattle.std.proofs.Math.Nat.{mul-le-mul_left, div-mul-le_self, div-le_self}
 use Rattle.std.proofs.Common.{le-div_iff_mul-le, eqb-true, eq-eqb, ne_eqb, take-take}
 use native.Mathlib.Omega.{arith}
 use Rattle.basis.specs.Choice.{pick, pick_cases}
-use Rattle.characters.specs.Encoding.{size}
+use Rattle.utf8.specs.Encoding.{size}
 use Rattle.meaning.specs.Tokens.{space, chars_of, size_of, tokens}
 use Rattle.meaning.specs.Cursor.{room_of, fits_in, advance}
 use Rattle.meaning.specs.SpaceConfig.{spaces_width, spaces_after}

@@ -5,9 +5,9 @@ use Rattle.std.proofs.Common.{sym, ap, subst, ◌∙◌, add_assoc, add-zero, ar
 use Rattle.std.proofs.lemmas.List.{take-append-le}
 use Rattle.basis.specs.Choice.{pick, pick_cases}
 use Rattle.basis.specs.Order.{by_eq}
-use Rattle.characters.specs.Encoding.{size}
-use Rattle.characters.specs.Decoding.{decode_all, valid_prefix}
-use Rattle.characters.specs.Prefix.{prefix-within}
+use Rattle.utf8.specs.Encoding.{size}
+use Rattle.utf8.specs.Decoding.{decode_all, valid_prefix}
+use Rattle.utf8.specs.Prefix.{prefix-within}
 use Rattle.meaning.specs.Tokens.{Tok, newLine, carriageReturn, tab, softHyphen, space, word, tokens, chars_of, size_of, ender_of, need_of}
 use Rattle.meaning.specs.Words.{Drawn}
 use Rattle.meaning.specs.LineIter.{Held, nothing_held, Step, go, stop, step, Ran, pass_on, process}

@@ -8,7 +8,7 @@ use borrow.Author.Tests.{leb-true, eq-eqb, ne_eqb}
 use Rattle.std.proofs.Math.ListN.{length, take, length-take}
 use Rattle.std.proofs.Math.Seq.{length-take-le, take-length, take-take}
 use Rattle.basis.specs.Choice.{pick}
-use Rattle.characters.specs.Encoding.{size}
+use Rattle.utf8.specs.Encoding.{size}
 use Rattle.meaning.specs.Tokens.{word, ender, chars_of, size_of}
 use Rattle.meaning.specs.Cursor.{room_of, fits_in, has_moved}
 use Rattle.meaning.specs.Words.{glues}

@@ -19,7 +19,7 @@ use parser::lexer::token_at;
 use parser::scan::ender_at;
 
 // The token at an offset, which may be a word that goes on in the next line.
-#[derive(Drop)]
+#[derive(Clone, Copy)]
 pub struct Known {
     pub at: Offset,
     pub first: Lexed,

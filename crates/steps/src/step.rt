@@ -4,7 +4,7 @@ use meaning::cursor::Place;
 use meaning::line::{LineEnd, Measure};
 
 // What is left of a cut space run: where it ends, its characters and its count. No characters: nothing is left.
-#[derive(Drop)]
+#[derive(Clone, Copy)]
 pub struct Resumed {
     pub end: Offset,
     pub chars: Chars,
@@ -12,7 +12,7 @@ pub struct Resumed {
 }
 
 // How a pass ended: where the next line starts and what it resumes, what was measured, dropped and examined.
-#[derive(Drop)]
+#[derive(Clone, Copy)]
 pub struct Ended {
     pub ended: LineEnd,
     pub measure: Measure,
@@ -23,7 +23,7 @@ pub struct Ended {
 }
 
 // What a token does: the pass goes on from a place, having measured and looked so far; or it ends. A reach of 0 is none.
-#[derive(Drop)]
+#[derive(Clone, Copy)]
 pub enum Stepped {
     Go(Place, Measure, Offset),
     Stop(Ended),

@@ -6,7 +6,7 @@ use Rattle.std.proofs.Math.Path.{subst}
 use mathlib.Core.List.{List, [], ◌∷◌, ◌++◌}
 use native.Mathlib.Omega.{arith}
 use Rattle.basis.specs.Choice.{pick}
-use Rattle.characters.specs.Encoding.{bytes, size}
+use Rattle.utf8.specs.Encoding.{bytes, size}
 use Rattle.meaning.specs.Tokens.{Tok, newLine, carriageReturn, tab, softHyphen, space, word, ender, tokens, chars_of, size_of, need_of}
 use Rattle.meaning.specs.LineIter.{Step, go, stop, step, Ran, pass_on, process}
 use Rattle.meaning.specs.Line.{held_tokens, unmeasured}

@@ -14,14 +14,14 @@ use parser::ascii::plain_at;
 use steps::words::word_place;
 
 // A word that fits: where it ends, its characters, and the place after it.
-#[derive(Drop)]
+#[derive(Clone, Copy)]
 pub struct Begun {
     pub end: Offset,
     pub chars: Chars,
     pub place: Place,
 }
 
-#[derive(Drop)]
+#[derive(Clone, Copy)]
 pub enum First {
     None,
     Word(Begun),

@@ -9,14 +9,14 @@ use meaning::line::Measure;
 // A word behind one space that does not fit: where it starts, how far the space was looked at, and how far the word was.
 // A start of 0, which no word behind a space has: nothing waits. It is no enum, which was counted: drawing then takes half a
 // hundredth more.
-#[derive(Drop)]
+#[derive(Clone, Copy)]
 pub struct Waiting {
     pub next: Offset,
     pub looked: Offset,
     pub reach: Offset,
 }
 
-#[derive(Drop)]
+#[derive(Clone, Copy)]
 pub struct Going {
     pub place: Place,
     pub measure: Measure,

@@ -13,7 +13,7 @@ use parser::scan::{Scanned, scan_word};
 use steps::words::word_place;
 
 // The word behind a soft hyphen, and the place after it.
-#[derive(Drop)]
+#[derive(Clone, Copy)]
 pub enum Joined {
     None,
     Word(Scanned, Place),

@@ -16,7 +16,7 @@ use parser::scan::Scanned;
 
 // What is taken: where the word starts, the word, the space's width, what the space leaves of the extra pixels, and the place
 // after both.
-#[derive(Drop)]
+#[derive(Clone, Copy)]
 pub struct Taken {
     pub from: Offset,
     pub word: Scanned,
@@ -26,7 +26,7 @@ pub struct Taken {
 }
 
 // What comes next where a pass stands in a line that is not empty. Nothing: no such pair stands there, or it is not told.
-#[derive(Drop)]
+#[derive(Clone, Copy)]
 pub enum Next {
     Nothing,
     TooWide(Waiting),

@@ -10,7 +10,7 @@ use meaning::counts::{Chars, Offset};
 use meaning::edit::Edit;
 
 // The length of the edited whole; or the edit does not replace bytes of the text.
-#[derive(Drop)]
+#[derive(Clone, Copy)]
 pub enum Whole {
     Length(u64),
     OutOfPlace,
@@ -18,7 +18,7 @@ pub enum Whole {
 
 // How the old lines that follow an edit are moved: by that edit, and where there were `from` characters before the first of
 // them there are now `to`.
-#[derive(Drop)]
+#[derive(Clone, Copy)]
 pub struct Shift {
     pub edit: Edit,
     pub from: Chars,

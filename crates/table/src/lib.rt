@@ -1,4 +1,5 @@
 // Line tables and events as numbers: read, written, and lines moved by an edit.
+#![tactic(auto)]
 pub mod edited;
 pub mod entries;
 pub mod events;

@@ -9,8 +9,8 @@ use lib.ListN.{length}
 use lib.Seq.{sets, sets-eq}
 use borrow.Author.Tests.{lt-ltb, le-ltb}
 use Rattle.basis.specs.Choice.{pick}
-use Rattle.characters.specs.Decoding.{decode_all, valid_prefix}
-use Rattle.characters.specs.Prefix.{prefix-within}
+use Rattle.utf8.specs.Decoding.{decode_all, valid_prefix}
+use Rattle.utf8.specs.Prefix.{prefix-within}
 use Rattle.meaning.specs.Characters.{class_of}
 use Rattle.meaning.specs.Tokens.{Tok, size_of, others, tokens_by, tokens, ranged}
 use Rattle.meaning.specs.Table.{token_numbers, of_token, of_all, capacity_of, written}

@@ -10,7 +10,7 @@ ghost use Rattle.tokenizer.specs.Reading.{end_of, next_of, read_on};
 use parser::lexeme::Lexed;
 use parser::lexer::token_at;
 
-#[derive(Drop)]
+#[derive(Clone, Copy)]
 pub struct Reader<'a> {
     pub text: &'a [u8],
     pub at: usize,

@@ -6,7 +6,7 @@ use Rattle.std.proofs.Common.{subst, inl, arith}
 use Rattle.std.proofs.Math.Logic.{inr}
 use Rattle.std.proofs.Math.Bool.{not}
 use Rattle.basis.specs.Choice.{pick_cases}
-use Rattle.characters.specs.Encoding.{bytes, size}
+use Rattle.utf8.specs.Encoding.{bytes, size}
 use Rattle.meaning.specs.Tokens.{Tok, newLine, carriageReturn, tab, softHyphen, space, word, chars_of, size_of, need_of}
 use Rattle.meaning.specs.Cursor.{room_of, fits_in, advance, has_moved, tab_width}
 use Rattle.meaning.specs.SpaceConfig.{spaces_width, spaces_after}

@@ -3,7 +3,7 @@
 use Rattle.again.specs.Relaying.{Sought, kept-within, counts-low, no_room, movable, write_ready, relaid_whole}
 use native.Mathlib.Omega.{arith}
 use mathlib.Core.Path.{◌∙◌}
-use Rattle.characters.specs.Decoding.{decode_all}
+use Rattle.utf8.specs.Decoding.{decode_all}
 use Rattle.stands.specs.Stands.{StandsAt, text_front}
 use Rattle.again.specs.HeldRest.{resumed_of}
 use Rattle.look.specs.GoodTable.{table-room}

@@ -4,7 +4,7 @@ use mathlib.Core.Path.{◌≡◌, sym, ◌∙◌}
 use native.Mathlib.Omega.{arith}
 use borrow.Author.Rules.{rules}
 use lib.ListN.{length}
-use Rattle.characters.specs.Prefix.{prefix-within}
+use Rattle.utf8.specs.Prefix.{prefix-within}
 use Rattle.meaning.specs.Checks.{check_length}
 use Rattle.meaning.specs.declared.refusals.Checked.TheVariants.{Good}
 use Rattle.checks.specs.TextLaws.{length-within, refused-long, text-good, not-utf8}

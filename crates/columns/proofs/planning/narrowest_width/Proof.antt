@@ -5,7 +5,7 @@ use Prim.Native.Nat.{◌-◌}
 use mathlib.Core.Path.{◌≡◌, sym, ap, subst, ◌∙◌}
 use native.Mathlib.Omega.{arith}
 use borrow.Author.Rules.{rules}
-use Rattle.characters.specs.Decoding.{decode_all}
+use Rattle.utf8.specs.Decoding.{decode_all}
 use Rattle.meaning.specs.Columns.{fits_whole, with_width}
 use Rattle.meaning.specs.declared.settings.Settings.{Settings}
 use Rattle.columns.specs.OtherWidths.{ready_with}

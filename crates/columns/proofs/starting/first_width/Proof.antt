@@ -2,7 +2,7 @@
 -- Assumes nothing.
 use native.Mathlib.Nat.{div-mul-le_self}
 use native.Mathlib.Omega.{arith}
-use Rattle.characters.specs.Decoding.{decode_all}
+use Rattle.utf8.specs.Decoding.{decode_all}
 use Rattle.columns.specs.FirstWidth.{begins-past, begins-whole}
 use Rattle.columns.proofs.starting.first_width.Statement.{statement}
 use Rattle.columns.proofs.starting.first_width.Tie as tie

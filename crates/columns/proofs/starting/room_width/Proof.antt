@@ -3,7 +3,7 @@
 use Prim.Native.Nat.{◌-◌, ◌≤◌}
 use native.Mathlib.Omega.{arith}
 use borrow.Author.Rules.{rules}
-use Rattle.characters.specs.Decoding.{decode_all}
+use Rattle.utf8.specs.Decoding.{decode_all}
 use Rattle.columns.specs.FirstWidth.{NoneBelow, filled-below}
 use Rattle.columns.proofs.starting.room_width.Statement.{statement}
 use Rattle.columns.proofs.starting.room_width.Tie as tie

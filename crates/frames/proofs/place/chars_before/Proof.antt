@@ -8,9 +8,9 @@ use borrow.Author.Tests.{lt-leb}
 use lib.Dec.{leb}
 use lib.Seq.{length-take-le}
 use Rattle.basis.specs.Choice.{pick-false}
-use Rattle.characters.specs.Decoding.{decode_all}
-use Rattle.characters.specs.Encoding.{bytes}
-use Rattle.characters.specs.Sizes.{bytes_range}
+use Rattle.utf8.specs.Decoding.{decode_all}
+use Rattle.utf8.specs.Encoding.{bytes}
+use Rattle.utf8.specs.Sizes.{bytes_range}
 use Rattle.meaning.specs.Edit.{chars_in}
 use Rattle.laws.specs.PartChars.{cut-within, cut-count}
 use borrow.Author.Rules.{rules}

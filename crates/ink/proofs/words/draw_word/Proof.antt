@@ -2,7 +2,7 @@
 -- Assumes nothing.
 use mathlib.Core.Path.{◌≡◌, refl, sym, ap, ◌∙◌}
 use lib.ListN.{length, take}
-use Rattle.characters.specs.Walk.{is_char}
+use Rattle.utf8.specs.Walk.{is_char}
 use Rattle.parser.specs.Lexing.{chars_from}
 use Rattle.ink.specs.Stretching.{rest_on}
 use Rattle.ink.proofs.WordLoop.{next-none, next-zero, Going, going_first, going_fine, char-fits, going_on, going_ends, word_goal}

@@ -6,8 +6,8 @@ use mathlib.Core.List.{List}
 use Prim.Native.Nat.{ℕ, ◌+◌, ◌-◌, ◌≤◌, ◌<◌}
 use native.Mathlib.Omega.{arith}
 use lib.ListN.{length}
-use Rattle.characters.specs.Decoding.{decode_at}
-use Rattle.characters.specs.declared.sequence.Decoded.TheVariants.{Char}
+use Rattle.utf8.specs.Decoding.{decode_at}
+use Rattle.utf8.specs.declared.sequence.Decoded.TheVariants.{Char}
 use Rattle.meaning.specs.Tokens.{tokens}
 use Rattle.parser.specs.Lexing.{chars_from, lexed_at}
 use Rattle.parser.specs.Letters.{Letter}

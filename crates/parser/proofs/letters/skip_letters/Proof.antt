@@ -6,8 +6,8 @@ use Prim.Native.Nat.{ℕ, ◌+◌, ◌-◌, ◌≤◌}
 use native.Mathlib.Omega.{arith}
 use lib.ListN.{length}
 use borrow.Author.Rules.{rules}
-use Rattle.characters.specs.Walk.{decode_at-within}
-use Rattle.characters.specs.Long.{Long}
+use Rattle.utf8.specs.Walk.{decode_at-within}
+use Rattle.utf8.specs.Long.{Long}
 use Rattle.parser.specs.Letters.{GoesOn}
 use Rattle.parser.specs.LetterLaws.{letter-long, goes_none, goes_on_lem, goes-letter}
 use Rattle.parser.proofs.letters.skip_letters.Statement.{statement}

@@ -4,8 +4,8 @@ use Prim.Native.Nat.{◌+◌, ◌-◌, ◌≤◌}
 use native.Mathlib.Omega.{arith}
 use lib.ListN.{length}
 use borrow.Author.Rules.{rules}
-use Rattle.characters.specs.Walk.{decode_at-within}
-use Rattle.characters.specs.Long.{Long}
+use Rattle.utf8.specs.Walk.{decode_at-within}
+use Rattle.utf8.specs.Long.{Long}
 use Rattle.parser.specs.Letters.{GoesOn}
 use Rattle.parser.specs.LetterLaws.{letter-long, goes_none, goes-letter}
 use Rattle.parser.proofs.letters.skip_wide.Statement.{statement}

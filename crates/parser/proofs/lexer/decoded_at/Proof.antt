@@ -2,7 +2,7 @@
 -- Assumes nothing.
 use mathlib.Core.Path.{sym, ap, ◌∙◌}
 use borrow.Author.Rules.{rules}
-use Rattle.characters.specs.Walk.{is_char, decode_at-bytes}
+use Rattle.utf8.specs.Walk.{is_char, decode_at-bytes}
 use Rattle.parser.specs.ScanLaws.{char-room}
 use Rattle.parser.specs.LexerLaws.{lexed-char, lexed-none}
 use Rattle.parser.proofs.lexer.decoded_at.Statement.{statement}

@@ -5,8 +5,8 @@ use Prim.Native.Nat.{◌+◌, ◌≤◌, ◌<◌}
 use native.Mathlib.Omega.{arith}
 use lib.ListN.{length}
 use borrow.Author.Rules.{rules}
-use Rattle.characters.specs.Walk.{decode_at-within}
-use Rattle.characters.specs.Long.{Long}
+use Rattle.utf8.specs.Walk.{decode_at-within}
+use Rattle.utf8.specs.Long.{Long}
 use Rattle.meaning.specs.declared.tokens.TokenKind.{TokenKind}
 use Rattle.parser.specs.Scanning.{alone_at, word_of, blank_of}
 use Rattle.parser.specs.declared.lexeme.Lexed.TheVariants.{Token}

@@ -1,7 +1,7 @@
 -- `parser::scan::ender_at` meets its contract (rule 2).
 -- Assumes nothing.
 use mathlib.Core.Path.{sym, ap, ◌∙◌}
-use Rattle.characters.specs.Walk.{is_char}
+use Rattle.utf8.specs.Walk.{is_char}
 use Rattle.parser.specs.ScanLaws.{ender-char, ender-none}
 use borrow.Author.Rules.{rules}
 use Rattle.parser.proofs.scan.ender_at.Statement.{statement}

@@ -8,10 +8,10 @@ use native.Mathlib.Omega.{arith}
 use lib.ListN.{length}
 use borrow.Author.Rules.{rules}
 use borrow.Author.Tests.{not-true, not-false}
-use Rattle.characters.specs.Decoding.{decode_at}
-use Rattle.characters.specs.Walk.{is_char}
-use Rattle.characters.specs.Long.{Long}
-use Rattle.characters.specs.declared.sequence.Decoded.TheVariants.{Char}
+use Rattle.utf8.specs.Decoding.{decode_at}
+use Rattle.utf8.specs.Walk.{is_char}
+use Rattle.utf8.specs.Long.{Long}
+use Rattle.utf8.specs.declared.sequence.Decoded.TheVariants.{Char}
 use Rattle.meaning.specs.Characters.{in_run}
 use Rattle.parser.specs.Lexing.{chars_from}
 use Rattle.parser.specs.Scanning.{space_of, scan_from}

@@ -1,0 +1,14 @@
+-- `utf8::sequence::between` meets its contract (refusal 4).
+-- Assumes nothing.
+use borrow.Author.Tests.{le-leb, lt-leb}
+use Rattle.utf8.proofs.sequence.between.Statement.{statement}
+use Rattle.utf8.proofs.sequence.between.Tie as tie
+
+returns : tie.Need-returns
+returns c = simp (le-leb _ _ c.if1.true)
+
+returns-2 : tie.Need-returns-2
+returns-2 c = simp (lt-leb _ _ c.if1.false)
+
+pub between-spec : {M : Type 1} → statement M
+between-spec = tie.close (tie.spec returns returns-2)
