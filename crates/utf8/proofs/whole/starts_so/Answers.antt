@@ -1,0 +1,7 @@
+-- `utf8::whole::starts_so` meets its contract (refusal 4).
+use Rattle.std.proofs.Common.{◌&&◌}
+use Rattle.utf8.proofs.whole.starts_so.Goals as goal
+
+pub returns : goal.returns
+returns c =
+    λ i. c.follows.ensures i && c.follows-2.ensures i
