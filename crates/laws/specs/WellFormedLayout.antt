@@ -2,7 +2,7 @@
 -- Assumes nothing.
 use Rattle.std.specs.Prelude.{ℕ, suc, ◌+◌, ◌-◌, ◌≤◌, ◌<◌, ◌≡◌, true, length, take, drop}
 use Rattle.std.proofs.Math.Path.{refl}
-use Rattle.std.proofs.Common.{◌∙◌, take-append-drop, take-add}
+use Rattle.std.proofs.Common.{◌∙◌, subst, take-append-drop, take-add}
 use mathlib.Core.List.{List, [], ◌∷◌, map}
 use Rattle.std.proofs.Math.Nat.{zero-add}
 use native.Mathlib.Omega.{arith}
@@ -139,7 +139,7 @@ module _ (s : Settings) where
         pick_true _ _ _
         (entry-good start before h cs laid b (map entry_of_row (r ∷ rs)) f p (ending-more laid.ended r.entry (map entry_of_row rs) d)
         (line-reach-high s h cs f.0 f.1))
-        ∙ rw next-size at (more (suc k) (line start (start + laid.reach) before) (next-follows d (no_more b start before h cs p)))
+        ∙ subst (λ (t : ℕ). check_lines t (suc k) (line start (start + laid.reach) before) (map entry_of_row (r ∷ rs)) ≡ Good) next-size (more (suc k) (line start (start + laid.reach) before) (next-follows d (no_more b start before h cs p)))
 
     last_reaches : laid.ended ≡ EndOfText → Reaches start before h cs (row_at start before h cs laid ∷ [])
     unfolding row_at entry_at last_reach

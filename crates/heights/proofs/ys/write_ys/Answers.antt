@@ -1,0 +1,77 @@
+use Rattle.std.proofs.Common.{◌+◌, ◌*◌, ◌≤◌, refl, sym, ◌∙◌, arith, pos, length, get_or, length-set}
+use lib.Signed.{mag}
+use Rattle.meaning.specs.Table.{entry_numbers, entries_in}
+use Rattle.heights.specs.GoodSettings.{Measures}
+use Rattle.heights.specs.Heights.{end-small}
+use Rattle.heights.specs.GoodHeight.{height-measures, few-held, little_added, height-small}
+use Rattle.heights.proofs.Upright.{first-near, y-fits, y-is, y-parts}
+use Rattle.heights.proofs.Signs.{fits}
+use Rattle.heights.proofs.YsTurns.{y-written, all-written, added-on}
+use Rattle.heights.proofs.ys.write_ys.Goals as goal
+
+pub returns-then-lines-from : goal.returns-then-lines-from
+returns-then-lines-from c =
+    sym (all-written c.args.s c.args.table.now c.args.lines c.args.from c.args.index.now c.if-lines-from.true)
+
+pub added_before-added-requires : goal.added_before-added-requires
+added_before-added-requires c =
+    few-held c.args.s c.args.table.now c.args.lines c.requires.0 c.args.from (omega arith)
+
+pub loop-k-init : goal.loop-k-init
+loop-k-init c =
+    (refl, refl, c.added_before-added.ensures, omega arith)
+
+pub overflow_cast-y : goal.overflow_cast-y
+overflow_cast-y c =
+    fits (pos c.loop-k.added) (omega (arith, (let added-near_here : c.loop-k.added ≤ 600000000 = omega (arith, c.loop-k.invariant.2, little_added c.args.s c.args.table.now c.args.lines c.requires.0 c.loop-k.k (omega arith)) in added-near_here)))
+
+pub overflow_add-y : goal.overflow_add-y
+overflow_add-y c =
+    y-fits c.first_y-first.result c.loop-k.added ((let first-far_here : mag c.first_y-first.result ≤ 600004097 = rw c.first_y-first.ensures
+    (first-near c.args.s (entries_in c.args.lines c.args.table.now) (height-measures c.args.s c.args.table.now c.args.lines c.requires.0)
+    (height-small c.args.s c.args.table.now c.args.lines c.requires.0)) in first-far_here)) ((let added-near_here : c.loop-k.added ≤ 600000000 = omega (arith, c.loop-k.invariant.2, little_added c.args.s c.args.table.now c.args.lines c.requires.0 c.loop-k.k (omega arith)) in added-near_here))
+
+pub overflow_mul-k : goal.overflow_mul-k
+overflow_mul-k c =
+    omega (arith, (let held_here : Measures c.args.s × (c.args.lines ≤ 65536) × (entry_numbers * c.args.lines ≤ length c.args.table.now) = few-held c.args.s c.args.table.now c.args.lines c.requires.0 c.args.lines (omega arith) in held_here))
+
+pub overflow_add-k : goal.overflow_add-k
+overflow_add-k c =
+    omega (arith, (let held_here : Measures c.args.s × (c.args.lines ≤ 65536) × (entry_numbers * c.args.lines ≤ length c.args.table.now) = few-held c.args.s c.args.table.now c.args.lines c.requires.0 c.args.lines (omega arith) in held_here))
+
+pub offset_bounds-table-k : goal.offset_bounds-table-k
+offset_bounds-table-k c =
+    omega (arith, (let held_here : Measures c.args.s × (c.args.lines ≤ 65536) × (entry_numbers * c.args.lines ≤ length c.args.table.now) = few-held c.args.s c.args.table.now c.args.lines c.requires.0 c.args.lines (omega arith) in held_here))
+
+pub bounds-table-k : goal.bounds-table-k
+bounds-table-k c =
+    omega (arith, (let held_here : Measures c.args.s × (c.args.lines ≤ 65536) × (entry_numbers * c.args.lines ≤ length c.args.table.now) = few-held c.args.s c.args.table.now c.args.lines c.requires.0 c.args.lines (omega arith) in held_here))
+
+pub end_adds-added-requires : goal.end_adds-added-requires
+end_adds-added-requires c =
+    ((let held_here : Measures c.args.s × (c.args.lines ≤ 65536) × (entry_numbers * c.args.lines ≤ length c.args.table.now) = few-held c.args.s c.args.table.now c.args.lines c.requires.0 c.args.lines (omega arith) in held_here)).0
+
+pub overflow_add-added : goal.overflow_add-added
+overflow_add-added c =
+    record {
+    fits = omega (arith, (let added-near_here : c.loop-k.added ≤ 600000000 = omega (arith, c.loop-k.invariant.2, little_added c.args.s c.args.table.now c.args.lines c.requires.0 c.loop-k.k (omega arith)) in added-near_here), c.end_adds-added.ensures, end-small c.args.s ((let held_here : Measures c.args.s × (c.args.lines ≤ 65536) × (entry_numbers * c.args.lines ≤ length c.args.table.now) = few-held c.args.s c.args.table.now c.args.lines c.requires.0 c.args.lines (omega arith) in held_here)).0 (get_or c.args.table.now (entry_numbers * c.loop-k.k + 3) 0));
+    }
+
+pub loop-k-preserved : goal.loop-k-preserved
+loop-k-preserved c =
+    let y =
+    y-is c.first_y-first.result c.loop-k.added ((let first-far_here : mag c.first_y-first.result ≤ 600004097 = rw c.first_y-first.ensures
+    (first-near c.args.s (entries_in c.args.lines c.args.table.now) (height-measures c.args.s c.args.table.now c.args.lines c.requires.0)
+    (height-small c.args.s c.args.table.now c.args.lines c.requires.0)) in first-far_here)) ((let added-near_here : c.loop-k.added ≤ 600000000 = omega (arith, c.loop-k.invariant.2, little_added c.args.s c.args.table.now c.args.lines c.requires.0 c.loop-k.k (omega arith)) in added-near_here))
+    ∙ y-parts c.args.s c.args.table.now c.args.lines c.loop-k.k c.loop-k.added c.first_y-first.result (omega arith) c.first_y-first.ensures
+    c.loop-k.invariant.2
+    in (
+    sym (y-written c.args.s c.args.table.now c.args.lines c.loop-k.k c.loop-k.index c.loop-k-test.true (omega arith) _ y) ∙ c.loop-k.invariant.0,
+    simp length-set c.loop-k.invariant.1,
+    omega (arith, c.loop-k.invariant.2, c.end_adds-added.ensures, added-on c.args.s c.args.table.now c.loop-k.k),
+    omega arith,
+    )
+
+pub returns : goal.returns
+returns c =
+    sym (all-written c.args.s c.args.table.now c.args.lines c.loop-k.k c.loop-k.index c.loop-k-test.false) ∙ c.loop-k.invariant.0

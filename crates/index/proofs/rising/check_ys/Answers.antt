@@ -1,0 +1,30 @@
+use Rattle.std.proofs.Common.{◌-◌, sym, ◌∙◌, arith}
+use Rattle.laws.specs.Indexes.{y_at}
+use Rattle.index.proofs.InOrder.{order-start, order-on, order_bad, order-end}
+use Rattle.index.proofs.ReadYs.{read_lower}
+use Rattle.index.proofs.rising.check_ys.Goals as goal
+
+pub loop-k-init : goal.loop-k-init
+loop-k-init c =
+    (order-start c.args.index.now, omega arith)
+
+pub returns-then-index-k : goal.returns-then-index-k
+returns-then-index-k c =
+    sym
+    (order_bad c.args.index.now c.loop-k.k c.loop-k-test.true
+    (read_lower (y_at c.args.index.now c.loop-k.k) (y_at c.args.index.now (c.loop-k.k - 1)) _ (record { sfits = c.t6-1.given }) (record { sfits = c.t10-1.given }) c.if-index-k.true))
+    ∙ c.loop-k.invariant.0
+
+pub loop-k-preserved : goal.loop-k-preserved
+loop-k-preserved c =
+    (
+    sym
+    (order-on c.args.index.now c.loop-k.k c.loop-k-test.true
+    (read_lower (y_at c.args.index.now c.loop-k.k) (y_at c.args.index.now (c.loop-k.k - 1)) _ (record { sfits = c.t6-1.given }) (record { sfits = c.t10-1.given }) c.if-index-k.false))
+    ∙ c.loop-k.invariant.0,
+    omega arith,
+    )
+
+pub returns : goal.returns
+returns c =
+    sym (order-end c.args.index.now c.loop-k.k c.loop-k-test.false) ∙ c.loop-k.invariant.0

@@ -1,0 +1,29 @@
+-- `layout::cuts::draw_long` meets its contract (rule 8, rule 10, rule 13).
+use Rattle.std.proofs.Common.{arith}
+use Rattle.rows.specs.Going.{went_nowhere}
+use Rattle.layout.specs.DrawGoing.{drew_nowhere}
+use Rattle.layout.proofs.cuts.draw_long.Goals as goal
+
+pub long_word-word-requires : goal.long_word-word-requires
+long_word-word-requires c =
+    (c.requires.stand_ready.0.line.short, c.requires.stand_ready.0.line.inside)
+
+pub returns-then-word-eq0 : goal.returns-then-word-eq0
+returns-then-word-eq0 c =
+    record { went = went_nowhere _ _ _ _ _ c.requires.stand_ready.0; drew_to = drew_nowhere _ _ _ _ _ }
+
+pub draw_cuts-requires : goal.draw_cuts-requires
+draw_cuts-requires c =
+    (c.requires.stand_ready, ((c.requires.room_from.0, c.long_word-word.ensures (omega (arith, c.if-word-eq0.false))), c.requires.room_from.1))
+
+pub shape_of-table : goal.shape_of-table
+shape_of-table c =
+    c.draw_cuts.ensures.went.same
+
+pub shape_of-events : goal.shape_of-events
+shape_of-events c =
+    c.draw_cuts.ensures.drew_to.0.same
+
+pub returns : goal.returns
+returns c =
+    record { went = c.draw_cuts.ensures.went; drew_to = c.draw_cuts.ensures.drew_to.0 }

@@ -1,0 +1,46 @@
+-- `layout::found::draw_known` meets its contract (rule 8, rule 10, rule 13).
+use Rattle.std.proofs.Common.{refl, arith}
+use Rattle.rows.specs.Going.{went_nowhere, reaches_on}
+use Rattle.rows.specs.Found.{ready-here, room-here, reaches_here}
+use Rattle.layout.specs.DrawGoing.{drew_nowhere}
+use Rattle.layout.specs.DrawFound.{draws-on, few-here, draws-here}
+use Rattle.layout.proofs.found.draw_known.Goals as goal
+
+pub long_known-word-requires : goal.long_known-word-requires
+long_known-word-requires c =
+    c.requires.stand_ready.0.known
+
+pub returns-then-word-eq0 : goal.returns-then-word-eq0
+returns-then-word-eq0 c =
+    record { reaches = reaches_on _ _ _ _ _ _ _ _ (went_nowhere _ _ _ _ _ c.requires.stand_ready.0); draw_reaches = draws-on _ _ _ _ _ _ _ _ (drew_nowhere _ _ _ _ _) }
+
+pub draw_cuts-far-requires : goal.draw_cuts-far-requires
+draw_cuts-far-requires c =
+    (
+    (ready-here c.args.s c.args.text.now c.args.stand c.requires.stand_ready.0 c.requires.chars_value, c.requires.stand_ready.3, refl),
+    (
+    (
+    room-here c.args.s c.args.text.now c.args.stand c.requires.stand_ready.0 c.requires.chars_value c.args.table.now c.args.lines c.requires.stand_ready.1,
+    c.long_known-word.ensures (omega (arith, c.if-word-eq0.false)),
+    ),
+    few-here c.args.s c.args.text.now c.args.stand c.requires.stand_ready.0 c.requires.chars_value c.args.drawn c.requires.stand_ready.2,
+    ),
+    )
+
+pub shape_of-table : goal.shape_of-table
+shape_of-table c =
+    c.draw_cuts-far.ensures.went.same
+
+pub shape_of-events : goal.shape_of-events
+shape_of-events c =
+    c.draw_cuts-far.ensures.drew_to.0.same
+
+pub returns : goal.returns
+returns c =
+    record { reaches = (rw c.drawn_at.ensures (
+    reaches_here _ _ _ c.requires.stand_ready.0 c.requires.chars_value _ _ _ _ _ _ (reaches_on _ _ _ _ _ _ _ _ c.draw_cuts-far.ensures.went),
+    draws-here _ _ _ c.requires.stand_ready.0 c.requires.chars_value _ _ _ _ _ _ (draws-on _ _ _ _ _ _ _ _ c.draw_cuts-far.ensures.drew_to.0),
+    )).0; draw_reaches = (rw c.drawn_at.ensures (
+    reaches_here _ _ _ c.requires.stand_ready.0 c.requires.chars_value _ _ _ _ _ _ (reaches_on _ _ _ _ _ _ _ _ c.draw_cuts-far.ensures.went),
+    draws-here _ _ _ c.requires.stand_ready.0 c.requires.chars_value _ _ _ _ _ _ (draws-on _ _ _ _ _ _ _ _ c.draw_cuts-far.ensures.drew_to.0),
+    )).1 }

@@ -1,0 +1,13 @@
+-- `layout::found::draw_told_lines` meets its contract. The invariants: what is still to be written, and to be drawn, stays the same
+-- (rule 10, rule 13).
+use Rattle.std.proofs.Common.{◌-◌, length}
+use Rattle.rows.specs.Going.{Went}
+use Rattle.rows.specs.Found.{plain_stand}
+use Rattle.layout.specs.DrawGoing.{DrewTo}
+use Rattle.layout.proofs.found.draw_told_lines.Given as goal
+
+abbrev pub invariant-loop-at : goal.invariant-loop-at
+invariant-loop-at l = Went l.s l.text l.initial.table l.initial.n (plain_stand l.initial.at l.initial.before) l.table l.n (plain_stand l.at l.before) × DrewTo l.s l.text l.initial.events l.initial.k (plain_stand l.initial.at l.initial.before) l.events l.k (plain_stand l.at l.before)
+
+abbrev pub decreases-loop-at : goal.decreases-loop-at
+decreases-loop-at l = length l.text - l.at

@@ -1,0 +1,13 @@
+-- `moves::place::skips_space` meets its contract (rule 8).
+use Rattle.meaning.specs.LineIter.{skips}
+use Rattle.moves.proofs.place.skips_space.Goals as goal
+
+pub returns-then-p : goal.returns-then-p
+unfolding skips
+returns-then-p c =
+    rw c.if-p.true
+
+pub returns : goal.returns
+unfolding skips
+returns c =
+    rw c.if-p.false

@@ -1,0 +1,10 @@
+-- `parser::letters::skip_letters` meets its contract (rule 2).
+use Rattle.std.proofs.Common.{◌-◌, ◌≤◌, length}
+use Rattle.parser.specs.Letters.{GoesOn}
+use Rattle.parser.proofs.letters.skip_letters.Given as goal
+
+abbrev pub invariant-loop-from : goal.invariant-loop-from
+invariant-loop-from l = GoesOn l.text l.from l.at l.skipped 0 × (l.at ≤ length l.text)
+
+abbrev pub decreases-loop-from : goal.decreases-loop-from
+decreases-loop-from l = length l.text - l.at

@@ -1,0 +1,56 @@
+use Rattle.std.proofs.Common.{◌≤◌, div-le_self, arith}
+use Rattle.parser.specs.Scanning.{word_of}
+use Rattle.pairs.specs.Pairs.{PairAt}
+use Rattle.placing.specs.Quick.{Counts}
+use Rattle.placing.proofs.CountingLaws.{pair-within, counting_more, counting-ends, counting-waits}
+use Rattle.placing.proofs.counting.count_on.Goals as goal
+
+pub loop-pair-init : goal.loop-pair-init
+loop-pair-init c =
+    c.requires.2
+
+pub overflow_cast-end : goal.overflow_cast-end
+overflow_cast-end c =
+    let r = ((let so_far_here : Counts c.args.s c.args.text.now c.args.at c.loop-pair.end c.loop-pair.columns c.loop-pair.spaces = c.loop-pair.invariant.counts _ c.requires.0 c.requires.1 in so_far_here)).plain.ready in
+    record { fits = omega (arith, r.inside, c.requires.0.short) }
+
+pub told_pair-pair-requires : goal.told_pair-pair-requires
+told_pair-pair-requires c =
+    c.requires.0.short
+
+pub returns-then-next-eq0 : goal.returns-then-next-eq0
+returns-then-next-eq0 c =
+    counting-ends c.requires.0 c.requires.1 c.loop-pair.invariant _ _ c.nothing_waits.ensures c.counted_at.ensures
+
+pub overflow_sub-most : goal.overflow_sub-most
+overflow_sub-most c =
+    c.loop-pair.invariant.fits
+
+pub returns-then-most-columns : goal.returns-then-most-columns
+returns-then-most-columns c =
+    counting-waits c.requires.0 c.requires.1 c.loop-pair.invariant _ _ c.told_pair-pair.result.word ((let found_here : PairAt c.args.text.now c.loop-pair.end c.told_pair-pair.result.from.0 c.told_pair-pair.result.looked.0 (word_of c.told_pair-pair.result.word) = c.told_pair-pair.ensures (omega (arith, c.if-next-eq0.false)) in found_here)) (omega (arith, c.if-most-columns.true)) _ c.counted_at-then-most-columns.ensures
+
+pub overflow_add-columns : goal.overflow_add-columns
+overflow_add-columns c =
+    record { fits = omega (arith, c.if-most-columns.false, (let few_here : c.args.most ≤ 4096 = omega (arith, div-le_self c.args.s.width.0 c.args.s.glyph.0, c.requires.0.settings.2, c.requires.1) in few_here)) }
+
+pub overflow_add-columns-in-loop-pair : goal.overflow_add-columns-in-loop-pair
+overflow_add-columns-in-loop-pair c =
+    record { fits = omega (arith, c.if-most-columns.false, (let few_here : c.args.most ≤ 4096 = omega (arith, div-le_self c.args.s.width.0 c.args.s.glyph.0, c.requires.0.settings.2, c.requires.1) in few_here)) }
+
+pub overflow_add-spaces : goal.overflow_add-spaces
+overflow_add-spaces c =
+    record { fits = omega (arith, pair-within _ ((let found_here : PairAt c.args.text.now c.loop-pair.end c.told_pair-pair.result.from.0 c.told_pair-pair.result.looked.0 (word_of c.told_pair-pair.result.word) = c.told_pair-pair.ensures (omega (arith, c.if-next-eq0.false)) in found_here)), c.requires.0.short) }
+
+pub overflow_add-spaces-in-loop-pair : goal.overflow_add-spaces-in-loop-pair
+overflow_add-spaces-in-loop-pair c =
+    let r = ((let so_far_here : Counts c.args.s c.args.text.now c.args.at c.loop-pair.end c.loop-pair.columns c.loop-pair.spaces = c.loop-pair.invariant.counts _ c.requires.0 c.requires.1 in so_far_here)).plain.ready in
+    record { fits = omega (arith, pair-within _ ((let found_here : PairAt c.args.text.now c.loop-pair.end c.told_pair-pair.result.from.0 c.told_pair-pair.result.looked.0 (word_of c.told_pair-pair.result.word) = c.told_pair-pair.ensures (omega (arith, c.if-next-eq0.false)) in found_here)), r.small, r.inside, c.requires.0.short) }
+
+pub loop-pair-smaller : goal.loop-pair-smaller
+loop-pair-smaller c =
+    omega (arith, pair-within _ ((let found_here : PairAt c.args.text.now c.loop-pair.end c.told_pair-pair.result.from.0 c.told_pair-pair.result.looked.0 (word_of c.told_pair-pair.result.word) = c.told_pair-pair.ensures (omega (arith, c.if-next-eq0.false)) in found_here)))
+
+pub loop-pair-preserved : goal.loop-pair-preserved
+loop-pair-preserved c =
+    counting_more c.told_pair-pair.result.word ((let found_here : PairAt c.args.text.now c.loop-pair.end c.told_pair-pair.result.from.0 c.told_pair-pair.result.looked.0 (word_of c.told_pair-pair.result.word) = c.told_pair-pair.ensures (omega (arith, c.if-next-eq0.false)) in found_here)) c.loop-pair.invariant (omega (arith, c.if-most-columns.false))

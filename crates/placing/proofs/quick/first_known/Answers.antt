@@ -1,0 +1,12 @@
+-- `placing::quick::first_known` meets its contract (rule 8, rule 10).
+use Rattle.pairs.specs.WithinLaws.{first-kept}
+use Rattle.steps.specs.Knowing.{known-stands}
+use Rattle.placing.proofs.quick.first_known.Goals as goal
+
+pub returns-in-Word : goal.returns-in-Word
+returns-in-Word c =
+    first-kept _ _ _ c.in-Token.x (known-stands _ _ c.args.known c.in-Token.x c.requires.2 c.if-known-at.true c.in-Token.is c.in-Word.is) c.in-Word.is _ c.kept_within.ensures
+
+pub returns : goal.returns
+returns c =
+    c.first_within.ensures
