@@ -1,5 +1,5 @@
 -- `files::writer::write_fields` meets its contract (refusal 1, refusal 2, refusal 5, refusal 8).
-use Rattle.std.proofs.Common.{arith}
+use Rattle.std.proofs.Common.{arith, rules}
 use Rattle.laws.specs.TableLaws.{entries_length}
 use Rattle.meaning.specs.LayoutFile.{layout_file, file_bytes}
 use Rattle.meaning.specs.Table.{entries_in}
@@ -7,10 +7,20 @@ use Rattle.meaning.specs.WellFormed.{text_length}
 use Rattle.files.specs.Writing.{fields_put}
 use Rattle.files.proofs.writer.write_fields.Goals as goal
 
+pub write_settings-requires : goal.write_settings-requires
+unfolding file_bytes
+write_settings-requires c =
+    omega arith
+
 pub write_length-requires : goal.write_length-requires
 unfolding file_bytes
 write_length-requires c =
     omega (arith, c.write_settings.auto.file)
+
+pub write_rows-requires : goal.write_rows-requires
+unfolding file_bytes
+write_rows-requires c =
+    search rules
 
 pub returns : goal.returns
 unfolding layout_file

@@ -1,5 +1,6 @@
 -- `month_figures::sums::write_sum` meets its contract.
-use Rattle.std.proofs.Common.{arith, length-set}
+use Rattle.std.proofs.Common.{arith, length-set, rules}
+use Rattle.month_figures.specs.Sums.{put_sum}
 use Rattle.month_figures.proofs.sums.write_sum.Goals as goal
 
 pub bounds-sums-at-2 : goal.bounds-sums-at-2
@@ -25,3 +26,8 @@ bounds-sums-at-6 c =
 pub bounds-sums-at-7 : goal.bounds-sums-at-7
 bounds-sums-at-7 c =
     simp length-set (omega arith)
+
+pub returns : goal.returns
+unfolding put_sum
+returns c =
+    search rules

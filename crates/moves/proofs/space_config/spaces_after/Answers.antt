@@ -1,7 +1,12 @@
 -- `moves::space_config::spaces_after` meets its contract (rule 5).
-use Rattle.std.proofs.Common.{◌-◌, ◌≡◌, arith}
+use Rattle.std.proofs.Common.{◌-◌, ◌≡◌, refl, arith}
 use Rattle.meaning.specs.SpaceConfig.{spaces_after}
 use Rattle.moves.proofs.space_config.spaces_after.Goals as goal
+
+pub returns-then-n-sp : goal.returns-then-n-sp
+unfolding spaces_after
+returns-then-n-sp c =
+    refl
 
 pub returns : goal.returns
 unfolding spaces_after

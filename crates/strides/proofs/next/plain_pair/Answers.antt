@@ -1,5 +1,7 @@
 -- `strides::next::plain_pair` meets its contract (rule 8).
-use Rattle.std.proofs.Common.{arith}
+use Rattle.std.proofs.Common.{refl, arith}
+use Rattle.parser.specs.Scanning.{scanned_at}
+use Rattle.strides.specs.Next.{plain_pair}
 use Rattle.strides.proofs.next.plain_pair.Goals as goal
 
 pub overflow_cast-from : goal.overflow_cast-from
@@ -25,3 +27,8 @@ overflow_sub-result c =
 pub overflow_add-result-2 : goal.overflow_add-result-2
 overflow_add-result-2 c =
     record { fits = omega (arith, c.requires) }
+
+pub returns : goal.returns
+unfolding plain_pair scanned_at
+returns c =
+    refl

@@ -1,0 +1,9 @@
+-- `table::edited::moved_number` meets its contract (refusal 3, refusal 6, laying again).
+use Rattle.std.proofs.Common.{arith}
+use Rattle.meaning.specs.Edit.{moved}
+use Rattle.table.proofs.edited.moved_number.Goals as goal
+
+pub returns : goal.returns
+unfolding moved
+returns c =
+    omega arith
