@@ -120,12 +120,9 @@ def spell(text, names, fields):
 
 
 def spell_rt(text, names, fields):
-    """Of a source only clauses, ghost items and code spans of comments turn: a name there that is declared in antt."""
+    """A source names no lemma: what is in snake case there is a function or a field of its own, and stays."""
     camel = {o: n for o, n in names.items() if not re.fullmatch(r"[a-z_0-9]+", o)}
-    text = spell(text, camel, fields)
-    # a lemma that ends in _lem now may be spelled like a function of the source: it turns in ghost items alone
-    rest = {o: n for o, n in names.items() if o not in camel}
-    return re.sub(r"ghost use [^;]*;", lambda m: spell(m.group(0), rest, fields), text)
+    return spell(text, camel, fields)
 
 
 def main():

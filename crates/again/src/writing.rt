@@ -1,7 +1,7 @@
 // The lines laid again, written to the table (laying again).
 ghost use Rattle.std.specs.Prelude.{◌≤◌, ◌≡◌, take};
 ghost use Rattle.table.specs.Moving.{MovableEntry, moved_by};
-ghost use Rattle.rows.specs.RowsFrom.{entries_from_lem};
+ghost use Rattle.rows.specs.RowsFrom.{entries_from};
 ghost use Rattle.rows.specs.Writing.{lines_put};
 ghost use Rattle.again.specs.Behind.{behind};
 ghost use Rattle.again.specs.Writing.{WriteReady};

@@ -1,6 +1,6 @@
 // What a soft hyphen does to a line (rule 7 and rule 8).
 ghost use Rattle.std.specs.Prelude.{◌+◌, ◌≤◌, ◌≡◌, ◌||◌, not};
-ghost use Rattle.meaning.specs.Cursor.{fits_in_lem};
+ghost use Rattle.meaning.specs.Cursor.{fits_in};
 ghost use Rattle.meaning.specs.LineIter as meant;
 ghost use Rattle.meaning.specs.Tokens.{softHyphen};
 ghost use Rattle.meaning.specs.declared.tokens.TokenKind.TheVariants.{Break};

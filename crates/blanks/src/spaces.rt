@@ -1,7 +1,7 @@
 // What a space run does to a line (rule 5, rule 8 and rule 9).
 ghost use Rattle.std.specs.Prelude.{◌+◌, ◌≤◌, ◌<◌, ◌≡◌, length};
 ghost use Rattle.meaning.specs.Tokens.{tokens};
-ghost use Rattle.meaning.specs.LineIter.{held_after_lem, draws_space};
+ghost use Rattle.meaning.specs.LineIter.{held_after, draws_space};
 ghost use Rattle.meaning.specs.declared.tokens.TokenKind.TheVariants.{Whitespace};
 ghost use Rattle.parser.specs.Lexing.{chars_from};
 ghost use Rattle.moves.specs.Fine.{FineSettings, FinePlace};

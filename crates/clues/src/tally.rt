@@ -4,7 +4,7 @@ ghost use Rattle.meaning.specs.Checks.{text_limit};
 ghost use Rattle.meaning.specs.Month.{figures_by};
 ghost use Rattle.meaning.specs.declared.refusals.Checked.TheVariants.{Good};
 ghost use Rattle.rows.specs.RowsFrom.{TextReady, entries_of};
-ghost use Rattle.month_figures.specs.Tallies.{no_lines_lem, with_line, tally_figures};
+ghost use Rattle.month_figures.specs.Tallies.{no_lines, with_line, tally_figures};
 
 use meaning::figures::Figures;
 use meaning::settings::Settings;

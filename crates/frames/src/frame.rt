@@ -2,7 +2,7 @@
 ghost use Rattle.std.specs.Prelude.{◌≤◌, ◌≡◌, length};
 ghost use Rattle.utf8.specs.Decoding.{decode_all};
 ghost use Rattle.meaning.specs.Table.{entry_numbers, of_entry, written};
-ghost use Rattle.meaning.specs.Frames.{one_line_lem};
+ghost use Rattle.meaning.specs.Frames.{one_line};
 ghost use Rattle.meaning.specs.Calls.{frame_answer, frame_entry};
 ghost use Rattle.frames.specs.Framing.{Frameable, line_laid};
 

@@ -2,7 +2,7 @@
 ghost use Rattle.std.specs.Prelude.{◌≡◌, ◌≤◌};
 ghost use Rattle.meaning.specs.Checks.{text_limit};
 ghost use Rattle.meaning.specs.WellFormed.{start_good, no_rest, rest_good, count_good};
-ghost use Rattle.look.specs.OneLine.{before_of, start_fits, rest_stands, count_fits, ending_at_lem, line_good};
+ghost use Rattle.look.specs.OneLine.{before_of, start_fits, rest_stands, count_fits, ending_at, line_good};
 
 use meaning::counts::{Chars, Offset};
 use meaning::line::Entry;

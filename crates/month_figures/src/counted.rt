@@ -4,7 +4,7 @@ ghost use Rattle.basis.specs.Choice.{pick};
 ghost use Rattle.meaning.specs.Checks.{text_limit};
 ghost use Rattle.meaning.specs.Month.{figures_by};
 ghost use Rattle.meaning.specs.declared.refusals.Checked.TheVariants.{Refused};
-ghost use Rattle.month_figures.specs.Tallies.{no_lines_lem, with_line, tally_figures};
+ghost use Rattle.month_figures.specs.Tallies.{no_lines, with_line, tally_figures};
 
 use checks::refusals::number;
 use meaning::figures::Figures;

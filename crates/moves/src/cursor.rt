@@ -1,6 +1,6 @@
 // The cursor within a line: its room, its moves, and the next tab stop (rule 4).
 ghost use Rattle.std.specs.Prelude.{◌+◌, ◌<◌, ◌≡◌};
-ghost use Rattle.meaning.specs.Cursor.{placed_at, room_of, fits_in_lem, advance, has_moved, move_by, tab_width};
+ghost use Rattle.meaning.specs.Cursor.{placed_at, room_of, fits_in, advance, has_moved, move_by, tab_width};
 ghost use Rattle.moves.specs.Fine.{FineCursor};
 
 use meaning::counts::Pixels;

@@ -4,7 +4,7 @@ ghost use Rattle.utf8.specs.Encoding.{bytes};
 ghost use Rattle.meaning.specs.Characters.{class_of};
 ghost use Rattle.meaning.specs.Tokens.{first, tokens};
 ghost use Rattle.parser.specs.Lexing.{chars_from, lexeme_at, lexed_at};
-ghost use Rattle.parser.specs.Scanning.{alone_at, word_of, blank_of_lem};
+ghost use Rattle.parser.specs.Scanning.{alone_at, word_of, blank_of};
 ghost use Rattle.parser.specs.Marks.{mark_kind};
 
 use crate::ascii::{plain_at, space_at};

@@ -1,5 +1,6 @@
 // Tokens of a text, by offsets into its bytes (the crate's parser/mod.rs).
 #![tactic(auto)]
+
 pub mod ascii;
 pub mod characters;
 pub mod glue;

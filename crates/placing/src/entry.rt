@@ -1,7 +1,7 @@
 // The entry of a laid line (rule 12).
 ghost use Rattle.std.specs.Prelude.{◌≡◌};
 ghost use Rattle.meaning.specs.Line.{end_number};
-ghost use Rattle.placing.specs.Laying.{rest_in_lem, laid_at};
+ghost use Rattle.placing.specs.Laying.{rest_in, laid_at};
 
 use basis::numbers::greater;
 use meaning::counts::{Chars, Offset, Pixels};

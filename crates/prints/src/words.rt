@@ -1,6 +1,6 @@
 // The events of a word: of all of it where it fits, else of its longest fitting part (rule 8, rule 13).
 ghost use Rattle.std.specs.Prelude.{◌≡◌, true, false, ◌*◌, take};
-ghost use Rattle.meaning.specs.Cursor.{fits_in_lem};
+ghost use Rattle.meaning.specs.Cursor.{fits_in};
 ghost use Rattle.meaning.specs.Words.{drawn_word};
 ghost use Rattle.meaning.specs.declared.tokens.TokenKind.TheVariants.{Word};
 ghost use Rattle.parser.specs.Lexing.{chars_from};

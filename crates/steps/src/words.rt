@@ -1,6 +1,6 @@
 // What a word does to a line (rule 7 and rule 8).
 ghost use Rattle.std.specs.Prelude.{◌≤◌, ◌+◌, ◌*◌, ◌/◌, ◌≡◌, true, false, ◌&&◌};
-ghost use Rattle.meaning.specs.Cursor.{room_of, fits_in_lem, has_moved};
+ghost use Rattle.meaning.specs.Cursor.{room_of, fits_in, has_moved};
 ghost use Rattle.meaning.specs.LineIter.{wrap_on};
 ghost use Rattle.meaning.specs.declared.tokens.TokenKind.TheVariants.{Word};
 ghost use Rattle.moves.specs.Fine.{FineSpaces, FinePlace};

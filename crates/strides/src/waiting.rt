@@ -1,7 +1,7 @@
 // A line's end before a word that waits behind one space. It stands for rule 7 and rule 8 of the two tokens (`WaitLaws.waits-ends`), and
 // saves the steps of both, and the look ahead of the space.
 ghost use Rattle.std.specs.Prelude.{◌≡◌};
-ghost use Rattle.meaning.specs.Cursor.{fits_in_lem};
+ghost use Rattle.meaning.specs.Cursor.{fits_in};
 ghost use Rattle.meaning.specs.SpaceConfig.{spaces_width};
 ghost use Rattle.moves.specs.Fine.{FinePlace};
 ghost use Rattle.steps.specs.Stepping.{ran_from};

@@ -15,7 +15,7 @@ returns c =
     c.choosing_value.ensures ∙ ap choosingValue answer,
     (
     c.choosing_which.ensures ∙ ap (λ (x : Chosen). choosingWhich x c.args.which.now) answer,
-    c.choosing_left.ensures ∙ ap (λ (x : Chosen). choosingLeft x c.args.false.now) answer,
+    c.choosing_left.ensures ∙ ap (λ (x : Chosen). choosingLeft x c.args.left.now) answer,
     ),
     ),
     )

@@ -13,7 +13,7 @@ loop-x-init c =
 pub returns-in_default : goal.returns-in_default
 returns-in_default c =
     c.look_at.ensures
-    ∙ look_end _ c.loop-x.pos c.args.glyph c.loop-x.cur c.loop-x.false c.loop-x.reach
+    ∙ look_end _ c.loop-x.pos c.args.glyph c.loop-x.cur c.loop-x.left c.loop-x.reach
     (lexes-end _ _ (sym c.token_at-token.ensures ∙ c.in_default.is)) _ c.greater.ensures
     ∙ c.loop-x.invariant.0
 
@@ -25,13 +25,13 @@ overflow_mul-x c =
 pub returns-in-Word : goal.returns-in-Word
 returns-in-Word c =
     c.look_at-in-Word.ensures
-    ∙ look_word _ _ _ ((let read_here : Lexes c.args.text.now c.loop-x.pos c.in-Token.x = lexes _ _ _ (sym c.token_at-token.ensures ∙ c.in-Token.is) in read_here)) c.args.glyph c.loop-x.cur c.loop-x.false c.loop-x.reach _ c.greater-reach.ensures c.in-Word.is _ c.fits.ensures
+    ∙ look_word _ _ _ ((let read_here : Lexes c.args.text.now c.loop-x.pos c.in-Token.x = lexes _ _ _ (sym c.token_at-token.ensures ∙ c.in-Token.is) in read_here)) c.args.glyph c.loop-x.cur c.loop-x.left c.loop-x.reach _ c.greater-reach.ensures c.in-Word.is _ c.fits.ensures
     ∙ c.loop-x.invariant.0
 
 pub returns-in-Break : goal.returns-in-Break
 returns-in-Break c =
     c.look_at-in-Break.ensures
-    ∙ look_break _ _ _ ((let read_here : Lexes c.args.text.now c.loop-x.pos c.in-Token.x = lexes _ _ _ (sym c.token_at-token.ensures ∙ c.in-Token.is) in read_here)) c.args.glyph c.loop-x.cur c.loop-x.false c.loop-x.reach _ c.greater-reach.ensures c.in-Break.is _ c.fits3.ensures
+    ∙ look_break _ _ _ ((let read_here : Lexes c.args.text.now c.loop-x.pos c.in-Token.x = lexes _ _ _ (sym c.token_at-token.ensures ∙ c.in-Token.is) in read_here)) c.args.glyph c.loop-x.cur c.loop-x.left c.loop-x.reach _ c.greater-reach.ensures c.in-Break.is _ c.fits3.ensures
     ∙ c.loop-x.invariant.0
 
 pub white_width-w-requires : goal.white_width-w-requires
@@ -42,7 +42,7 @@ white_width-w-requires c =
 pub returns-then-not-fits : goal.returns-then-not-fits
 returns-then-not-fits c =
     c.look_at-then-not-fits.ensures
-    ∙ look_full _ _ _ ((let read_here : Lexes c.args.text.now c.loop-x.pos c.in-Token.x = lexes _ _ _ (sym c.token_at-token.ensures ∙ c.in-Token.is) in read_here)) c.args.glyph c.loop-x.cur c.loop-x.false c.loop-x.reach _ c.greater-reach.ensures (white_of c.in-Token.x.kind c.in-Tab.in-Tab-own.keys3) _ c.white_width-w.ensures
+    ∙ look_full _ _ _ ((let read_here : Lexes c.args.text.now c.loop-x.pos c.in-Token.x = lexes _ _ _ (sym c.token_at-token.ensures ∙ c.in-Token.is) in read_here)) c.args.glyph c.loop-x.cur c.loop-x.left c.loop-x.reach _ c.greater-reach.ensures (white_of c.in-Token.x.kind c.in-Tab.in-Tab-own.keys3) _ c.white_width-w.ensures
     (sym c.fits4.ensures ∙ c.if-not-fits.true)
     ∙ c.loop-x.invariant.0
 
@@ -58,15 +58,15 @@ loop-x-smaller c =
 pub loop-x-preserved : goal.loop-x-preserved
 loop-x-preserved c =
     let l = (let read_here : Lexes c.args.text.now c.loop-x.pos c.in-Token.x = lexes _ _ _ (sym c.token_at-token.ensures ∙ c.in-Token.is) in read_here) in (
-    look_white _ _ _ l c.args.glyph c.loop-x.cur c.loop-x.false c.loop-x.reach _ c.greater-reach.ensures (white_of c.in-Token.x.kind c.in-Tab.in-Tab-own.keys3) _ c.white_width-w.ensures
+    look_white _ _ _ l c.args.glyph c.loop-x.cur c.loop-x.left c.loop-x.reach _ c.greater-reach.ensures (white_of c.in-Token.x.kind c.in-Tab.in-Tab-own.keys3) _ c.white_width-w.ensures
     ((let passed_here : fits_in c.loop-x.cur c.white_width-w.result ≡ true = sym c.fits4.ensures ∙ c.if-not-fits.false in passed_here)) _ _ c.advanced-cur.ensures c.spaces_after-left.ensures ∙ c.loop-x.invariant.0,
     rw c.advanced-cur.ensures (advance_fine c.loop-x.cur c.white_width-w.result c.loop-x.invariant.1 ((let passed_here : fits_in c.loop-x.cur c.white_width-w.result ≡ true = sym c.fits4.ensures ∙ c.if-not-fits.false in passed_here))),
-    rw c.spaces_after-left.ensures (spaces_fine c.loop-x.false c.in-Token.x.count.0 c.loop-x.invariant.2),
+    rw c.spaces_after-left.ensures (spaces_fine c.loop-x.left c.in-Token.x.count.0 c.loop-x.invariant.2),
     l.within,
     )
 
 pub returns-in_default-kind : goal.returns-in_default-kind
 returns-in_default-kind c =
     c.look_at-in_default-kind.ensures
-    ∙ look_halts _ _ _ ((let read_here : Lexes c.args.text.now c.loop-x.pos c.in-Token.x = lexes _ _ _ (sym c.token_at-token.ensures ∙ c.in-Token.is) in read_here)) c.args.glyph c.loop-x.cur c.loop-x.false c.loop-x.reach _ c.greater-reach.ensures (halts_of c.in-Token.x.kind c.in_default-kind.in_default-kind-own.keys4)
+    ∙ look_halts _ _ _ ((let read_here : Lexes c.args.text.now c.loop-x.pos c.in-Token.x = lexes _ _ _ (sym c.token_at-token.ensures ∙ c.in-Token.is) in read_here)) c.args.glyph c.loop-x.cur c.loop-x.left c.loop-x.reach _ c.greater-reach.ensures (halts_of c.in-Token.x.kind c.in_default-kind.in_default-kind-own.keys4)
     ∙ c.loop-x.invariant.0

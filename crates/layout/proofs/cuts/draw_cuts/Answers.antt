@@ -9,7 +9,7 @@ use Rattle.layout.proofs.cuts.draw_cuts.Goals as goal
 
 pub loop-left-init : goal.loop-left-init
 loop-left-init c =
-    (went_nowhere _ _ _ _ _ c.requires.stand_ready.0, drew_nowhere _ _ _ _ _, c.requires.room_from.0.1.false, λ less. absurd (omega arith))
+    (went_nowhere _ _ _ _ _ c.requires.stand_ready.0, drew_nowhere _ _ _ _ _, c.requires.room_from.0.1.left, λ less. absurd (omega arith))
 
 pub cut_row-next-requires : goal.cut_row-next-requires
 cut_row-next-requires c =

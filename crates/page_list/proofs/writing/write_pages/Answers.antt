@@ -20,7 +20,7 @@ text_length-bytes-requires c =
 
 pub overflow_mul-first : goal.overflow_mul-first
 overflow_mul-first c =
-    record { fits = omega (arith, begins-within c.args.h c.requires.limit c.args.auto c.args.lines (omega (arith, c.page_count.ensures)), c.requires.few) }
+    record { fits = omega (arith, begins-within c.args.h c.requires.limit c.args.kept c.args.lines (omega (arith, c.page_count.ensures)), c.requires.few) }
 
 pub loop-first-init : goal.loop-first-init
 loop-first-init c =

@@ -30,10 +30,10 @@ pub loop-pos-preserved-then-letter-gt0 : goal.loop-pos-preserved-then-letter-gt0
 loop-pos-preserved-then-letter-gt0 c =
     let y = (let letter_here : Letter c.args.text.now c.loop-pos.pos c.letter_len-letter.result = c.letter_len-letter.ensures (omega arith) in letter_here) in
     let r = (let letter-room_here : (1 ≤ c.letter_len-letter.result) × (c.letter_len-letter.result ≤ 4) × (c.loop-pos.pos + c.letter_len-letter.result ≤ length c.args.text.now) = char-room _ _ ((let letter_here : Letter c.args.text.now c.loop-pos.pos c.letter_len-letter.result = c.letter_len-letter.ensures (omega arith) in letter_here)).char _ ((let letter_here : Letter c.args.text.now c.loop-pos.pos c.letter_len-letter.result = c.letter_len-letter.ensures (omega arith) in letter_here)).is in letter-room_here) in (
-    λ h. less-more c.args.text.now c.loop-pos.pos c.args.x c.loop-pos.chars c.loop-pos.glues y.char _ _ c.requires.2 ((let left_here : Less c.args.text.now c.loop-pos.pos c.args.x c.loop-pos.chars c.loop-pos.glues = c.loop-pos.invariant.0 (omega arith) in left_here)) y.is (omega (arith, y.glue)) h,
-    c.loop-pos.invariant.1,
-    omega arith,
-    omega arith,
+      λ h. less-more c.args.text.now c.loop-pos.pos c.args.x c.loop-pos.chars c.loop-pos.glues y.char _ _ c.requires.2 ((let left_here : Less c.args.text.now c.loop-pos.pos c.args.x c.loop-pos.chars c.loop-pos.glues = c.loop-pos.invariant.0 (omega arith) in left_here)) y.is (omega (arith, y.glue)) h,
+      c.loop-pos.invariant.1,
+      omega arith,
+      omega arith,
     )
 
 pub overflow_add-glues : goal.overflow_add-glues
@@ -55,10 +55,10 @@ loop-pos-smaller c =
 pub loop-pos-preserved : goal.loop-pos-preserved
 loop-pos-preserved c =
     let r = (let room_here : (1 ≤ c.in-Char.len) × (c.in-Char.len ≤ 4) × (c.loop-pos.pos + c.in-Char.len ≤ length c.args.text.now) = char-room c.args.text.now c.loop-pos.pos c.in-Char.cp c.in-Char.len ((let read_here : decode_at c.args.text.now c.loop-pos.pos ≡ Char c.in-Char.cp c.in-Char.len = sym c.decode.ensures ∙ c.in-Char.is in read_here)) in room_here) in (
-    λ h. less-more c.args.text.now c.loop-pos.pos c.args.x c.loop-pos.chars c.loop-pos.glues c.in-Char.cp c.in-Char.len _ c.requires.2 ((let left_here : Less c.args.text.now c.loop-pos.pos c.args.x c.loop-pos.chars c.loop-pos.glues = c.loop-pos.invariant.0 (omega arith) in left_here)) ((let read_here : decode_at c.args.text.now c.loop-pos.pos ≡ Char c.in-Char.cp c.in-Char.len = sym c.decode.ensures ∙ c.in-Char.is in read_here)) (ap (λ (g : ℕ). c.loop-pos.glues + g) c.glue_of-glues.ensures) h,
-    c.loop-pos.invariant.1,
-    omega (arith, c.loop-pos.invariant.2),
-    omega (arith, c.loop-pos.invariant.3, (let one_here : c.glue_of-glues.result ≤ 1 = omega (arith, c.glue_of-glues.ensures, glue-one c.in-Char.cp) in one_here)),
+      λ h. less-more c.args.text.now c.loop-pos.pos c.args.x c.loop-pos.chars c.loop-pos.glues c.in-Char.cp c.in-Char.len _ c.requires.2 ((let left_here : Less c.args.text.now c.loop-pos.pos c.args.x c.loop-pos.chars c.loop-pos.glues = c.loop-pos.invariant.0 (omega arith) in left_here)) ((let read_here : decode_at c.args.text.now c.loop-pos.pos ≡ Char c.in-Char.cp c.in-Char.len = sym c.decode.ensures ∙ c.in-Char.is in read_here)) (ap (λ (g : ℕ). c.loop-pos.glues + g) c.glue_of-glues.ensures) h,
+      c.loop-pos.invariant.1,
+      omega (arith, c.loop-pos.invariant.2),
+      omega (arith, c.loop-pos.invariant.3, (let one_here : c.glue_of-glues.result ≤ 1 = omega (arith, c.glue_of-glues.ensures, glue-one c.in-Char.cp) in one_here)),
     )
 
 pub without-requires : goal.without-requires

@@ -11,11 +11,10 @@ returns-then-not-is_plain c =
     c.loop-at.invariant
 
 pub loop-at-preserved : goal.loop-at-preserved
-loop-at-preserved c =
-    (
-    lettered_more c.args.text.now c.args.from c.loop-at.at c.loop-at.invariant.0 (omega arith) (sym c.is_plain.ensures ∙ c.if-not-is_plain.false),
-    omega arith,
-    )
+loop-at-preserved c = (
+  lettered_more c.args.text.now c.args.from c.loop-at.at c.loop-at.invariant.0 (omega arith) (sym c.is_plain.ensures ∙ c.if-not-is_plain.false),
+  omega arith,
+)
 
 pub returns : goal.returns
 returns c =

@@ -41,11 +41,11 @@ returns-then-c-eq8203 c =
 pub returns : goal.returns
 returns c =
     let l : Left c.args.c = record {
-    word = sym c.in_word.ensures ∙ c.if-in_word.false;
-    lf = c.if-c-eq10.false;
-    cr = c.if-c-eq13.false;
-    ht = c.if-c-eq9.false;
-    shy = c.if-c-eq173.false;
-    zwsp = c.if-c-eq8203.false;
+      word = sym c.in_word.ensures ∙ c.if-in_word.false;
+      lf = c.if-c-eq10.false;
+      cr = c.if-c-eq13.false;
+      ht = c.if-c-eq9.false;
+      shy = c.if-c-eq173.false;
+      zwsp = c.if-c-eq8203.false;
     } in
     c.blank.ensures ∙ ap blank_of c.scan_run.ensures ∙ blank-is _ _ _ _ c.requires.2 l

@@ -71,12 +71,12 @@ loop-from-smaller c =
 pub loop-from-preserved : goal.loop-from-preserved
 loop-from-preserved c =
     let h = (let room_here : (1 ≤ c.in-Char.len) × (c.in-Char.len ≤ 4) × (c.loop-from.at + c.in-Char.len ≤ length c.args.text.now) = char-room c.args.text.now c.loop-from.at c.in-Char.cp c.in-Char.len ((let read_here : decode_at c.args.text.now c.loop-from.at ≡ Char c.in-Char.cp c.in-Char.len = sym c.decode.ensures ∙ c.in-Char.is in read_here)) in room_here) in (
-    ap (λ (w : ℕ). scan_from in_run space_of (c.loop-from.at + c.in-Char.len) (c.loop-from.chars + 1) (c.loop-from.weight + w) (chars_from c.args.text.now (c.loop-from.at + c.in-Char.len))) c.space_of-weight.ensures
-    ∙ sym (scan_more in_run space_of c.args.text.now _ _ _ _ _ ((let read_here : decode_at c.args.text.now c.loop-from.at ≡ Char c.in-Char.cp c.in-Char.len = sym c.decode.ensures ∙ c.in-Char.is in read_here)) (sym c.in_run.ensures ∙ c.if-not-in_run.false))
-    ∙ c.loop-from.invariant.0,
-    omega arith,
-    omega arith,
-    omega (arith, c.space_of-weight.ensures, space-one c.in-Char.cp),
+      ap (λ (w : ℕ). scan_from in_run space_of (c.loop-from.at + c.in-Char.len) (c.loop-from.chars + 1) (c.loop-from.weight + w) (chars_from c.args.text.now (c.loop-from.at + c.in-Char.len))) c.space_of-weight.ensures
+          ∙ sym (scan_more in_run space_of c.args.text.now _ _ _ _ _ ((let read_here : decode_at c.args.text.now c.loop-from.at ≡ Char c.in-Char.cp c.in-Char.len = sym c.decode.ensures ∙ c.in-Char.is in read_here)) (sym c.in_run.ensures ∙ c.if-not-in_run.false))
+          ∙ c.loop-from.invariant.0,
+      omega arith,
+      omega arith,
+      omega (arith, c.space_of-weight.ensures, space-one c.in-Char.cp),
     )
 
 pub returns-in-Bad : goal.returns-in-Bad

@@ -52,14 +52,14 @@ loop-from-preserved-then-glue-gt0 c =
     let g = (let glues_here : Glues c.args.text.now c.skip_letters-letters.result.end c.glue_len-glue.result = c.glue_len-glue.ensures c.if-glue-gt0.true in glues_here) in
     let k = (let bounds_here : (c.loop-from.at ≤ c.skip_letters-letters.result.end) × (c.skip_letters-letters.result.end ≤ length c.args.text.now) × ((let M_here : ℕ = c.loop-from.chars + c.skip_letters-letters.result.chars in M_here) ≤ c.skip_letters-letters.result.end + 1) × (c.loop-from.weight ≤ c.skip_letters-letters.result.end + 1) = omega (arith, c.skip_letters-letters.ensures.forward, c.skip_letters-letters.ensures.inside, c.loop-from.invariant) in bounds_here) in
     let r = (let glue-room_here : (1 ≤ c.glue_len-glue.result) × (c.glue_len-glue.result ≤ 4) × (c.skip_letters-letters.result.end + c.glue_len-glue.result ≤ length c.args.text.now) = spells-room _ _ _ 1 ((let glues_here : Glues c.args.text.now c.skip_letters-letters.result.end c.glue_len-glue.result = c.glue_len-glue.ensures c.if-glue-gt0.true in glues_here)) in glue-room_here) in (
-    ap (λ (w : ℕ). scan_from in_word glue_of (c.skip_letters-letters.result.end + c.glue_len-glue.result) ((let M_here : ℕ = c.loop-from.chars + c.skip_letters-letters.result.chars in M_here) + 1) (c.loop-from.weight + w) (chars_from c.args.text.now (c.skip_letters-letters.result.end + c.glue_len-glue.result))) (sym g.glue)
-    ∙ sym (scan_more in_word glue_of c.args.text.now _ _ _ _ _ g.is g.word)
-    ∙ (let left_here : scan_from in_word glue_of c.skip_letters-letters.result.end ((let M_here : ℕ = c.loop-from.chars + c.skip_letters-letters.result.chars in M_here)) c.loop-from.weight (chars_from c.args.text.now c.skip_letters-letters.result.end) ≡ scan_from in_word glue_of c.args.from 1 c.args.first (chars_from c.args.text.now c.args.from) = let w : c.loop-from.weight ≡ c.loop-from.weight + 0 = omega arith in
-    ap (λ (k : ℕ). scan_from in_word glue_of c.skip_letters-letters.result.end ((let M_here : ℕ = c.loop-from.chars + c.skip_letters-letters.result.chars in M_here)) k (chars_from c.args.text.now c.skip_letters-letters.result.end)) w
-    ∙ sym (c.skip_letters-letters.ensures.scans c.loop-from.chars c.loop-from.weight) ∙ c.loop-from.invariant.0 in left_here),
-    r.2,
-    omega arith,
-    omega arith,
+      ap (λ (w : ℕ). scan_from in_word glue_of (c.skip_letters-letters.result.end + c.glue_len-glue.result) ((let M_here : ℕ = c.loop-from.chars + c.skip_letters-letters.result.chars in M_here) + 1) (c.loop-from.weight + w) (chars_from c.args.text.now (c.skip_letters-letters.result.end + c.glue_len-glue.result))) (sym g.glue)
+          ∙ sym (scan_more in_word glue_of c.args.text.now _ _ _ _ _ g.is g.word)
+          ∙ (let left_here : scan_from in_word glue_of c.skip_letters-letters.result.end ((let M_here : ℕ = c.loop-from.chars + c.skip_letters-letters.result.chars in M_here)) c.loop-from.weight (chars_from c.args.text.now c.skip_letters-letters.result.end) ≡ scan_from in_word glue_of c.args.from 1 c.args.first (chars_from c.args.text.now c.args.from) = let w : c.loop-from.weight ≡ c.loop-from.weight + 0 = omega arith in
+          ap (λ (k : ℕ). scan_from in_word glue_of c.skip_letters-letters.result.end ((let M_here : ℕ = c.loop-from.chars + c.skip_letters-letters.result.chars in M_here)) k (chars_from c.args.text.now c.skip_letters-letters.result.end)) w
+          ∙ sym (c.skip_letters-letters.ensures.scans c.loop-from.chars c.loop-from.weight) ∙ c.loop-from.invariant.0 in left_here),
+      r.2,
+      omega arith,
+      omega arith,
     )
 
 pub overflow_cast-mark : goal.overflow_cast-mark
@@ -108,14 +108,14 @@ pub loop-from-preserved : goal.loop-from-preserved
 loop-from-preserved c =
     let k = (let bounds_here : (c.loop-from.at ≤ c.skip_letters-letters.result.end) × (c.skip_letters-letters.result.end ≤ length c.args.text.now) × ((let M_here : ℕ = c.loop-from.chars + c.skip_letters-letters.result.chars in M_here) ≤ c.skip_letters-letters.result.end + 1) × (c.loop-from.weight ≤ c.skip_letters-letters.result.end + 1) = omega (arith, c.skip_letters-letters.ensures.forward, c.skip_letters-letters.ensures.inside, c.loop-from.invariant) in bounds_here) in
     let h = (let room_here : (1 ≤ c.in-Char.len) × (c.in-Char.len ≤ 4) × (c.skip_letters-letters.result.end + c.in-Char.len ≤ length c.args.text.now) = char-room c.args.text.now c.skip_letters-letters.result.end c.in-Char.cp c.in-Char.len ((let read_here : decode_at c.args.text.now c.skip_letters-letters.result.end ≡ Char c.in-Char.cp c.in-Char.len = sym c.decode.ensures ∙ c.in-Char.is in read_here)) in room_here) in (
-    ap (λ (w : ℕ). scan_from in_word glue_of (c.skip_letters-letters.result.end + c.in-Char.len) ((let M_here : ℕ = c.loop-from.chars + c.skip_letters-letters.result.chars in M_here) + 1) (c.loop-from.weight + w) (chars_from c.args.text.now (c.skip_letters-letters.result.end + c.in-Char.len))) c.glue_of-weight.ensures
-    ∙ sym (scan_more in_word glue_of c.args.text.now _ _ _ _ _ ((let read_here : decode_at c.args.text.now c.skip_letters-letters.result.end ≡ Char c.in-Char.cp c.in-Char.len = sym c.decode.ensures ∙ c.in-Char.is in read_here)) (sym c.in_word.ensures ∙ c.if-not-in_word.false))
-    ∙ (let left_here : scan_from in_word glue_of c.skip_letters-letters.result.end ((let M_here : ℕ = c.loop-from.chars + c.skip_letters-letters.result.chars in M_here)) c.loop-from.weight (chars_from c.args.text.now c.skip_letters-letters.result.end) ≡ scan_from in_word glue_of c.args.from 1 c.args.first (chars_from c.args.text.now c.args.from) = let w : c.loop-from.weight ≡ c.loop-from.weight + 0 = omega arith in
-    ap (λ (k : ℕ). scan_from in_word glue_of c.skip_letters-letters.result.end ((let M_here : ℕ = c.loop-from.chars + c.skip_letters-letters.result.chars in M_here)) k (chars_from c.args.text.now c.skip_letters-letters.result.end)) w
-    ∙ sym (c.skip_letters-letters.ensures.scans c.loop-from.chars c.loop-from.weight) ∙ c.loop-from.invariant.0 in left_here),
-    omega arith,
-    omega arith,
-    omega (arith, (let one_here : c.glue_of-weight.result ≤ 1 = omega (arith, c.glue_of-weight.ensures, glue-one c.in-Char.cp) in one_here)),
+      ap (λ (w : ℕ). scan_from in_word glue_of (c.skip_letters-letters.result.end + c.in-Char.len) ((let M_here : ℕ = c.loop-from.chars + c.skip_letters-letters.result.chars in M_here) + 1) (c.loop-from.weight + w) (chars_from c.args.text.now (c.skip_letters-letters.result.end + c.in-Char.len))) c.glue_of-weight.ensures
+          ∙ sym (scan_more in_word glue_of c.args.text.now _ _ _ _ _ ((let read_here : decode_at c.args.text.now c.skip_letters-letters.result.end ≡ Char c.in-Char.cp c.in-Char.len = sym c.decode.ensures ∙ c.in-Char.is in read_here)) (sym c.in_word.ensures ∙ c.if-not-in_word.false))
+          ∙ (let left_here : scan_from in_word glue_of c.skip_letters-letters.result.end ((let M_here : ℕ = c.loop-from.chars + c.skip_letters-letters.result.chars in M_here)) c.loop-from.weight (chars_from c.args.text.now c.skip_letters-letters.result.end) ≡ scan_from in_word glue_of c.args.from 1 c.args.first (chars_from c.args.text.now c.args.from) = let w : c.loop-from.weight ≡ c.loop-from.weight + 0 = omega arith in
+          ap (λ (k : ℕ). scan_from in_word glue_of c.skip_letters-letters.result.end ((let M_here : ℕ = c.loop-from.chars + c.skip_letters-letters.result.chars in M_here)) k (chars_from c.args.text.now c.skip_letters-letters.result.end)) w
+          ∙ sym (c.skip_letters-letters.ensures.scans c.loop-from.chars c.loop-from.weight) ∙ c.loop-from.invariant.0 in left_here),
+      omega arith,
+      omega arith,
+      omega (arith, (let one_here : c.glue_of-weight.result ≤ 1 = omega (arith, c.glue_of-weight.ensures, glue-one c.in-Char.cp) in one_here)),
     )
 
 pub scanned_at-requires-in-Bad : goal.scanned_at-requires-in-Bad

@@ -6,7 +6,7 @@ use Rattle.rows.proofs.cuts.write_cuts.Goals as goal
 
 pub loop-left-init : goal.loop-left-init
 loop-left-init c =
-    (went_nowhere _ _ _ _ _ c.requires.stand_ready.0, c.requires.room_from.1.false, λ less. absurd (omega arith))
+    (went_nowhere _ _ _ _ _ c.requires.stand_ready.0, c.requires.room_from.1.left, λ less. absurd (omega arith))
 
 pub cut_row-next-requires : goal.cut_row-next-requires
 cut_row-next-requires c =

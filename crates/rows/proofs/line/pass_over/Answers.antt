@@ -7,7 +7,7 @@ use Rattle.rows.proofs.line.pass_over.Goals as goal
 
 pub hyphened_pass-requires : goal.hyphened_pass-requires
 hyphened_pass-requires c =
-    starts-at c.args.s c.args.p.false.0 c.args.p.spaces c.args.text.now c.args.at c.args.rest _ c.start_place-start.ensures
+    starts-at c.args.s c.args.p.left.0 c.args.p.spaces c.args.text.now c.args.at c.args.rest _ c.start_place-start.ensures
     (start-ready c.requires.0 c.args.p _ _ c.start_place-start.ensures refl c.requires.1 c.requires.2)
 
 pub returns-in-Line : goal.returns-in-Line

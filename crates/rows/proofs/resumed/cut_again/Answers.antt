@@ -17,7 +17,7 @@ returns c =
     λ i. record {
     ended = LineBreak;
     measure = m i;
-    next = record { 0 = c.args.at + c.args.true };
+    next = record { 0 = c.args.at + c.args.taken };
     rest = c.held_rest-left.ensures i;
     dropped = record { 0 = 0 };
     reach = record { 0 = c.args.reach };

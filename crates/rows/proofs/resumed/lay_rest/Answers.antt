@@ -18,7 +18,7 @@ overflow_add-reach c =
 
 pub overflow_sub-fitting : goal.overflow_sub-fitting
 overflow_sub-fitting c =
-    (let inside_here : c.place_line-placed.result.false.0 ≤ c.args.s.width.0 = subst (λ (p : Placed). p.left.0 ≤ c.args.s.width.0) (sym c.place_line-placed.ensures) (place_fine c.args.s LineBreak 0 0 c.requires.0.settings (omega arith)).1 in inside_here)
+    (let inside_here : c.place_line-placed.result.left.0 ≤ c.args.s.width.0 = subst (λ (p : Placed). p.left.0 ≤ c.args.s.width.0) (sym c.place_line-placed.ensures) (place_fine c.args.s LineBreak 0 0 c.requires.0.settings (omega arith)).1 in inside_here)
 
 pub nonzero_div-fitting : goal.nonzero_div-fitting
 nonzero_div-fitting c =
@@ -26,11 +26,11 @@ nonzero_div-fitting c =
 
 pub overflow_add-fitting : goal.overflow_add-fitting
 overflow_add-fitting c =
-    record { fits = omega (arith, (let few_here : (c.args.s.width.0 - c.place_line-placed.result.false.0) / c.args.s.glyph.0 ≤ 4096 = omega (arith, div-le_self (c.args.s.width.0 - c.place_line-placed.result.false.0) c.args.s.glyph.0, c.requires.0.settings) in few_here)) }
+    record { fits = omega (arith, (let few_here : (c.args.s.width.0 - c.place_line-placed.result.left.0) / c.args.s.glyph.0 ≤ 4096 = omega (arith, div-le_self (c.args.s.width.0 - c.place_line-placed.result.left.0) c.args.s.glyph.0, c.requires.0.settings) in few_here)) }
 
 pub cut_again-drawn-requires : goal.cut_again-drawn-requires
 cut_again-drawn-requires c =
-    (omega (arith, c.requires.0.inside, c.requires.0.short), (let few_here : (c.args.s.width.0 - c.place_line-placed.result.false.0) / c.args.s.glyph.0 ≤ 4096 = omega (arith, div-le_self (c.args.s.width.0 - c.place_line-placed.result.false.0) c.args.s.glyph.0, c.requires.0.settings) in few_here), omega (arith, c.lesser-taken.ensures), c.requires.0.rest.counts, omega (arith, c.lesser-taken.ensures, rest-few c.requires.0.rest c.requires.0.short))
+    (omega (arith, c.requires.0.inside, c.requires.0.short), (let few_here : (c.args.s.width.0 - c.place_line-placed.result.left.0) / c.args.s.glyph.0 ≤ 4096 = omega (arith, div-le_self (c.args.s.width.0 - c.place_line-placed.result.left.0) c.args.s.glyph.0, c.requires.0.settings) in few_here), omega (arith, c.lesser-taken.ensures), c.requires.0.rest.counts, omega (arith, c.lesser-taken.ensures, rest-few c.requires.0.rest c.requires.0.short))
 
 pub returns : goal.returns
 returns c =

@@ -19,4 +19,4 @@ word_measure-requires c =
 pub returns : goal.returns
 returns c =
     c.word_measure.ensures
-    ∙ ap (λ (v : Measure). word_measure c.args.s.glyph.0 c.args.t.false v c.args.t.word.chars.0 c.args.t.word.weight.0) c.printed_at-spaced.ensures
+    ∙ ap (λ (v : Measure). word_measure c.args.s.glyph.0 c.args.t.left v c.args.t.word.chars.0 c.args.t.word.weight.0) c.printed_at-spaced.ensures

@@ -8,11 +8,11 @@ loop-left-init c =
 
 pub overflow_add-from : goal.overflow_add-from
 overflow_add-from c =
-    record { fits = omega (arith, c.loop-left.invariant.false.from-room) }
+    record { fits = omega (arith, c.loop-left.invariant.left.from-room) }
 
 pub overflow_add-to : goal.overflow_add-to
 overflow_add-to c =
-    record { fits = omega (arith, c.loop-left.invariant.false.to_room) }
+    record { fits = omega (arith, c.loop-left.invariant.left.to_room) }
 
 pub move_line-requires : goal.move_line-requires
 move_line-requires c =

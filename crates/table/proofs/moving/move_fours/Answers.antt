@@ -12,11 +12,11 @@ loop-i-init c =
 
 pub overflow_add-from : goal.overflow_add-from
 overflow_add-from c =
-    record { fits = omega (arith, c.loop-i.invariant.false.from-room) }
+    record { fits = omega (arith, c.loop-i.invariant.left.from-room) }
 
 pub rests_nowhere-requires : goal.rests_nowhere-requires
 rests_nowhere-requires c =
-    omega (arith, c.loop-i.invariant.false.from-room)
+    omega (arith, c.loop-i.invariant.left.from-room)
 
 pub shape_of-table-then-not-rests_nowhere : goal.shape_of-table-then-not-rests_nowhere
 shape_of-table-then-not-rests_nowhere c =
