@@ -29,8 +29,8 @@ use Rattle.parser.specs.LexerLaws.{tabulator, soft_hyphen, zero-width, lexed-cha
 mark-word : (n : ℕ) → in_word (mark_of n) ≡ false
 unfolding pick
 mark-word n =
-    by_test (eqb n 1) (λ e. rw e (characters.ascii_word 0x0009 (omega arith)))
-    (λ e. rw e (by_test (eqb n 2) (λ f. rw f (characters.soft_hyphen).0) (λ f. rw f (characters.zero_width).0)))
+    by_test (eqb n 1) (λ e. rw e (characters.ascii_word_lem 0x0009 (omega arith)))
+    (λ e. rw e (by_test (eqb n 2) (λ f. rw f (characters.soft_hyphen).0) (λ f. rw f (characters.zero-width).0)))
 
 module _ (t : List ℕ) (at : ℕ) where
   -- Which bytes stand there.
