@@ -18,11 +18,6 @@ pub overflow_sub-by : goal.overflow_sub-by
 overflow_sub-by c =
     rw ((let by-is_here : to_z w32 (of_z w32 c.args.by) ≡ c.args.by = to_z-of_z c.ranges.by in by-is_here), ((let back_here : Back c.args.c.position.0 c.args.by = back_in _ _ (rw ((let by-is_here : to_z w32 (of_z w32 c.args.by) ≡ c.args.by = to_z-of_z c.ranges.by in by-is_here)) at c.if-by-lt0.true) (rw ((let by-is_here : to_z w32 (of_z w32 c.args.by) ≡ c.args.by = to_z-of_z c.ranges.by in by-is_here), (let at-is_here : to_z w32 c.args.c.position.0 ≡ pos c.args.c.position.0 = to_z_pos w32 (omega arith) in at-is_here), to_z-of_z ((let turned_here : SFits w32 (pos 0 -ℤ pos c.args.c.position.0) = back_fits c.args.c.position.0 (omega arith) in turned_here))) at c.if-by-back.false) in back_here)).turned) ((let back-bits_here : SFits w32 (pos (suc ((let back_here : Back c.args.c.position.0 c.args.by = back_in _ _ (rw ((let by-is_here : to_z w32 (of_z w32 c.args.by) ≡ c.args.by = to_z-of_z c.ranges.by in by-is_here)) at c.if-by-lt0.true) (rw ((let by-is_here : to_z w32 (of_z w32 c.args.by) ≡ c.args.by = to_z-of_z c.ranges.by in by-is_here), (let at-is_here : to_z w32 c.args.c.position.0 ≡ pos c.args.c.position.0 = to_z_pos w32 (omega arith) in at-is_here), to_z-of_z ((let turned_here : SFits w32 (pos 0 -ℤ pos c.args.c.position.0) = back_fits c.args.c.position.0 (omega arith) in turned_here))) at c.if-by-back.false) in back_here)).n)) = let i = (let back_here : Back c.args.c.position.0 c.args.by = back_in _ _ (rw ((let by-is_here : to_z w32 (of_z w32 c.args.by) ≡ c.args.by = to_z-of_z c.ranges.by in by-is_here)) at c.if-by-lt0.true) (rw ((let by-is_here : to_z w32 (of_z w32 c.args.by) ≡ c.args.by = to_z-of_z c.ranges.by in by-is_here), (let at-is_here : to_z w32 c.args.c.position.0 ≡ pos c.args.c.position.0 = to_z_pos w32 (omega arith) in at-is_here), to_z-of_z ((let turned_here : SFits w32 (pos 0 -ℤ pos c.args.c.position.0) = back_fits c.args.c.position.0 (omega arith) in turned_here))) at c.if-by-back.false) in back_here) in record { sfits = omega arith } in back-bits_here))
 
-pub overflow_cast-by : goal.overflow_cast-by
-overflow_cast-by c =
-    let i = (let back_here : Back c.args.c.position.0 c.args.by = back_in _ _ (rw ((let by-is_here : to_z w32 (of_z w32 c.args.by) ≡ c.args.by = to_z-of_z c.ranges.by in by-is_here)) at c.if-by-lt0.true) (rw ((let by-is_here : to_z w32 (of_z w32 c.args.by) ≡ c.args.by = to_z-of_z c.ranges.by in by-is_here), (let at-is_here : to_z w32 c.args.c.position.0 ≡ pos c.args.c.position.0 = to_z_pos w32 (omega arith) in at-is_here), to_z-of_z ((let turned_here : SFits w32 (pos 0 -ℤ pos c.args.c.position.0) = back_fits c.args.c.position.0 (omega arith) in turned_here))) at c.if-by-back.false) in back_here) in
-    rw ((let by-is_here : to_z w32 (of_z w32 c.args.by) ≡ c.args.by = to_z-of_z c.ranges.by in by-is_here), i.turned, to_z-of_z ((let back-bits_here : SFits w32 (pos (suc ((let back_here : Back c.args.c.position.0 c.args.by = back_in _ _ (rw ((let by-is_here : to_z w32 (of_z w32 c.args.by) ≡ c.args.by = to_z-of_z c.ranges.by in by-is_here)) at c.if-by-lt0.true) (rw ((let by-is_here : to_z w32 (of_z w32 c.args.by) ≡ c.args.by = to_z-of_z c.ranges.by in by-is_here), (let at-is_here : to_z w32 c.args.c.position.0 ≡ pos c.args.c.position.0 = to_z_pos w32 (omega arith) in at-is_here), to_z-of_z ((let turned_here : SFits w32 (pos 0 -ℤ pos c.args.c.position.0) = back_fits c.args.c.position.0 (omega arith) in turned_here))) at c.if-by-back.false) in back_here)).n)) = let i = (let back_here : Back c.args.c.position.0 c.args.by = back_in _ _ (rw ((let by-is_here : to_z w32 (of_z w32 c.args.by) ≡ c.args.by = to_z-of_z c.ranges.by in by-is_here)) at c.if-by-lt0.true) (rw ((let by-is_here : to_z w32 (of_z w32 c.args.by) ≡ c.args.by = to_z-of_z c.ranges.by in by-is_here), (let at-is_here : to_z w32 c.args.c.position.0 ≡ pos c.args.c.position.0 = to_z_pos w32 (omega arith) in at-is_here), to_z-of_z ((let turned_here : SFits w32 (pos 0 -ℤ pos c.args.c.position.0) = back_fits c.args.c.position.0 (omega arith) in turned_here))) at c.if-by-back.false) in back_here) in record { sfits = omega arith } in back-bits_here))) (tt, record { fits = omega arith })
-
 pub overflow_sub-c : goal.overflow_sub-c
 overflow_sub-c c =
     rw ((let by-is_here : to_z w32 (of_z w32 c.args.by) ≡ c.args.by = to_z-of_z c.ranges.by in by-is_here), ((let back_here : Back c.args.c.position.0 c.args.by = back_in _ _ (rw ((let by-is_here : to_z w32 (of_z w32 c.args.by) ≡ c.args.by = to_z-of_z c.ranges.by in by-is_here)) at c.if-by-lt0.true) (rw ((let by-is_here : to_z w32 (of_z w32 c.args.by) ≡ c.args.by = to_z-of_z c.ranges.by in by-is_here), (let at-is_here : to_z w32 c.args.c.position.0 ≡ pos c.args.c.position.0 = to_z_pos w32 (omega arith) in at-is_here), to_z-of_z ((let turned_here : SFits w32 (pos 0 -ℤ pos c.args.c.position.0) = back_fits c.args.c.position.0 (omega arith) in turned_here))) at c.if-by-back.false) in back_here)).turned, to_z-of_z ((let back-bits_here : SFits w32 (pos (suc ((let back_here : Back c.args.c.position.0 c.args.by = back_in _ _ (rw ((let by-is_here : to_z w32 (of_z w32 c.args.by) ≡ c.args.by = to_z-of_z c.ranges.by in by-is_here)) at c.if-by-lt0.true) (rw ((let by-is_here : to_z w32 (of_z w32 c.args.by) ≡ c.args.by = to_z-of_z c.ranges.by in by-is_here), (let at-is_here : to_z w32 c.args.c.position.0 ≡ pos c.args.c.position.0 = to_z_pos w32 (omega arith) in at-is_here), to_z-of_z ((let turned_here : SFits w32 (pos 0 -ℤ pos c.args.c.position.0) = back_fits c.args.c.position.0 (omega arith) in turned_here))) at c.if-by-back.false) in back_here)).n)) = let i = (let back_here : Back c.args.c.position.0 c.args.by = back_in _ _ (rw ((let by-is_here : to_z w32 (of_z w32 c.args.by) ≡ c.args.by = to_z-of_z c.ranges.by in by-is_here)) at c.if-by-lt0.true) (rw ((let by-is_here : to_z w32 (of_z w32 c.args.by) ≡ c.args.by = to_z-of_z c.ranges.by in by-is_here), (let at-is_here : to_z w32 c.args.c.position.0 ≡ pos c.args.c.position.0 = to_z_pos w32 (omega arith) in at-is_here), to_z-of_z ((let turned_here : SFits w32 (pos 0 -ℤ pos c.args.c.position.0) = back_fits c.args.c.position.0 (omega arith) in turned_here))) at c.if-by-back.false) in back_here) in record { sfits = omega arith } in back-bits_here))) ((let back_here : Back c.args.c.position.0 c.args.by = back_in _ _ (rw ((let by-is_here : to_z w32 (of_z w32 c.args.by) ≡ c.args.by = to_z-of_z c.ranges.by in by-is_here)) at c.if-by-lt0.true) (rw ((let by-is_here : to_z w32 (of_z w32 c.args.by) ≡ c.args.by = to_z-of_z c.ranges.by in by-is_here), (let at-is_here : to_z w32 c.args.c.position.0 ≡ pos c.args.c.position.0 = to_z_pos w32 (omega arith) in at-is_here), to_z-of_z ((let turned_here : SFits w32 (pos 0 -ℤ pos c.args.c.position.0) = back_fits c.args.c.position.0 (omega arith) in turned_here))) at c.if-by-back.false) in back_here)).small
