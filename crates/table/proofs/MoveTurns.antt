@@ -8,7 +8,7 @@ use native.Mathlib.Nat.{sub-zero, add-zero}
 use native.Mathlib.Omega.{arith}
 use borrow.Author.Tests.{eqb-true}
 use lib.Dec.{eqb}
-use lib.ListN.{length, drop, get_or}
+use lib.ListN.{length, get_or}
 use lib.Seq.{get_or-drop}
 use Rattle.basis.specs.Choice.{and_true}
 use Rattle.basis.specs.Order.{by_lt}

@@ -1,5 +1,6 @@
 // Line tables and events as numbers: read, written, and lines moved by an edit.
 #![tactic(auto)]
+
 pub mod edited;
 pub mod entries;
 pub mod events;

@@ -9,4 +9,4 @@ returns-then-file-at c =
 
 pub returns : goal.returns
 returns c =
-    told c.args.file.now c.args.at c.args.tag c.args.size _ (omega arith) c.type_size.ensures
+    told c.args.file.now c.args.at c.args.tag c.args.size _ (omega arith) c.size_of.ensures

@@ -26,11 +26,11 @@ loop-i-preserved c =
     let told = c.in_step-told.ensures c.if-told-ne0.false in
     let same : c.wide-high.result ≡ c.args.most = c.wide-high.ensures.0 in
     let here = subst (λ (x : ℕ). InStep c.args.table.now (c.args.at + entry_numbers * (c.loop-i.i - 1)) c.args.lag x) same told.0 in (
-    λ j g h. by_lt j c.loop-i.i
-    (λ q. let e : c.loop-i.i - 1 ≡ j = omega arith in subst (λ (x : ℕ). InStep c.args.table.now (c.args.at + entry_numbers * x) c.args.lag c.args.most) e here)
-    (λ q. c.loop-i.invariant.0 j q h),
-    told.1,
-    omega (arith, c.loop-i.invariant.2),
+      λ j g h. by_lt j c.loop-i.i
+          (λ q. let e : c.loop-i.i - 1 ≡ j = omega arith in subst (λ (x : ℕ). InStep c.args.table.now (c.args.at + entry_numbers * x) c.args.lag c.args.most) e here)
+          (λ q. c.loop-i.invariant.0 j q h),
+      told.1,
+      omega (arith, c.loop-i.invariant.2),
     )
 
 pub returns : goal.returns

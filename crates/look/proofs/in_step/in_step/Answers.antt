@@ -15,5 +15,5 @@ pub returns : goal.returns
 returns c e =
     in_step-on c.args.table.now c.args.at c.args.lag c.args.last c.args.most _ _ c.wide-chars.result _ _ _ c.requires.1 c.requires.2 c.requires.3
     c.pair-next.ensures c.pair-start.ensures c.if-next-start.false
-    (omega (arith, c.wide-chars.ensures.0, c.wrapping_add_u32.ensures)) c.pair-found.ensures c.pair-found.type-inv c.wrapping_sub_u64.ensures c.wrapping_sub_u64.type-inv
-    c.wrapping_sub_u64-2.ensures c.wrapping_sub_u64-2.type-inv c.if-wrapping_sub_u64.false
+    (omega (arith, c.wide-chars.ensures.0, c.wrapping_add_u32.ensures.value)) c.pair-found.ensures c.pair-found.type_inv c.wrapping_sub_u64.ensures.value c.wrapping_sub_u64.type_inv
+    c.wrapping_sub_u64-2.ensures.value c.wrapping_sub_u64-2.type_inv c.if-wrapping_sub_u64.false

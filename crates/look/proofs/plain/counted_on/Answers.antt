@@ -17,7 +17,7 @@ returns c e h =
     let starts = c.starting-told.ensures c.if-told-ne0.false in
     let more =
     counts-between c.wide.result c.wide-2.result c.wide-3.result c.wide-4.result _ _ c.wide.ensures.1 c.wide-2.ensures.1 c.wide-4.ensures.1
-    (omega (arith, starts.past, c.wide-3.ensures.0, c.wide-4.ensures.0)) c.wrapping_sub_u64-fewer.ensures c.wrapping_sub_u64-fewer.type-inv
-    c.wrapping_sub_u64.ensures c.wrapping_sub_u64.type-inv c.if-fewer-wrapping_sub_u64.false in
+    (omega (arith, starts.past, c.wide-3.ensures.0, c.wide-4.ensures.0)) c.wrapping_sub_u64-fewer.ensures.value c.wrapping_sub_u64-fewer.type_inv
+    c.wrapping_sub_u64.ensures.value c.wrapping_sub_u64.type_inv c.if-fewer-wrapping_sub_u64.false in
     let few : Counted c.args.table.now c.args.at = omega (arith, more.1, c.wide.ensures.0, c.wide-2.ensures.0, c.wide-3.ensures.0, c.wide-4.ensures.0) in
     (record { starts = starts; counted = counts_fit _ _ _ (omega (arith, more.0, c.wide.ensures.0, c.wide-2.ensures.0)) few }, few)

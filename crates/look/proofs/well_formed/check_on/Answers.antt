@@ -16,14 +16,13 @@ returns-then-not-entry_good c =
     (sym c.entry_good.ensures ∙ c.if-not-entry_good.true)) ∙ c.loop-k.invariant.0
 
 pub loop-k-preserved : goal.loop-k-preserved
-loop-k-preserved c =
-    (
-    sym (line_on c.args.table.now c.args.lines c.args.bytes.0 c.loop-k.k c.loop-k-test.true
-    c.read_entry-e.result c.read_entry-e.ensures
-    (sym c.entry_good.ensures ∙ c.if-not-entry_good.false)) ∙ c.loop-k.invariant.0,
-    omega arith,
-    search rules,
-    )
+loop-k-preserved c = (
+  sym (line_on c.args.table.now c.args.lines c.args.bytes.0 c.loop-k.k c.loop-k-test.true
+      c.read_entry-e.result c.read_entry-e.ensures
+      (sym c.entry_good.ensures ∙ c.if-not-entry_good.false)) ∙ c.loop-k.invariant.0,
+  omega arith,
+  search rules,
+)
 
 pub returns : goal.returns
 returns c =
