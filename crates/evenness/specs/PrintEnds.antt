@@ -1,7 +1,7 @@
 -- Where the last print of what is drawn ends, in bytes, and what stands up to it; a word ends with a print, where the word ends (rule 8,
 -- rule 13).
 -- Assumes nothing.
-use Rattle.std.specs.Prelude.{ℕ, ◌+◌, ◌-◌, ◌*◌, ◌≡◌, refl, length}
+use Rattle.std.specs.Prelude.{ℕ, ◌+◌, ◌*◌, ◌≡◌, refl, length}
 use Rattle.std.proofs.Common.{ap, subst, ◌∙◌, arith}
 use mathlib.Core.List.{List, [], ◌∷◌, ◌++◌, cons≢nil}
 use Rattle.basis.specs.Choice.{pick, by_test}

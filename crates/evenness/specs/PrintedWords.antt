@@ -1,6 +1,6 @@
 -- What a word prints, whatever its spaces: the same prints, and so many glyphs where spaces are plain (rule 8).
 -- Assumes nothing.
-use Rattle.std.specs.Prelude.{ℕ, ◌+◌, ◌-◌, ◌*◌, ◌≡◌, refl, List, [], ◌∷◌, ◌++◌, length}
+use Rattle.std.specs.Prelude.{ℕ, ◌+◌, ◌*◌, ◌≡◌, refl, List, [], ◌∷◌, ◌++◌, length}
 use Rattle.std.proofs.Common.{sym, ap, subst, ◌∙◌, inl, append-nil, arith}
 use Rattle.utf8.specs.Encoding.{bytes, size}
 use Rattle.meaning.specs.SpaceConfig.{spaces_after}

@@ -1,7 +1,7 @@
 -- In a text with neither tabs nor soft hyphens the draw of a justified line makes the same prints as its measure: its spaces are wider
 -- by no more than the room that the measure left (rule 6, rule 8, rule 10).
 -- Assumes nothing.
-use Rattle.std.specs.Prelude.{ℕ, ◌+◌, ◌-◌, ◌*◌, ◌/◌, ◌≤◌, ◌<◌, ◌≡◌, Bool, true, false, ◌⊎◌, eqb, take}
+use Rattle.std.specs.Prelude.{ℕ, ◌+◌, ◌*◌, ◌/◌, ◌≤◌, ◌<◌, ◌≡◌, Bool, true, false, eqb, take}
 use Rattle.std.proofs.Math.Path.{refl, sym, ap, subst}
 use Rattle.std.proofs.Common.{◌∙◌, inl, ⊎_elim, add-zero, le-div_iff_mul-le}
 use Rattle.std.proofs.lemmas.Bool.{false≢true}
@@ -15,7 +15,7 @@ use Rattle.utf8.specs.Encoding.{size}
 use Rattle.meaning.specs.Tokens.{Tok, newLine, carriageReturn, tab, softHyphen, space, word, size_of}
 use Rattle.meaning.specs.Cursor.{room_of, fits_in, advance}
 use Rattle.meaning.specs.SpaceConfig.{spaces_width}
-use Rattle.meaning.specs.Words.{Drawn, drawn, glues, drawn_word}
+use Rattle.meaning.specs.Words.{Drawn, glues, drawn_word}
 use Rattle.meaning.specs.LineIter.{when, skips, used_up, after_word, step, process}
 use Rattle.meaning.specs.declared.settings.Settings.{Settings}
 use Rattle.meaning.specs.declared.cursor.Place.{Place}

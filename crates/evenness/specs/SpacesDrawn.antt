@@ -11,7 +11,7 @@ use Rattle.meaning.specs.Tokens.{Tok, newLine, carriageReturn, tab, softHyphen, 
 use Rattle.meaning.specs.Cursor.{room_of, fits_in, has_moved, tab_width}
 use Rattle.meaning.specs.SpaceConfig.{spaces_width, spaces_after}
 use Rattle.meaning.specs.Lookahead.{Looked}
-use Rattle.meaning.specs.Words.{Drawn, drawn, Stretches, last, glued, stretches, glues, printed_first, drawn_stretches, drawn_word}
+use Rattle.meaning.specs.Words.{Drawn, Stretches, last, glued, stretches, glues, printed_first, drawn_stretches, drawn_word}
 use Rattle.meaning.specs.LineIter.{when, skips, Step, go, stop, cut_run, on_space, on_tab, hyphenated, on_break, wrap_on, unfit_word, cut_word, on_word, step, Ran, pass_on, process}
 use Rattle.meaning.specs.Line.{noted, measured}
 use Rattle.meaning.specs.declared.settings.Settings.{Settings}

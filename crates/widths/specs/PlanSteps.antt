@@ -2,7 +2,7 @@
 -- glyph more, and what does not fit in a box that holds its longest part, or centred two of those, fits in none that is wider. The
 -- planned width is whole glyphs (rule 10).
 -- Assumes nothing.
-use Rattle.std.specs.Prelude.{ℕ, suc, ◌+◌, ◌-◌, ◌*◌, ◌/◌, ◌≤◌, ◌<◌, ◌≡◌, true, false, List}
+use Rattle.std.specs.Prelude.{ℕ, suc, ◌+◌, ◌-◌, ◌*◌, ◌/◌, ◌≤◌, ◌<◌, ◌≡◌, false, List}
 use Rattle.std.proofs.Common.{sym, ◌∙◌, div-mul-le_self, div-lt_iff_lt-mul, le-div_iff_mul-le, arith}
 use Rattle.std.proofs.lemmas.Bool.{false≢true}
 use Rattle.basis.specs.Order.{by_lt}

@@ -1,6 +1,6 @@
 -- The tab stops of a line: the next one behind a place, and how they stand further on (rule 4).
 -- Assumes nothing.
-use Rattle.std.specs.Prelude.{ℕ, ◌+◌, ◌-◌, ◌*◌, ◌/◌, ◌≤◌, ◌≡◌, ◌⊎◌, eqb}
+use Rattle.std.specs.Prelude.{ℕ, ◌+◌, ◌*◌, ◌/◌, ◌≤◌, ◌≡◌, ◌⊎◌, eqb}
 use Rattle.std.proofs.Common.{sym, ap, ◌∙◌, inl, inr, add-mul, mul_assoc, mul-le-mul_right, div-mul-le_self, le-div_iff_mul-le, arith, eq-eqb, ne_eqb}
 use Rattle.std.proofs.Math.Nat.{lt-div-mul-add, add-mul-div_right}
 use Rattle.basis.specs.Choice.{pick, pick_cases}
