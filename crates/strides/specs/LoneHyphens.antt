@@ -64,7 +64,7 @@ stays-told g v at (carriageReturn ∷ ts) = record { pixels = v; is = refl }
 stays-told g v at (tab ∷ ts) = record { pixels = v; is = refl }
 stays-told g v at (space cs n e ∷ ts) = record { pixels = v; is = refl }
 stays-told g v at (softHyphen ∷ ts) = record { pixels = _; is = refl }
-stays-told g v at (word cs e ∷ ts) = stays-told g _ _ ts
+stays-told g v at (word cs e ∷ ts) = stays-told g (record { 0 = v.0 + length cs * g }) _ ts
 
 word-told : (g at : ℕ) (cs : List ℕ) (e : ℕ) (ts : List Tok) → Told (next_width g Nothing at (word cs e ∷ ts)).width
 unfolding next_width added

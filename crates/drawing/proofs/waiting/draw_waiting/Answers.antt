@@ -11,18 +11,18 @@ space_fits-requires c =
 
 pub returns-then-not-space_fits : goal.returns-then-not-space_fits
 returns-then-not-space_fits c =
+    let sh = sheet c.args.events.now c.args.g.pen in
+    sym (on_none sh)
+    ∙ ap (drawn_on sh) (sym (waits-cut c.requires.0.pass _ c.requires.1 _ refl (sym c.space_fits.ensures ∙ c.if-not-space_fits.true)))
+
+pub put_one-requires : goal.put_one-requires
+put_one-requires c =
     let y = (read-pending _ _ _ c.requires.1.pair.space).stands in (
     omega (arith, c.requires.0.few, c.requires.0.pass.inside, c.requires.0.pass.short),
     omega (arith, c.requires.0.narrow, c.requires.0.pass.inside, c.requires.0.pass.short),
     omega (arith, c.requires.0.pass.inside, c.requires.0.pass.short),
     omega (arith, y.within, c.requires.0.pass.short),
     )
-
-pub put_one-requires : goal.put_one-requires
-put_one-requires c =
-    let sh = sheet c.args.events.now c.args.g.pen in
-    sym (on_none sh)
-    ∙ ap (drawn_on sh) (sym (waits-cut c.requires.0.pass _ c.requires.1 _ refl (sym c.space_fits.ensures ∙ c.if-not-space_fits.true)))
 
 pub returns : goal.returns
 returns c =

@@ -41,10 +41,10 @@ word_place-requires c =
 pub returns : goal.returns
 returns c =
     record {
-    hyphen = (let hyphen_here : Mark c.args.text.now c.args.at 2 = subst (Mark _ _) c.if-mark_len-ne2.false (c.mark_len.ensures (omega (arith, c.if-mark_len-ne2.false))) in hyphen_here);
-    word = (let word_here : lexed_at (c.args.at + 2) (tokens (chars_from c.args.text.now (c.args.at + 2))) ≡ Token (word_of c.scan_word-word.result) = sym (ap (λ (w : Scanned). Token (word_of w)) c.scan_word-word.ensures ∙ letter-lexed _ _ 1 (letter-plain _ _ ((let plain_here : plain_at c.args.text.now (c.args.at + 2) ≡ true = sym c.plain_at.ensures ∙ c.if-not-plain_at.false in plain_here)))) in word_here);
-    behind = (let behind_here : Mark c.args.text.now c.scan_word-word.result.end.0 2 = subst (Mark _ _) c.if-mark_len-ne2-2.false (c.mark_len-2.ensures (omega (arith, c.if-mark_len-ne2-2.false))) in behind_here);
-    empty = c.requires.1;
-    fits = (let fits_here : c.scan_word-word.result.chars.0 * c.args.s.glyph.0 + c.args.s.glyph.0 ≤ room_of c.args.p.cursor = omega (arith, c.if-room-chars.false, c.room.ensures) in fits_here);
-    place = c.word_place.ensures;
+      hyphen = (let hyphen_here : Mark c.args.text.now c.args.at 2 = subst (Mark _ _) c.if-mark_len-ne2.false (c.mark_len.ensures (omega (arith, c.if-mark_len-ne2.false))) in hyphen_here);
+      word = (let word_here : lexed_at (c.args.at + 2) (tokens (chars_from c.args.text.now (c.args.at + 2))) ≡ Token (word_of c.scan_word-word.result) = sym (ap (λ (w : Scanned). Token (word_of w)) c.scan_word-word.ensures ∙ letter-lexed _ _ 1 (letter-plain _ _ ((let plain_here : plain_at c.args.text.now (c.args.at + 2) ≡ true = sym c.plain_at.ensures ∙ c.if-not-plain_at.false in plain_here)))) in word_here);
+      behind = (let behind_here : Mark c.args.text.now c.scan_word-word.result.end.0 2 = subst (Mark _ _) c.if-mark_len-ne2-2.false (c.mark_len-2.ensures (omega (arith, c.if-mark_len-ne2-2.false))) in behind_here);
+      empty = c.requires.1;
+      fits = (let fits_here : c.scan_word-word.result.chars.0 * c.args.s.glyph.0 + c.args.s.glyph.0 ≤ room_of c.args.p.cursor = omega (arith, c.if-room-chars.false, c.room.ensures) in fits_here);
+      place = c.word_place.ensures;
     }

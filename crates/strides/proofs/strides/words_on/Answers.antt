@@ -58,12 +58,19 @@ stands_at-g-requires c =
 
 pub loop-far-smaller : goal.loop-far-smaller
 loop-far-smaller c =
-    omega (arith, goes_at _ _ _ _ c.stands_at-g.ensures, taken-numbers ((let taking_here : Taking c.args.s c.loop-far.g.place c.args.text.now c.loop-far.g.at.0 c.in-Fits.t = subst (Decides c.args.s c.loop-far.g.place c.args.text.now c.loop-far.g.at.0) c.in-Fits.is c.next_pair.ensures in taking_here)) c.loop-far.invariant.0.onward.ready, ((let gone_here : Goes c.args.s c.loop-far.g.place c.args.text.now c.loop-far.g.at.0 nothing_resumed c.loop-far.g.measure c.stands_at-g.result = goes_to _ c.nothing_waits.ensures c.stands_at-g.ensures
-    (subst (λ (m : Measure). Onward c.args.s c.loop-far.g.place c.args.text.now c.loop-far.g.at.0 nothing_resumed c.loop-far.g.measure c.in-Fits.t.place c.in-Fits.t.word.end.0 m)
-    (sym c.measure_taken-after.ensures) (taken-onward ((let taking_here : Taking c.args.s c.loop-far.g.place c.args.text.now c.loop-far.g.at.0 c.in-Fits.t = subst (Decides c.args.s c.loop-far.g.place c.args.text.now c.loop-far.g.at.0) c.in-Fits.is c.next_pair.ensures in taking_here)) c.loop-far.invariant.0.onward.ready)) in gone_here)).onward.ready.inside)
+    omega (
+      arith,
+      goes_at _ _ _ _ c.stands_at-g.ensures,
+      taken-numbers ((let taking_here : Taking c.args.s c.loop-far.g.place c.args.text.now c.loop-far.g.at.0 c.in-Fits.t = subst (Decides c.args.s c.loop-far.g.place c.args.text.now c.loop-far.g.at.0) c.in-Fits.is c.next_pair.ensures in taking_here)) c.loop-far.invariant.0.onward.ready,
+      ((let gone_here : Goes c.args.s c.loop-far.g.place c.args.text.now c.loop-far.g.at.0 nothing_resumed c.loop-far.g.measure c.stands_at-g.result = goes_to _ c.nothing_waits.ensures c.stands_at-g.ensures
+          (subst (λ (m : Measure). Onward c.args.s c.loop-far.g.place c.args.text.now c.loop-far.g.at.0 nothing_resumed c.loop-far.g.measure c.in-Fits.t.place c.in-Fits.t.word.end.0 m)
+          (sym c.measure_taken-after.ensures) (taken-onward ((let taking_here : Taking c.args.s c.loop-far.g.place c.args.text.now c.loop-far.g.at.0 c.in-Fits.t = subst (Decides c.args.s c.loop-far.g.place c.args.text.now c.loop-far.g.at.0) c.in-Fits.is c.next_pair.ensures in taking_here)) c.loop-far.invariant.0.onward.ready)) in gone_here)).onward.ready.inside,
+    )
 
 pub loop-far-preserved : goal.loop-far-preserved
-loop-far-preserved c =
-    (goes_on_lem c.loop-far.invariant.0.onward ((let gone_here : Goes c.args.s c.loop-far.g.place c.args.text.now c.loop-far.g.at.0 nothing_resumed c.loop-far.g.measure c.stands_at-g.result = goes_to _ c.nothing_waits.ensures c.stands_at-g.ensures
-    (subst (λ (m : Measure). Onward c.args.s c.loop-far.g.place c.args.text.now c.loop-far.g.at.0 nothing_resumed c.loop-far.g.measure c.in-Fits.t.place c.in-Fits.t.word.end.0 m)
-    (sym c.measure_taken-after.ensures) (taken-onward ((let taking_here : Taking c.args.s c.loop-far.g.place c.args.text.now c.loop-far.g.at.0 c.in-Fits.t = subst (Decides c.args.s c.loop-far.g.place c.args.text.now c.loop-far.g.at.0) c.in-Fits.is c.next_pair.ensures in taking_here)) c.loop-far.invariant.0.onward.ready)) in gone_here)), goes-full _ _ _ _ c.stands_at-g.ensures (taken-full ((let taking_here : Taking c.args.s c.loop-far.g.place c.args.text.now c.loop-far.g.at.0 c.in-Fits.t = subst (Decides c.args.s c.loop-far.g.place c.args.text.now c.loop-far.g.at.0) c.in-Fits.is c.next_pair.ensures in taking_here))))
+loop-far-preserved c = (
+  goes_on_lem c.loop-far.invariant.0.onward ((let gone_here : Goes c.args.s c.loop-far.g.place c.args.text.now c.loop-far.g.at.0 nothing_resumed c.loop-far.g.measure c.stands_at-g.result = goes_to _ c.nothing_waits.ensures c.stands_at-g.ensures
+      (subst (λ (m : Measure). Onward c.args.s c.loop-far.g.place c.args.text.now c.loop-far.g.at.0 nothing_resumed c.loop-far.g.measure c.in-Fits.t.place c.in-Fits.t.word.end.0 m)
+      (sym c.measure_taken-after.ensures) (taken-onward ((let taking_here : Taking c.args.s c.loop-far.g.place c.args.text.now c.loop-far.g.at.0 c.in-Fits.t = subst (Decides c.args.s c.loop-far.g.place c.args.text.now c.loop-far.g.at.0) c.in-Fits.is c.next_pair.ensures in taking_here)) c.loop-far.invariant.0.onward.ready)) in gone_here)),
+  goes-full _ _ _ _ c.stands_at-g.ensures (taken-full ((let taking_here : Taking c.args.s c.loop-far.g.place c.args.text.now c.loop-far.g.at.0 c.in-Fits.t = subst (Decides c.args.s c.loop-far.g.place c.args.text.now c.loop-far.g.at.0) c.in-Fits.is c.next_pair.ensures in taking_here))),
+)

@@ -10,9 +10,9 @@ pub space_fits-requires : goal.space_fits-requires
 space_fits-requires c =
     c.requires.0.place
 
-pub ends_before-requires-2 : goal.ends_before-requires-2
-ends_before-requires-2 c =
-    c.ends-before.ensures ∙ waits-cut c.requires.0 _ c.requires.1 _ refl (sym c.space_fits.ensures ∙ c.if-not-space_fits.true)
+pub returns-then-not-space_fits : goal.returns-then-not-space_fits
+returns-then-not-space_fits c =
+    c.ends_before.ensures ∙ waits-cut c.requires.0 _ c.requires.1 _ refl (sym c.space_fits.ensures ∙ c.if-not-space_fits.true)
 
 pub returns : goal.returns
 returns c =
