@@ -23,13 +23,12 @@ returns-then-stays_plain c =
     (sym c.stays_plain.ensures ∙ c.if-stays_plain.true)
 
 pub shared_out-wide-requires : goal.shared_out-wide-requires
-shared_out-wide-requires c =
-    (
-    c.requires.0,
-    omega (arith, c.less-room.ensures),
-    counts (ends_paragraph c.args.ended) c.args.n.0 (sym c.stays_plain.ensures ∙ c.if-stays_plain.false),
-    c.requires.1,
-    )
+shared_out-wide-requires c = (
+  c.requires.0,
+  omega (arith, c.less-room.ensures),
+  counts (ends_paragraph c.args.ended) c.args.n.0 (sym c.stays_plain.ensures ∙ c.if-stays_plain.false),
+  c.requires.1,
+)
 
 pub returns : goal.returns
 returns c =

@@ -7,14 +7,14 @@ unfolding laid_at
 returns c =
     λ i.
     record {
-    start = c.args.at;
-    c = c.rest_in-resumed.ensures i;
-    ending = c.end_number-ending.ensures i;
-    left = c.args.p.left;
-    space = c.args.p.spaces.width;
-    extra = c.args.p.spaces.extra;
-    width = c.args.width;
-    dropped = c.args.e.dropped;
-    reach = record { 0 = c.greater-reach.ensures i };
-    before = c.args;
+      start = c.args.at;
+      c = c.rest_in-resumed.ensures i;
+      ending = c.end_number-ending.ensures i;
+      left = c.args.p.left;
+      space = c.args.p.spaces.width;
+      extra = c.args.p.spaces.extra;
+      width = c.args.width;
+      dropped = c.args.e.dropped;
+      reach = record { 0 = c.greater-reach.ensures i };
+      before = c.args;
     }

@@ -20,8 +20,8 @@ ends_waiting-requires c =
 pub returns-then-g-ne0 : goal.returns-then-g-ne0
 returns-then-g-ne0 c =
     let d = (let counted_here : CountedWords c.args.s c.args.text.now c.args.at c.count_words-c.result = c.count_words-c.ensures (omega (arith, c.if-c-eq0.false)) in counted_here) in (
-    quick_waits c.requires.0 d _ c.measured_to-g.ensures c.if-g-ne0.true _ c.ends_waiting.ensures,
-    waits-taken c.requires.0 d _ c.measured_to-g.ensures c.if-g-ne0.true _ c.ends_waiting.ensures,
+      quick_waits c.requires.0 d _ c.measured_to-g.ensures c.if-g-ne0.true _ c.ends_waiting.ensures,
+      waits-taken c.requires.0 d _ c.measured_to-g.ensures c.if-g-ne0.true _ c.ends_waiting.ensures,
     )
 
 pub overflow_add-far : goal.overflow_add-far
@@ -31,8 +31,8 @@ overflow_add-far c =
 pub returns-then-text-end : goal.returns-then-text-end
 returns-then-text-end c =
     let d = (let counted_here : CountedWords c.args.s c.args.text.now c.args.at c.count_words-c.result = c.count_words-c.ensures (omega (arith, c.if-c-eq0.false)) in counted_here) in (
-    quick_ends c.requires.0 d _ c.measured_to-g.ensures c.if-text-end.true _ c.ends_before-e.ensures,
-    ends-taken c.requires.0 d _ c.measured_to-g.ensures _ c.ends_before-e.ensures,
+      quick_ends c.requires.0 d _ c.measured_to-g.ensures c.if-text-end.true _ c.ends_before-e.ensures,
+      ends-taken c.requires.0 d _ c.measured_to-g.ensures _ c.ends_before-e.ensures,
     )
 
 pub overflow_add-next : goal.overflow_add-next
@@ -47,6 +47,6 @@ pub returns-then-feed_at : goal.returns-then-feed_at
 returns-then-feed_at c =
     let d = (let counted_here : CountedWords c.args.s c.args.text.now c.args.at c.count_words-c.result = c.count_words-c.ensures (omega (arith, c.if-c-eq0.false)) in counted_here) in
     let feeds = sym c.feed_at.ensures ∙ c.if-feed_at.true in (
-    quick_feeds c.requires.0 d _ c.measured_to-g.ensures feeds _ c.ends_before-e-then-feed_at.ensures,
-    feeds_taken c.requires.0 d _ c.measured_to-g.ensures feeds _ c.ends_before-e-then-feed_at.ensures,
+      quick_feeds c.requires.0 d _ c.measured_to-g.ensures feeds _ c.ends_before-e-then-feed_at.ensures,
+      feeds_taken c.requires.0 d _ c.measured_to-g.ensures feeds _ c.ends_before-e-then-feed_at.ensures,
     )
