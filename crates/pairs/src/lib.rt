@@ -1,5 +1,6 @@
 // A space and a word read together, the words that a line begins with, and lines of plain words (rule 2).
 #![tactic(auto)]
+
 pub mod pair;
 pub mod plain_line;
 pub mod stretch;

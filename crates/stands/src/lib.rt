@@ -1,4 +1,5 @@
 // Where a line stands: its offset, the characters before it, what it resumes; and where the next one does (rule 10).
 #![tactic(auto)]
+
 pub mod row;
 pub mod stand;

@@ -18,8 +18,8 @@ skip_plain-end-requires c =
 pub returns-then-ends_at : goal.returns-then-ends_at
 returns-then-ends_at c =
     λ d. record {
-    space = (let spaced_here : space_at c.args.text.now c.args.at ≡ true = sym c.space_at.ensures ∙ c.if-space_at.true in spaced_here);
-    word = record { first = (let lettered_here : plain_at c.args.text.now (c.args.at + 1) ≡ true = sym c.plain_at.ensures ∙ c.if-plain_at.true in lettered_here); letters = c.skip_plain-end.ensures.0; ends = sym c.ends_at.ensures ∙ c.if-ends_at.true };
+      space = (let spaced_here : space_at c.args.text.now c.args.at ≡ true = sym c.space_at.ensures ∙ c.if-space_at.true in spaced_here);
+      word = record { first = (let lettered_here : plain_at c.args.text.now (c.args.at + 1) ≡ true = sym c.plain_at.ensures ∙ c.if-plain_at.true in lettered_here); letters = c.skip_plain-end.ensures.0; ends = sym c.ends_at.ensures ∙ c.if-ends_at.true };
     }
 
 pub returns-else-ends_at : goal.returns-else-ends_at

@@ -22,13 +22,12 @@ returns-then-end-at c =
     λ d. absurd (d c.plain_found-then-end-at.ensures.0)
 
 pub waits_behind-requires : goal.waits_behind-requires
-waits_behind-requires c =
-    (
-    search rules,
-    search rules,
-    search rules,
-    plains_behind c.args.text.now c.args.at (c.args.at + c.args.most) c.last_space-end.result ((let looked_here : Smooth c.args.text.now (c.args.at + 1) (c.args.at + c.args.most + 1) = c.smooth_to.ensures (c.if-not-smooth_to.false) in looked_here)) c.last_space-end.ensures,
-    )
+waits_behind-requires c = (
+  search rules,
+  search rules,
+  search rules,
+  plains_behind c.args.text.now c.args.at (c.args.at + c.args.most) c.last_space-end.result ((let looked_here : Smooth c.args.text.now (c.args.at + 1) (c.args.at + c.args.most + 1) = c.smooth_to.ensures (c.if-not-smooth_to.false) in looked_here)) c.last_space-end.ensures,
+)
 
 pub returns : goal.returns
 returns c =

@@ -25,9 +25,8 @@ loop-from-smaller c =
     omega (arith, c.nearer-at.ensures, c.if-at-last.false)
 
 pub loop-from-preserved : goal.loop-from-preserved
-loop-from-preserved c =
-    (
-    smooth-part c.args.text.now c.args.from (c.loop-from.at + c.args.block) c.nearer-at.result ((let grown_here : Smooth c.args.text.now c.args.from (c.loop-from.at + c.args.block) = smooth-on c.args.text.now c.args.from c.loop-from.at (c.loop-from.at + c.args.block) c.loop-from.invariant.0 (c.all_smooth.ensures (c.if-not-all_smooth.false)) in grown_here)) (omega (arith, c.nearer-at.ensures)),
-    omega (arith, c.nearer-at.ensures),
-    omega (arith, c.nearer-at.ensures),
-    )
+loop-from-preserved c = (
+  smooth-part c.args.text.now c.args.from (c.loop-from.at + c.args.block) c.nearer-at.result ((let grown_here : Smooth c.args.text.now c.args.from (c.loop-from.at + c.args.block) = smooth-on c.args.text.now c.args.from c.loop-from.at (c.loop-from.at + c.args.block) c.loop-from.invariant.0 (c.all_smooth.ensures (c.if-not-all_smooth.false)) in grown_here)) (omega (arith, c.nearer-at.ensures)),
+  omega (arith, c.nearer-at.ensures),
+  omega (arith, c.nearer-at.ensures),
+)

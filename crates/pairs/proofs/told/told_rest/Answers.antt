@@ -18,8 +18,12 @@ returns-then-ends_at c =
 
 pub overflow_add-at : goal.overflow_add-at
 overflow_add-at c =
-    omega (arith, spells-room _ _ _ 0 ((let lettered_here : Letter c.args.text.now c.skip_plain-end.result c.long_len-letter.result = letter-long _ _ _ (c.long_len-letter.ensures (omega (arith, c.if-letter-ne0.true))) in lettered_here)), (let small_here : (c.loop-from.at ≤ c.skip_plain-end.result) × (c.loop-from.conts ≤ c.skip_plain-end.result) × (c.loop-from.glues ≤ c.skip_plain-end.result) × (c.skip_plain-end.result ≤ length c.args.text.now) × (length c.args.text.now ≤ 65535) = let s = (let so_far_here : Goes c.args.text.now c.args.from c.skip_plain-end.result c.loop-from.conts c.loop-from.glues = told-letters _ _ _ _ _ c.loop-from.invariant _ c.skip_plain-end.ensures.0 in so_far_here) in
-    omega (arith, s.few, s.on.inside, s.on.fewer, s.on.forward, c.skip_plain-end.ensures.0.forward, c.requires.0) in small_here))
+    omega (
+      arith,
+      spells-room _ _ _ 0 ((let lettered_here : Letter c.args.text.now c.skip_plain-end.result c.long_len-letter.result = letter-long _ _ _ (c.long_len-letter.ensures (omega (arith, c.if-letter-ne0.true))) in lettered_here)),
+      (let small_here : (c.loop-from.at ≤ c.skip_plain-end.result) × (c.loop-from.conts ≤ c.skip_plain-end.result) × (c.loop-from.glues ≤ c.skip_plain-end.result) × (c.skip_plain-end.result ≤ length c.args.text.now) × (length c.args.text.now ≤ 65535) = let s = (let so_far_here : Goes c.args.text.now c.args.from c.skip_plain-end.result c.loop-from.conts c.loop-from.glues = told-letters _ _ _ _ _ c.loop-from.invariant _ c.skip_plain-end.ensures.0 in so_far_here) in
+          omega (arith, s.few, s.on.inside, s.on.fewer, s.on.forward, c.skip_plain-end.ensures.0.forward, c.requires.0) in small_here),
+    )
 
 pub overflow_cast-conts : goal.overflow_cast-conts
 overflow_cast-conts c =
@@ -31,13 +35,21 @@ overflow_sub-conts c =
 
 pub overflow_add-conts : goal.overflow_add-conts
 overflow_add-conts c =
-    omega (arith, spells-room _ _ _ 0 ((let lettered_here : Letter c.args.text.now c.skip_plain-end.result c.long_len-letter.result = letter-long _ _ _ (c.long_len-letter.ensures (omega (arith, c.if-letter-ne0.true))) in lettered_here)), (let small_here : (c.loop-from.at ≤ c.skip_plain-end.result) × (c.loop-from.conts ≤ c.skip_plain-end.result) × (c.loop-from.glues ≤ c.skip_plain-end.result) × (c.skip_plain-end.result ≤ length c.args.text.now) × (length c.args.text.now ≤ 65535) = let s = (let so_far_here : Goes c.args.text.now c.args.from c.skip_plain-end.result c.loop-from.conts c.loop-from.glues = told-letters _ _ _ _ _ c.loop-from.invariant _ c.skip_plain-end.ensures.0 in so_far_here) in
-    omega (arith, s.few, s.on.inside, s.on.fewer, s.on.forward, c.skip_plain-end.ensures.0.forward, c.requires.0) in small_here))
+    omega (
+      arith,
+      spells-room _ _ _ 0 ((let lettered_here : Letter c.args.text.now c.skip_plain-end.result c.long_len-letter.result = letter-long _ _ _ (c.long_len-letter.ensures (omega (arith, c.if-letter-ne0.true))) in lettered_here)),
+      (let small_here : (c.loop-from.at ≤ c.skip_plain-end.result) × (c.loop-from.conts ≤ c.skip_plain-end.result) × (c.loop-from.glues ≤ c.skip_plain-end.result) × (c.skip_plain-end.result ≤ length c.args.text.now) × (length c.args.text.now ≤ 65535) = let s = (let so_far_here : Goes c.args.text.now c.args.from c.skip_plain-end.result c.loop-from.conts c.loop-from.glues = told-letters _ _ _ _ _ c.loop-from.invariant _ c.skip_plain-end.ensures.0 in so_far_here) in
+          omega (arith, s.few, s.on.inside, s.on.fewer, s.on.forward, c.skip_plain-end.ensures.0.forward, c.requires.0) in small_here),
+    )
 
 pub loop-from-smaller-then-letter-ne0 : goal.loop-from-smaller-then-letter-ne0
 loop-from-smaller-then-letter-ne0 c =
-    omega (arith, spells-room _ _ _ 0 ((let lettered_here : Letter c.args.text.now c.skip_plain-end.result c.long_len-letter.result = letter-long _ _ _ (c.long_len-letter.ensures (omega (arith, c.if-letter-ne0.true))) in lettered_here)), (let small_here : (c.loop-from.at ≤ c.skip_plain-end.result) × (c.loop-from.conts ≤ c.skip_plain-end.result) × (c.loop-from.glues ≤ c.skip_plain-end.result) × (c.skip_plain-end.result ≤ length c.args.text.now) × (length c.args.text.now ≤ 65535) = let s = (let so_far_here : Goes c.args.text.now c.args.from c.skip_plain-end.result c.loop-from.conts c.loop-from.glues = told-letters _ _ _ _ _ c.loop-from.invariant _ c.skip_plain-end.ensures.0 in so_far_here) in
-    omega (arith, s.few, s.on.inside, s.on.fewer, s.on.forward, c.skip_plain-end.ensures.0.forward, c.requires.0) in small_here))
+    omega (
+      arith,
+      spells-room _ _ _ 0 ((let lettered_here : Letter c.args.text.now c.skip_plain-end.result c.long_len-letter.result = letter-long _ _ _ (c.long_len-letter.ensures (omega (arith, c.if-letter-ne0.true))) in lettered_here)),
+      (let small_here : (c.loop-from.at ≤ c.skip_plain-end.result) × (c.loop-from.conts ≤ c.skip_plain-end.result) × (c.loop-from.glues ≤ c.skip_plain-end.result) × (c.skip_plain-end.result ≤ length c.args.text.now) × (length c.args.text.now ≤ 65535) = let s = (let so_far_here : Goes c.args.text.now c.args.from c.skip_plain-end.result c.loop-from.conts c.loop-from.glues = told-letters _ _ _ _ _ c.loop-from.invariant _ c.skip_plain-end.ensures.0 in so_far_here) in
+          omega (arith, s.few, s.on.inside, s.on.fewer, s.on.forward, c.skip_plain-end.ensures.0.forward, c.requires.0) in small_here),
+    )
 
 pub loop-from-preserved-then-letter-ne0 : goal.loop-from-preserved-then-letter-ne0
 loop-from-preserved-then-letter-ne0 c =
@@ -49,8 +61,12 @@ returns-then-glue-eq0 c =
 
 pub overflow_add-at-in-loop-from : goal.overflow_add-at-in-loop-from
 overflow_add-at-in-loop-from c =
-    omega (arith, spells-room _ _ _ 1 ((let glued_here : Glues c.args.text.now c.skip_plain-end.result c.glue_len-glue.result = c.glue_len-glue.ensures (omega (arith, c.if-glue-eq0.false)) in glued_here)), (let small_here : (c.loop-from.at ≤ c.skip_plain-end.result) × (c.loop-from.conts ≤ c.skip_plain-end.result) × (c.loop-from.glues ≤ c.skip_plain-end.result) × (c.skip_plain-end.result ≤ length c.args.text.now) × (length c.args.text.now ≤ 65535) = let s = (let so_far_here : Goes c.args.text.now c.args.from c.skip_plain-end.result c.loop-from.conts c.loop-from.glues = told-letters _ _ _ _ _ c.loop-from.invariant _ c.skip_plain-end.ensures.0 in so_far_here) in
-    omega (arith, s.few, s.on.inside, s.on.fewer, s.on.forward, c.skip_plain-end.ensures.0.forward, c.requires.0) in small_here))
+    omega (
+      arith,
+      spells-room _ _ _ 1 ((let glued_here : Glues c.args.text.now c.skip_plain-end.result c.glue_len-glue.result = c.glue_len-glue.ensures (omega (arith, c.if-glue-eq0.false)) in glued_here)),
+      (let small_here : (c.loop-from.at ≤ c.skip_plain-end.result) × (c.loop-from.conts ≤ c.skip_plain-end.result) × (c.loop-from.glues ≤ c.skip_plain-end.result) × (c.skip_plain-end.result ≤ length c.args.text.now) × (length c.args.text.now ≤ 65535) = let s = (let so_far_here : Goes c.args.text.now c.args.from c.skip_plain-end.result c.loop-from.conts c.loop-from.glues = told-letters _ _ _ _ _ c.loop-from.invariant _ c.skip_plain-end.ensures.0 in so_far_here) in
+          omega (arith, s.few, s.on.inside, s.on.fewer, s.on.forward, c.skip_plain-end.ensures.0.forward, c.requires.0) in small_here),
+    )
 
 pub overflow_cast-conts-in-loop-from : goal.overflow_cast-conts-in-loop-from
 overflow_cast-conts-in-loop-from c =
@@ -62,18 +78,29 @@ overflow_sub-conts-in-loop-from c =
 
 pub overflow_add-conts-in-loop-from : goal.overflow_add-conts-in-loop-from
 overflow_add-conts-in-loop-from c =
-    omega (arith, spells-room _ _ _ 1 ((let glued_here : Glues c.args.text.now c.skip_plain-end.result c.glue_len-glue.result = c.glue_len-glue.ensures (omega (arith, c.if-glue-eq0.false)) in glued_here)), (let small_here : (c.loop-from.at ≤ c.skip_plain-end.result) × (c.loop-from.conts ≤ c.skip_plain-end.result) × (c.loop-from.glues ≤ c.skip_plain-end.result) × (c.skip_plain-end.result ≤ length c.args.text.now) × (length c.args.text.now ≤ 65535) = let s = (let so_far_here : Goes c.args.text.now c.args.from c.skip_plain-end.result c.loop-from.conts c.loop-from.glues = told-letters _ _ _ _ _ c.loop-from.invariant _ c.skip_plain-end.ensures.0 in so_far_here) in
-    omega (arith, s.few, s.on.inside, s.on.fewer, s.on.forward, c.skip_plain-end.ensures.0.forward, c.requires.0) in small_here))
+    omega (
+      arith,
+      spells-room _ _ _ 1 ((let glued_here : Glues c.args.text.now c.skip_plain-end.result c.glue_len-glue.result = c.glue_len-glue.ensures (omega (arith, c.if-glue-eq0.false)) in glued_here)),
+      (let small_here : (c.loop-from.at ≤ c.skip_plain-end.result) × (c.loop-from.conts ≤ c.skip_plain-end.result) × (c.loop-from.glues ≤ c.skip_plain-end.result) × (c.skip_plain-end.result ≤ length c.args.text.now) × (length c.args.text.now ≤ 65535) = let s = (let so_far_here : Goes c.args.text.now c.args.from c.skip_plain-end.result c.loop-from.conts c.loop-from.glues = told-letters _ _ _ _ _ c.loop-from.invariant _ c.skip_plain-end.ensures.0 in so_far_here) in
+          omega (arith, s.few, s.on.inside, s.on.fewer, s.on.forward, c.skip_plain-end.ensures.0.forward, c.requires.0) in small_here),
+    )
 
 pub overflow_add-glues : goal.overflow_add-glues
 overflow_add-glues c =
-    omega (arith, (let small_here : (c.loop-from.at ≤ c.skip_plain-end.result) × (c.loop-from.conts ≤ c.skip_plain-end.result) × (c.loop-from.glues ≤ c.skip_plain-end.result) × (c.skip_plain-end.result ≤ length c.args.text.now) × (length c.args.text.now ≤ 65535) = let s = (let so_far_here : Goes c.args.text.now c.args.from c.skip_plain-end.result c.loop-from.conts c.loop-from.glues = told-letters _ _ _ _ _ c.loop-from.invariant _ c.skip_plain-end.ensures.0 in so_far_here) in
-    omega (arith, s.few, s.on.inside, s.on.fewer, s.on.forward, c.skip_plain-end.ensures.0.forward, c.requires.0) in small_here))
+    omega (
+      arith,
+      (let small_here : (c.loop-from.at ≤ c.skip_plain-end.result) × (c.loop-from.conts ≤ c.skip_plain-end.result) × (c.loop-from.glues ≤ c.skip_plain-end.result) × (c.skip_plain-end.result ≤ length c.args.text.now) × (length c.args.text.now ≤ 65535) = let s = (let so_far_here : Goes c.args.text.now c.args.from c.skip_plain-end.result c.loop-from.conts c.loop-from.glues = told-letters _ _ _ _ _ c.loop-from.invariant _ c.skip_plain-end.ensures.0 in so_far_here) in
+          omega (arith, s.few, s.on.inside, s.on.fewer, s.on.forward, c.skip_plain-end.ensures.0.forward, c.requires.0) in small_here),
+    )
 
 pub loop-from-smaller : goal.loop-from-smaller
 loop-from-smaller c =
-    omega (arith, spells-room _ _ _ 1 ((let glued_here : Glues c.args.text.now c.skip_plain-end.result c.glue_len-glue.result = c.glue_len-glue.ensures (omega (arith, c.if-glue-eq0.false)) in glued_here)), (let small_here : (c.loop-from.at ≤ c.skip_plain-end.result) × (c.loop-from.conts ≤ c.skip_plain-end.result) × (c.loop-from.glues ≤ c.skip_plain-end.result) × (c.skip_plain-end.result ≤ length c.args.text.now) × (length c.args.text.now ≤ 65535) = let s = (let so_far_here : Goes c.args.text.now c.args.from c.skip_plain-end.result c.loop-from.conts c.loop-from.glues = told-letters _ _ _ _ _ c.loop-from.invariant _ c.skip_plain-end.ensures.0 in so_far_here) in
-    omega (arith, s.few, s.on.inside, s.on.fewer, s.on.forward, c.skip_plain-end.ensures.0.forward, c.requires.0) in small_here))
+    omega (
+      arith,
+      spells-room _ _ _ 1 ((let glued_here : Glues c.args.text.now c.skip_plain-end.result c.glue_len-glue.result = c.glue_len-glue.ensures (omega (arith, c.if-glue-eq0.false)) in glued_here)),
+      (let small_here : (c.loop-from.at ≤ c.skip_plain-end.result) × (c.loop-from.conts ≤ c.skip_plain-end.result) × (c.loop-from.glues ≤ c.skip_plain-end.result) × (c.skip_plain-end.result ≤ length c.args.text.now) × (length c.args.text.now ≤ 65535) = let s = (let so_far_here : Goes c.args.text.now c.args.from c.skip_plain-end.result c.loop-from.conts c.loop-from.glues = told-letters _ _ _ _ _ c.loop-from.invariant _ c.skip_plain-end.ensures.0 in so_far_here) in
+          omega (arith, s.few, s.on.inside, s.on.fewer, s.on.forward, c.skip_plain-end.ensures.0.forward, c.requires.0) in small_here),
+    )
 
 pub loop-from-preserved : goal.loop-from-preserved
 loop-from-preserved c =

@@ -19,23 +19,35 @@ skip_plain-plain-requires c =
 
 pub overflow_sub-chars : goal.overflow_sub-chars
 overflow_sub-chars c =
-    omega (arith, (let small_here : (c.loop-chars.end ≤ c.skip_plain-plain.result) × (c.skip_plain-plain.result ≤ length c.args.text.now) × ((let N_here : ℕ = c.loop-chars.chars + (c.skip_plain-plain.result - c.loop-chars.end) in N_here) ≤ c.args.most) × ((let N_here : ℕ = c.loop-chars.chars + (c.skip_plain-plain.result - c.loop-chars.end) in N_here) ≤ c.skip_plain-plain.result) × (length c.args.text.now ≤ 65535) = let s = (let so_far_here : GoesOn c.args.text.now c.args.from c.skip_plain-plain.result ((let N_here : ℕ = c.loop-chars.chars + (c.skip_plain-plain.result - c.loop-chars.end) in N_here)) c.loop-chars.glues = goes-letters _ _ _ _ _ _ c.loop-chars.invariant.0 c.skip_plain-plain.ensures.0 in so_far_here) in
-    omega (arith, s.forward, s.inside, c.skip_plain-plain.ensures.0.forward, c.skip_plain-plain.ensures.1, c.limit_at-limit.ensures, c.loop-chars.invariant.1, c.requires.0) in small_here))
+    omega (
+      arith,
+      (let small_here : (c.loop-chars.end ≤ c.skip_plain-plain.result) × (c.skip_plain-plain.result ≤ length c.args.text.now) × ((let N_here : ℕ = c.loop-chars.chars + (c.skip_plain-plain.result - c.loop-chars.end) in N_here) ≤ c.args.most) × ((let N_here : ℕ = c.loop-chars.chars + (c.skip_plain-plain.result - c.loop-chars.end) in N_here) ≤ c.skip_plain-plain.result) × (length c.args.text.now ≤ 65535) = let s = (let so_far_here : GoesOn c.args.text.now c.args.from c.skip_plain-plain.result ((let N_here : ℕ = c.loop-chars.chars + (c.skip_plain-plain.result - c.loop-chars.end) in N_here)) c.loop-chars.glues = goes-letters _ _ _ _ _ _ c.loop-chars.invariant.0 c.skip_plain-plain.ensures.0 in so_far_here) in
+          omega (arith, s.forward, s.inside, c.skip_plain-plain.ensures.0.forward, c.skip_plain-plain.ensures.1, c.limit_at-limit.ensures, c.loop-chars.invariant.1, c.requires.0) in small_here),
+    )
 
 pub overflow_cast-chars : goal.overflow_cast-chars
 overflow_cast-chars c =
-    omega (arith, (let small_here : (c.loop-chars.end ≤ c.skip_plain-plain.result) × (c.skip_plain-plain.result ≤ length c.args.text.now) × ((let N_here : ℕ = c.loop-chars.chars + (c.skip_plain-plain.result - c.loop-chars.end) in N_here) ≤ c.args.most) × ((let N_here : ℕ = c.loop-chars.chars + (c.skip_plain-plain.result - c.loop-chars.end) in N_here) ≤ c.skip_plain-plain.result) × (length c.args.text.now ≤ 65535) = let s = (let so_far_here : GoesOn c.args.text.now c.args.from c.skip_plain-plain.result ((let N_here : ℕ = c.loop-chars.chars + (c.skip_plain-plain.result - c.loop-chars.end) in N_here)) c.loop-chars.glues = goes-letters _ _ _ _ _ _ c.loop-chars.invariant.0 c.skip_plain-plain.ensures.0 in so_far_here) in
-    omega (arith, s.forward, s.inside, c.skip_plain-plain.ensures.0.forward, c.skip_plain-plain.ensures.1, c.limit_at-limit.ensures, c.loop-chars.invariant.1, c.requires.0) in small_here))
+    omega (
+      arith,
+      (let small_here : (c.loop-chars.end ≤ c.skip_plain-plain.result) × (c.skip_plain-plain.result ≤ length c.args.text.now) × ((let N_here : ℕ = c.loop-chars.chars + (c.skip_plain-plain.result - c.loop-chars.end) in N_here) ≤ c.args.most) × ((let N_here : ℕ = c.loop-chars.chars + (c.skip_plain-plain.result - c.loop-chars.end) in N_here) ≤ c.skip_plain-plain.result) × (length c.args.text.now ≤ 65535) = let s = (let so_far_here : GoesOn c.args.text.now c.args.from c.skip_plain-plain.result ((let N_here : ℕ = c.loop-chars.chars + (c.skip_plain-plain.result - c.loop-chars.end) in N_here)) c.loop-chars.glues = goes-letters _ _ _ _ _ _ c.loop-chars.invariant.0 c.skip_plain-plain.ensures.0 in so_far_here) in
+          omega (arith, s.forward, s.inside, c.skip_plain-plain.ensures.0.forward, c.skip_plain-plain.ensures.1, c.limit_at-limit.ensures, c.loop-chars.invariant.1, c.requires.0) in small_here),
+    )
 
 pub overflow_add-chars : goal.overflow_add-chars
 overflow_add-chars c =
-    omega (arith, (let small_here : (c.loop-chars.end ≤ c.skip_plain-plain.result) × (c.skip_plain-plain.result ≤ length c.args.text.now) × ((let N_here : ℕ = c.loop-chars.chars + (c.skip_plain-plain.result - c.loop-chars.end) in N_here) ≤ c.args.most) × ((let N_here : ℕ = c.loop-chars.chars + (c.skip_plain-plain.result - c.loop-chars.end) in N_here) ≤ c.skip_plain-plain.result) × (length c.args.text.now ≤ 65535) = let s = (let so_far_here : GoesOn c.args.text.now c.args.from c.skip_plain-plain.result ((let N_here : ℕ = c.loop-chars.chars + (c.skip_plain-plain.result - c.loop-chars.end) in N_here)) c.loop-chars.glues = goes-letters _ _ _ _ _ _ c.loop-chars.invariant.0 c.skip_plain-plain.ensures.0 in so_far_here) in
-    omega (arith, s.forward, s.inside, c.skip_plain-plain.ensures.0.forward, c.skip_plain-plain.ensures.1, c.limit_at-limit.ensures, c.loop-chars.invariant.1, c.requires.0) in small_here))
+    omega (
+      arith,
+      (let small_here : (c.loop-chars.end ≤ c.skip_plain-plain.result) × (c.skip_plain-plain.result ≤ length c.args.text.now) × ((let N_here : ℕ = c.loop-chars.chars + (c.skip_plain-plain.result - c.loop-chars.end) in N_here) ≤ c.args.most) × ((let N_here : ℕ = c.loop-chars.chars + (c.skip_plain-plain.result - c.loop-chars.end) in N_here) ≤ c.skip_plain-plain.result) × (length c.args.text.now ≤ 65535) = let s = (let so_far_here : GoesOn c.args.text.now c.args.from c.skip_plain-plain.result ((let N_here : ℕ = c.loop-chars.chars + (c.skip_plain-plain.result - c.loop-chars.end) in N_here)) c.loop-chars.glues = goes-letters _ _ _ _ _ _ c.loop-chars.invariant.0 c.skip_plain-plain.ensures.0 in so_far_here) in
+          omega (arith, s.forward, s.inside, c.skip_plain-plain.ensures.0.forward, c.skip_plain-plain.ensures.1, c.limit_at-limit.ensures, c.loop-chars.invariant.1, c.requires.0) in small_here),
+    )
 
 pub scanned_at-requires : goal.scanned_at-requires
 scanned_at-requires c =
-    omega (arith, (let small_here : (c.loop-chars.end ≤ c.skip_plain-plain.result) × (c.skip_plain-plain.result ≤ length c.args.text.now) × ((let N_here : ℕ = c.loop-chars.chars + (c.skip_plain-plain.result - c.loop-chars.end) in N_here) ≤ c.args.most) × ((let N_here : ℕ = c.loop-chars.chars + (c.skip_plain-plain.result - c.loop-chars.end) in N_here) ≤ c.skip_plain-plain.result) × (length c.args.text.now ≤ 65535) = let s = (let so_far_here : GoesOn c.args.text.now c.args.from c.skip_plain-plain.result ((let N_here : ℕ = c.loop-chars.chars + (c.skip_plain-plain.result - c.loop-chars.end) in N_here)) c.loop-chars.glues = goes-letters _ _ _ _ _ _ c.loop-chars.invariant.0 c.skip_plain-plain.ensures.0 in so_far_here) in
-    omega (arith, s.forward, s.inside, c.skip_plain-plain.ensures.0.forward, c.skip_plain-plain.ensures.1, c.limit_at-limit.ensures, c.loop-chars.invariant.1, c.requires.0) in small_here))
+    omega (
+      arith,
+      (let small_here : (c.loop-chars.end ≤ c.skip_plain-plain.result) × (c.skip_plain-plain.result ≤ length c.args.text.now) × ((let N_here : ℕ = c.loop-chars.chars + (c.skip_plain-plain.result - c.loop-chars.end) in N_here) ≤ c.args.most) × ((let N_here : ℕ = c.loop-chars.chars + (c.skip_plain-plain.result - c.loop-chars.end) in N_here) ≤ c.skip_plain-plain.result) × (length c.args.text.now ≤ 65535) = let s = (let so_far_here : GoesOn c.args.text.now c.args.from c.skip_plain-plain.result ((let N_here : ℕ = c.loop-chars.chars + (c.skip_plain-plain.result - c.loop-chars.end) in N_here)) c.loop-chars.glues = goes-letters _ _ _ _ _ _ c.loop-chars.invariant.0 c.skip_plain-plain.ensures.0 in so_far_here) in
+          omega (arith, s.forward, s.inside, c.skip_plain-plain.ensures.0.forward, c.skip_plain-plain.ensures.1, c.limit_at-limit.ensures, c.loop-chars.invariant.1, c.requires.0) in small_here),
+    )
 
 pub returns-then-chars-most : goal.returns-then-chars-most
 returns-then-chars-most c =
@@ -44,28 +56,48 @@ returns-then-chars-most c =
 
 pub overflow_add-end : goal.overflow_add-end
 overflow_add-end c =
-    omega (arith, spells-room _ _ _ 0 ((let found_here : Letter c.args.text.now c.skip_plain-plain.result c.long_len-letter.result = letter-long _ _ _ (c.long_len-letter.ensures (omega (arith, c.if-letter-ne0.true))) in found_here)), (let small_here : (c.loop-chars.end ≤ c.skip_plain-plain.result) × (c.skip_plain-plain.result ≤ length c.args.text.now) × ((let N_here : ℕ = c.loop-chars.chars + (c.skip_plain-plain.result - c.loop-chars.end) in N_here) ≤ c.args.most) × ((let N_here : ℕ = c.loop-chars.chars + (c.skip_plain-plain.result - c.loop-chars.end) in N_here) ≤ c.skip_plain-plain.result) × (length c.args.text.now ≤ 65535) = let s = (let so_far_here : GoesOn c.args.text.now c.args.from c.skip_plain-plain.result ((let N_here : ℕ = c.loop-chars.chars + (c.skip_plain-plain.result - c.loop-chars.end) in N_here)) c.loop-chars.glues = goes-letters _ _ _ _ _ _ c.loop-chars.invariant.0 c.skip_plain-plain.ensures.0 in so_far_here) in
-    omega (arith, s.forward, s.inside, c.skip_plain-plain.ensures.0.forward, c.skip_plain-plain.ensures.1, c.limit_at-limit.ensures, c.loop-chars.invariant.1, c.requires.0) in small_here))
+    omega (
+      arith,
+      spells-room _ _ _ 0 ((let found_here : Letter c.args.text.now c.skip_plain-plain.result c.long_len-letter.result = letter-long _ _ _ (c.long_len-letter.ensures (omega (arith, c.if-letter-ne0.true))) in found_here)),
+      (let small_here : (c.loop-chars.end ≤ c.skip_plain-plain.result) × (c.skip_plain-plain.result ≤ length c.args.text.now) × ((let N_here : ℕ = c.loop-chars.chars + (c.skip_plain-plain.result - c.loop-chars.end) in N_here) ≤ c.args.most) × ((let N_here : ℕ = c.loop-chars.chars + (c.skip_plain-plain.result - c.loop-chars.end) in N_here) ≤ c.skip_plain-plain.result) × (length c.args.text.now ≤ 65535) = let s = (let so_far_here : GoesOn c.args.text.now c.args.from c.skip_plain-plain.result ((let N_here : ℕ = c.loop-chars.chars + (c.skip_plain-plain.result - c.loop-chars.end) in N_here)) c.loop-chars.glues = goes-letters _ _ _ _ _ _ c.loop-chars.invariant.0 c.skip_plain-plain.ensures.0 in so_far_here) in
+          omega (arith, s.forward, s.inside, c.skip_plain-plain.ensures.0.forward, c.skip_plain-plain.ensures.1, c.limit_at-limit.ensures, c.loop-chars.invariant.1, c.requires.0) in small_here),
+    )
 
 pub overflow_add-chars-then-letter-ne0 : goal.overflow_add-chars-then-letter-ne0
 overflow_add-chars-then-letter-ne0 c =
-    omega (arith, (let small_here : (c.loop-chars.end ≤ c.skip_plain-plain.result) × (c.skip_plain-plain.result ≤ length c.args.text.now) × ((let N_here : ℕ = c.loop-chars.chars + (c.skip_plain-plain.result - c.loop-chars.end) in N_here) ≤ c.args.most) × ((let N_here : ℕ = c.loop-chars.chars + (c.skip_plain-plain.result - c.loop-chars.end) in N_here) ≤ c.skip_plain-plain.result) × (length c.args.text.now ≤ 65535) = let s = (let so_far_here : GoesOn c.args.text.now c.args.from c.skip_plain-plain.result ((let N_here : ℕ = c.loop-chars.chars + (c.skip_plain-plain.result - c.loop-chars.end) in N_here)) c.loop-chars.glues = goes-letters _ _ _ _ _ _ c.loop-chars.invariant.0 c.skip_plain-plain.ensures.0 in so_far_here) in
-    omega (arith, s.forward, s.inside, c.skip_plain-plain.ensures.0.forward, c.skip_plain-plain.ensures.1, c.limit_at-limit.ensures, c.loop-chars.invariant.1, c.requires.0) in small_here))
+    omega (
+      arith,
+      (let small_here : (c.loop-chars.end ≤ c.skip_plain-plain.result) × (c.skip_plain-plain.result ≤ length c.args.text.now) × ((let N_here : ℕ = c.loop-chars.chars + (c.skip_plain-plain.result - c.loop-chars.end) in N_here) ≤ c.args.most) × ((let N_here : ℕ = c.loop-chars.chars + (c.skip_plain-plain.result - c.loop-chars.end) in N_here) ≤ c.skip_plain-plain.result) × (length c.args.text.now ≤ 65535) = let s = (let so_far_here : GoesOn c.args.text.now c.args.from c.skip_plain-plain.result ((let N_here : ℕ = c.loop-chars.chars + (c.skip_plain-plain.result - c.loop-chars.end) in N_here)) c.loop-chars.glues = goes-letters _ _ _ _ _ _ c.loop-chars.invariant.0 c.skip_plain-plain.ensures.0 in so_far_here) in
+          omega (arith, s.forward, s.inside, c.skip_plain-plain.ensures.0.forward, c.skip_plain-plain.ensures.1, c.limit_at-limit.ensures, c.loop-chars.invariant.1, c.requires.0) in small_here),
+    )
 
 pub loop-chars-smaller-then-letter-ne0 : goal.loop-chars-smaller-then-letter-ne0
 loop-chars-smaller-then-letter-ne0 c =
-    omega (arith, (let small_here : (c.loop-chars.end ≤ c.skip_plain-plain.result) × (c.skip_plain-plain.result ≤ length c.args.text.now) × ((let N_here : ℕ = c.loop-chars.chars + (c.skip_plain-plain.result - c.loop-chars.end) in N_here) ≤ c.args.most) × ((let N_here : ℕ = c.loop-chars.chars + (c.skip_plain-plain.result - c.loop-chars.end) in N_here) ≤ c.skip_plain-plain.result) × (length c.args.text.now ≤ 65535) = let s = (let so_far_here : GoesOn c.args.text.now c.args.from c.skip_plain-plain.result ((let N_here : ℕ = c.loop-chars.chars + (c.skip_plain-plain.result - c.loop-chars.end) in N_here)) c.loop-chars.glues = goes-letters _ _ _ _ _ _ c.loop-chars.invariant.0 c.skip_plain-plain.ensures.0 in so_far_here) in
-    omega (arith, s.forward, s.inside, c.skip_plain-plain.ensures.0.forward, c.skip_plain-plain.ensures.1, c.limit_at-limit.ensures, c.loop-chars.invariant.1, c.requires.0) in small_here), c.if-chars-most.false)
+    omega (
+      arith,
+      (let small_here : (c.loop-chars.end ≤ c.skip_plain-plain.result) × (c.skip_plain-plain.result ≤ length c.args.text.now) × ((let N_here : ℕ = c.loop-chars.chars + (c.skip_plain-plain.result - c.loop-chars.end) in N_here) ≤ c.args.most) × ((let N_here : ℕ = c.loop-chars.chars + (c.skip_plain-plain.result - c.loop-chars.end) in N_here) ≤ c.skip_plain-plain.result) × (length c.args.text.now ≤ 65535) = let s = (let so_far_here : GoesOn c.args.text.now c.args.from c.skip_plain-plain.result ((let N_here : ℕ = c.loop-chars.chars + (c.skip_plain-plain.result - c.loop-chars.end) in N_here)) c.loop-chars.glues = goes-letters _ _ _ _ _ _ c.loop-chars.invariant.0 c.skip_plain-plain.ensures.0 in so_far_here) in
+          omega (arith, s.forward, s.inside, c.skip_plain-plain.ensures.0.forward, c.skip_plain-plain.ensures.1, c.limit_at-limit.ensures, c.loop-chars.invariant.1, c.requires.0) in small_here),
+      c.if-chars-most.false,
+    )
 
 pub loop-chars-preserved-then-letter-ne0 : goal.loop-chars-preserved-then-letter-ne0
-loop-chars-preserved-then-letter-ne0 c =
-    (goes-letter _ _ _ _ _ ((let so_far_here : GoesOn c.args.text.now c.args.from c.skip_plain-plain.result ((let N_here : ℕ = c.loop-chars.chars + (c.skip_plain-plain.result - c.loop-chars.end) in N_here)) c.loop-chars.glues = goes-letters _ _ _ _ _ _ c.loop-chars.invariant.0 c.skip_plain-plain.ensures.0 in so_far_here)) _ ((let found_here : Letter c.args.text.now c.skip_plain-plain.result c.long_len-letter.result = letter-long _ _ _ (c.long_len-letter.ensures (omega (arith, c.if-letter-ne0.true))) in found_here)), omega (arith, (let small_here : (c.loop-chars.end ≤ c.skip_plain-plain.result) × (c.skip_plain-plain.result ≤ length c.args.text.now) × ((let N_here : ℕ = c.loop-chars.chars + (c.skip_plain-plain.result - c.loop-chars.end) in N_here) ≤ c.args.most) × ((let N_here : ℕ = c.loop-chars.chars + (c.skip_plain-plain.result - c.loop-chars.end) in N_here) ≤ c.skip_plain-plain.result) × (length c.args.text.now ≤ 65535) = let s = (let so_far_here : GoesOn c.args.text.now c.args.from c.skip_plain-plain.result ((let N_here : ℕ = c.loop-chars.chars + (c.skip_plain-plain.result - c.loop-chars.end) in N_here)) c.loop-chars.glues = goes-letters _ _ _ _ _ _ c.loop-chars.invariant.0 c.skip_plain-plain.ensures.0 in so_far_here) in
-    omega (arith, s.forward, s.inside, c.skip_plain-plain.ensures.0.forward, c.skip_plain-plain.ensures.1, c.limit_at-limit.ensures, c.loop-chars.invariant.1, c.requires.0) in small_here), c.if-chars-most.false))
+loop-chars-preserved-then-letter-ne0 c = (
+  goes-letter _ _ _ _ _ ((let so_far_here : GoesOn c.args.text.now c.args.from c.skip_plain-plain.result ((let N_here : ℕ = c.loop-chars.chars + (c.skip_plain-plain.result - c.loop-chars.end) in N_here)) c.loop-chars.glues = goes-letters _ _ _ _ _ _ c.loop-chars.invariant.0 c.skip_plain-plain.ensures.0 in so_far_here)) _ ((let found_here : Letter c.args.text.now c.skip_plain-plain.result c.long_len-letter.result = letter-long _ _ _ (c.long_len-letter.ensures (omega (arith, c.if-letter-ne0.true))) in found_here)),
+  omega (
+    arith,
+    (let small_here : (c.loop-chars.end ≤ c.skip_plain-plain.result) × (c.skip_plain-plain.result ≤ length c.args.text.now) × ((let N_here : ℕ = c.loop-chars.chars + (c.skip_plain-plain.result - c.loop-chars.end) in N_here) ≤ c.args.most) × ((let N_here : ℕ = c.loop-chars.chars + (c.skip_plain-plain.result - c.loop-chars.end) in N_here) ≤ c.skip_plain-plain.result) × (length c.args.text.now ≤ 65535) = let s = (let so_far_here : GoesOn c.args.text.now c.args.from c.skip_plain-plain.result ((let N_here : ℕ = c.loop-chars.chars + (c.skip_plain-plain.result - c.loop-chars.end) in N_here)) c.loop-chars.glues = goes-letters _ _ _ _ _ _ c.loop-chars.invariant.0 c.skip_plain-plain.ensures.0 in so_far_here) in
+        omega (arith, s.forward, s.inside, c.skip_plain-plain.ensures.0.forward, c.skip_plain-plain.ensures.1, c.limit_at-limit.ensures, c.loop-chars.invariant.1, c.requires.0) in small_here),
+    c.if-chars-most.false,
+  ),
+)
 
 pub scanned_at-requires-then-glue-eq0 : goal.scanned_at-requires-then-glue-eq0
 scanned_at-requires-then-glue-eq0 c =
-    omega (arith, (let small_here : (c.loop-chars.end ≤ c.skip_plain-plain.result) × (c.skip_plain-plain.result ≤ length c.args.text.now) × ((let N_here : ℕ = c.loop-chars.chars + (c.skip_plain-plain.result - c.loop-chars.end) in N_here) ≤ c.args.most) × ((let N_here : ℕ = c.loop-chars.chars + (c.skip_plain-plain.result - c.loop-chars.end) in N_here) ≤ c.skip_plain-plain.result) × (length c.args.text.now ≤ 65535) = let s = (let so_far_here : GoesOn c.args.text.now c.args.from c.skip_plain-plain.result ((let N_here : ℕ = c.loop-chars.chars + (c.skip_plain-plain.result - c.loop-chars.end) in N_here)) c.loop-chars.glues = goes-letters _ _ _ _ _ _ c.loop-chars.invariant.0 c.skip_plain-plain.ensures.0 in so_far_here) in
-    omega (arith, s.forward, s.inside, c.skip_plain-plain.ensures.0.forward, c.skip_plain-plain.ensures.1, c.limit_at-limit.ensures, c.loop-chars.invariant.1, c.requires.0) in small_here))
+    omega (
+      arith,
+      (let small_here : (c.loop-chars.end ≤ c.skip_plain-plain.result) × (c.skip_plain-plain.result ≤ length c.args.text.now) × ((let N_here : ℕ = c.loop-chars.chars + (c.skip_plain-plain.result - c.loop-chars.end) in N_here) ≤ c.args.most) × ((let N_here : ℕ = c.loop-chars.chars + (c.skip_plain-plain.result - c.loop-chars.end) in N_here) ≤ c.skip_plain-plain.result) × (length c.args.text.now ≤ 65535) = let s = (let so_far_here : GoesOn c.args.text.now c.args.from c.skip_plain-plain.result ((let N_here : ℕ = c.loop-chars.chars + (c.skip_plain-plain.result - c.loop-chars.end) in N_here)) c.loop-chars.glues = goes-letters _ _ _ _ _ _ c.loop-chars.invariant.0 c.skip_plain-plain.ensures.0 in so_far_here) in
+          omega (arith, s.forward, s.inside, c.skip_plain-plain.ensures.0.forward, c.skip_plain-plain.ensures.1, c.limit_at-limit.ensures, c.loop-chars.invariant.1, c.requires.0) in small_here),
+    )
 
 pub returns-then-glue-eq0 : goal.returns-then-glue-eq0
 returns-then-glue-eq0 c =
@@ -74,25 +106,46 @@ returns-then-glue-eq0 c =
 
 pub overflow_add-end-in-loop-chars : goal.overflow_add-end-in-loop-chars
 overflow_add-end-in-loop-chars c =
-    omega (arith, spells-room _ _ _ 1 ((let glued_here : Glues c.args.text.now c.skip_plain-plain.result c.glue_len-glue.result = c.glue_len-glue.ensures (omega (arith, c.if-glue-eq0.false)) in glued_here)), (let small_here : (c.loop-chars.end ≤ c.skip_plain-plain.result) × (c.skip_plain-plain.result ≤ length c.args.text.now) × ((let N_here : ℕ = c.loop-chars.chars + (c.skip_plain-plain.result - c.loop-chars.end) in N_here) ≤ c.args.most) × ((let N_here : ℕ = c.loop-chars.chars + (c.skip_plain-plain.result - c.loop-chars.end) in N_here) ≤ c.skip_plain-plain.result) × (length c.args.text.now ≤ 65535) = let s = (let so_far_here : GoesOn c.args.text.now c.args.from c.skip_plain-plain.result ((let N_here : ℕ = c.loop-chars.chars + (c.skip_plain-plain.result - c.loop-chars.end) in N_here)) c.loop-chars.glues = goes-letters _ _ _ _ _ _ c.loop-chars.invariant.0 c.skip_plain-plain.ensures.0 in so_far_here) in
-    omega (arith, s.forward, s.inside, c.skip_plain-plain.ensures.0.forward, c.skip_plain-plain.ensures.1, c.limit_at-limit.ensures, c.loop-chars.invariant.1, c.requires.0) in small_here))
+    omega (
+      arith,
+      spells-room _ _ _ 1 ((let glued_here : Glues c.args.text.now c.skip_plain-plain.result c.glue_len-glue.result = c.glue_len-glue.ensures (omega (arith, c.if-glue-eq0.false)) in glued_here)),
+      (let small_here : (c.loop-chars.end ≤ c.skip_plain-plain.result) × (c.skip_plain-plain.result ≤ length c.args.text.now) × ((let N_here : ℕ = c.loop-chars.chars + (c.skip_plain-plain.result - c.loop-chars.end) in N_here) ≤ c.args.most) × ((let N_here : ℕ = c.loop-chars.chars + (c.skip_plain-plain.result - c.loop-chars.end) in N_here) ≤ c.skip_plain-plain.result) × (length c.args.text.now ≤ 65535) = let s = (let so_far_here : GoesOn c.args.text.now c.args.from c.skip_plain-plain.result ((let N_here : ℕ = c.loop-chars.chars + (c.skip_plain-plain.result - c.loop-chars.end) in N_here)) c.loop-chars.glues = goes-letters _ _ _ _ _ _ c.loop-chars.invariant.0 c.skip_plain-plain.ensures.0 in so_far_here) in
+          omega (arith, s.forward, s.inside, c.skip_plain-plain.ensures.0.forward, c.skip_plain-plain.ensures.1, c.limit_at-limit.ensures, c.loop-chars.invariant.1, c.requires.0) in small_here),
+    )
 
 pub overflow_add-chars-in-loop-chars : goal.overflow_add-chars-in-loop-chars
 overflow_add-chars-in-loop-chars c =
-    omega (arith, (let small_here : (c.loop-chars.end ≤ c.skip_plain-plain.result) × (c.skip_plain-plain.result ≤ length c.args.text.now) × ((let N_here : ℕ = c.loop-chars.chars + (c.skip_plain-plain.result - c.loop-chars.end) in N_here) ≤ c.args.most) × ((let N_here : ℕ = c.loop-chars.chars + (c.skip_plain-plain.result - c.loop-chars.end) in N_here) ≤ c.skip_plain-plain.result) × (length c.args.text.now ≤ 65535) = let s = (let so_far_here : GoesOn c.args.text.now c.args.from c.skip_plain-plain.result ((let N_here : ℕ = c.loop-chars.chars + (c.skip_plain-plain.result - c.loop-chars.end) in N_here)) c.loop-chars.glues = goes-letters _ _ _ _ _ _ c.loop-chars.invariant.0 c.skip_plain-plain.ensures.0 in so_far_here) in
-    omega (arith, s.forward, s.inside, c.skip_plain-plain.ensures.0.forward, c.skip_plain-plain.ensures.1, c.limit_at-limit.ensures, c.loop-chars.invariant.1, c.requires.0) in small_here))
+    omega (
+      arith,
+      (let small_here : (c.loop-chars.end ≤ c.skip_plain-plain.result) × (c.skip_plain-plain.result ≤ length c.args.text.now) × ((let N_here : ℕ = c.loop-chars.chars + (c.skip_plain-plain.result - c.loop-chars.end) in N_here) ≤ c.args.most) × ((let N_here : ℕ = c.loop-chars.chars + (c.skip_plain-plain.result - c.loop-chars.end) in N_here) ≤ c.skip_plain-plain.result) × (length c.args.text.now ≤ 65535) = let s = (let so_far_here : GoesOn c.args.text.now c.args.from c.skip_plain-plain.result ((let N_here : ℕ = c.loop-chars.chars + (c.skip_plain-plain.result - c.loop-chars.end) in N_here)) c.loop-chars.glues = goes-letters _ _ _ _ _ _ c.loop-chars.invariant.0 c.skip_plain-plain.ensures.0 in so_far_here) in
+          omega (arith, s.forward, s.inside, c.skip_plain-plain.ensures.0.forward, c.skip_plain-plain.ensures.1, c.limit_at-limit.ensures, c.loop-chars.invariant.1, c.requires.0) in small_here),
+    )
 
 pub overflow_add-glues : goal.overflow_add-glues
 overflow_add-glues c =
-    let s = (let so_far_here : GoesOn c.args.text.now c.args.from c.skip_plain-plain.result ((let N_here : ℕ = c.loop-chars.chars + (c.skip_plain-plain.result - c.loop-chars.end) in N_here)) c.loop-chars.glues = goes-letters _ _ _ _ _ _ c.loop-chars.invariant.0 c.skip_plain-plain.ensures.0 in so_far_here) in omega (arith, (let small_here : (c.loop-chars.end ≤ c.skip_plain-plain.result) × (c.skip_plain-plain.result ≤ length c.args.text.now) × ((let N_here : ℕ = c.loop-chars.chars + (c.skip_plain-plain.result - c.loop-chars.end) in N_here) ≤ c.args.most) × ((let N_here : ℕ = c.loop-chars.chars + (c.skip_plain-plain.result - c.loop-chars.end) in N_here) ≤ c.skip_plain-plain.result) × (length c.args.text.now ≤ 65535) = let s = (let so_far_here : GoesOn c.args.text.now c.args.from c.skip_plain-plain.result ((let N_here : ℕ = c.loop-chars.chars + (c.skip_plain-plain.result - c.loop-chars.end) in N_here)) c.loop-chars.glues = goes-letters _ _ _ _ _ _ c.loop-chars.invariant.0 c.skip_plain-plain.ensures.0 in so_far_here) in
-    omega (arith, s.forward, s.inside, c.skip_plain-plain.ensures.0.forward, c.skip_plain-plain.ensures.1, c.limit_at-limit.ensures, c.loop-chars.invariant.1, c.requires.0) in small_here), s.fewer)
+    let s = (let so_far_here : GoesOn c.args.text.now c.args.from c.skip_plain-plain.result ((let N_here : ℕ = c.loop-chars.chars + (c.skip_plain-plain.result - c.loop-chars.end) in N_here)) c.loop-chars.glues = goes-letters _ _ _ _ _ _ c.loop-chars.invariant.0 c.skip_plain-plain.ensures.0 in so_far_here) in omega (
+      arith,
+      (let small_here : (c.loop-chars.end ≤ c.skip_plain-plain.result) × (c.skip_plain-plain.result ≤ length c.args.text.now) × ((let N_here : ℕ = c.loop-chars.chars + (c.skip_plain-plain.result - c.loop-chars.end) in N_here) ≤ c.args.most) × ((let N_here : ℕ = c.loop-chars.chars + (c.skip_plain-plain.result - c.loop-chars.end) in N_here) ≤ c.skip_plain-plain.result) × (length c.args.text.now ≤ 65535) = let s = (let so_far_here : GoesOn c.args.text.now c.args.from c.skip_plain-plain.result ((let N_here : ℕ = c.loop-chars.chars + (c.skip_plain-plain.result - c.loop-chars.end) in N_here)) c.loop-chars.glues = goes-letters _ _ _ _ _ _ c.loop-chars.invariant.0 c.skip_plain-plain.ensures.0 in so_far_here) in
+          omega (arith, s.forward, s.inside, c.skip_plain-plain.ensures.0.forward, c.skip_plain-plain.ensures.1, c.limit_at-limit.ensures, c.loop-chars.invariant.1, c.requires.0) in small_here),
+      s.fewer,
+    )
 
 pub loop-chars-smaller : goal.loop-chars-smaller
 loop-chars-smaller c =
-    omega (arith, (let small_here : (c.loop-chars.end ≤ c.skip_plain-plain.result) × (c.skip_plain-plain.result ≤ length c.args.text.now) × ((let N_here : ℕ = c.loop-chars.chars + (c.skip_plain-plain.result - c.loop-chars.end) in N_here) ≤ c.args.most) × ((let N_here : ℕ = c.loop-chars.chars + (c.skip_plain-plain.result - c.loop-chars.end) in N_here) ≤ c.skip_plain-plain.result) × (length c.args.text.now ≤ 65535) = let s = (let so_far_here : GoesOn c.args.text.now c.args.from c.skip_plain-plain.result ((let N_here : ℕ = c.loop-chars.chars + (c.skip_plain-plain.result - c.loop-chars.end) in N_here)) c.loop-chars.glues = goes-letters _ _ _ _ _ _ c.loop-chars.invariant.0 c.skip_plain-plain.ensures.0 in so_far_here) in
-    omega (arith, s.forward, s.inside, c.skip_plain-plain.ensures.0.forward, c.skip_plain-plain.ensures.1, c.limit_at-limit.ensures, c.loop-chars.invariant.1, c.requires.0) in small_here), c.if-chars-most.false)
+    omega (
+      arith,
+      (let small_here : (c.loop-chars.end ≤ c.skip_plain-plain.result) × (c.skip_plain-plain.result ≤ length c.args.text.now) × ((let N_here : ℕ = c.loop-chars.chars + (c.skip_plain-plain.result - c.loop-chars.end) in N_here) ≤ c.args.most) × ((let N_here : ℕ = c.loop-chars.chars + (c.skip_plain-plain.result - c.loop-chars.end) in N_here) ≤ c.skip_plain-plain.result) × (length c.args.text.now ≤ 65535) = let s = (let so_far_here : GoesOn c.args.text.now c.args.from c.skip_plain-plain.result ((let N_here : ℕ = c.loop-chars.chars + (c.skip_plain-plain.result - c.loop-chars.end) in N_here)) c.loop-chars.glues = goes-letters _ _ _ _ _ _ c.loop-chars.invariant.0 c.skip_plain-plain.ensures.0 in so_far_here) in
+          omega (arith, s.forward, s.inside, c.skip_plain-plain.ensures.0.forward, c.skip_plain-plain.ensures.1, c.limit_at-limit.ensures, c.loop-chars.invariant.1, c.requires.0) in small_here),
+      c.if-chars-most.false,
+    )
 
 pub loop-chars-preserved : goal.loop-chars-preserved
-loop-chars-preserved c =
-    (goes-more _ _ _ _ _ ((let so_far_here : GoesOn c.args.text.now c.args.from c.skip_plain-plain.result ((let N_here : ℕ = c.loop-chars.chars + (c.skip_plain-plain.result - c.loop-chars.end) in N_here)) c.loop-chars.glues = goes-letters _ _ _ _ _ _ c.loop-chars.invariant.0 c.skip_plain-plain.ensures.0 in so_far_here)) _ 1 ((let glued_here : Glues c.args.text.now c.skip_plain-plain.result c.glue_len-glue.result = c.glue_len-glue.ensures (omega (arith, c.if-glue-eq0.false)) in glued_here)), omega (arith, (let small_here : (c.loop-chars.end ≤ c.skip_plain-plain.result) × (c.skip_plain-plain.result ≤ length c.args.text.now) × ((let N_here : ℕ = c.loop-chars.chars + (c.skip_plain-plain.result - c.loop-chars.end) in N_here) ≤ c.args.most) × ((let N_here : ℕ = c.loop-chars.chars + (c.skip_plain-plain.result - c.loop-chars.end) in N_here) ≤ c.skip_plain-plain.result) × (length c.args.text.now ≤ 65535) = let s = (let so_far_here : GoesOn c.args.text.now c.args.from c.skip_plain-plain.result ((let N_here : ℕ = c.loop-chars.chars + (c.skip_plain-plain.result - c.loop-chars.end) in N_here)) c.loop-chars.glues = goes-letters _ _ _ _ _ _ c.loop-chars.invariant.0 c.skip_plain-plain.ensures.0 in so_far_here) in
-    omega (arith, s.forward, s.inside, c.skip_plain-plain.ensures.0.forward, c.skip_plain-plain.ensures.1, c.limit_at-limit.ensures, c.loop-chars.invariant.1, c.requires.0) in small_here), c.if-chars-most.false))
+loop-chars-preserved c = (
+  goes-more _ _ _ _ _ ((let so_far_here : GoesOn c.args.text.now c.args.from c.skip_plain-plain.result ((let N_here : ℕ = c.loop-chars.chars + (c.skip_plain-plain.result - c.loop-chars.end) in N_here)) c.loop-chars.glues = goes-letters _ _ _ _ _ _ c.loop-chars.invariant.0 c.skip_plain-plain.ensures.0 in so_far_here)) _ 1 ((let glued_here : Glues c.args.text.now c.skip_plain-plain.result c.glue_len-glue.result = c.glue_len-glue.ensures (omega (arith, c.if-glue-eq0.false)) in glued_here)),
+  omega (
+    arith,
+    (let small_here : (c.loop-chars.end ≤ c.skip_plain-plain.result) × (c.skip_plain-plain.result ≤ length c.args.text.now) × ((let N_here : ℕ = c.loop-chars.chars + (c.skip_plain-plain.result - c.loop-chars.end) in N_here) ≤ c.args.most) × ((let N_here : ℕ = c.loop-chars.chars + (c.skip_plain-plain.result - c.loop-chars.end) in N_here) ≤ c.skip_plain-plain.result) × (length c.args.text.now ≤ 65535) = let s = (let so_far_here : GoesOn c.args.text.now c.args.from c.skip_plain-plain.result ((let N_here : ℕ = c.loop-chars.chars + (c.skip_plain-plain.result - c.loop-chars.end) in N_here)) c.loop-chars.glues = goes-letters _ _ _ _ _ _ c.loop-chars.invariant.0 c.skip_plain-plain.ensures.0 in so_far_here) in
+        omega (arith, s.forward, s.inside, c.skip_plain-plain.ensures.0.forward, c.skip_plain-plain.ensures.1, c.limit_at-limit.ensures, c.loop-chars.invariant.1, c.requires.0) in small_here),
+    c.if-chars-most.false,
+  ),
+)

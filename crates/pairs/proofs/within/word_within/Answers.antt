@@ -22,8 +22,8 @@ skip_plain-end-requires c =
 pub returns-then-ends_at : goal.returns-then-ends_at
 returns-then-ends_at c =
     λ d. (
-    record { first = c.requires.1; letters = c.skip_plain-end.ensures.0; ends = sym c.ends_at.ensures ∙ c.if-ends_at.true },
-    omega (arith, c.skip_plain-end.ensures.1, c.limit_at-limit.ensures),
+      record { first = c.requires.1; letters = c.skip_plain-end.ensures.0; ends = sym c.ends_at.ensures ∙ c.if-ends_at.true },
+      omega (arith, c.skip_plain-end.ensures.1, c.limit_at-limit.ensures),
     )
 
 pub returns : goal.returns
