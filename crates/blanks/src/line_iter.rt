@@ -32,7 +32,7 @@ fn with_width(w: NextWord, by: u32) -> NextWord
 // The width of the words that follow, up to the white space after them: a soft hyphen adds its "-" and ends the looking.
 pub fn next_word_width(text: &[u8], at: usize, glyph: u32) -> WidthAhead
     requires { (length text.now ≤ 65535) × (glyph ≤ 64) × (at ≤ length text.now) }
-    ensures { result ≡ ahead_of (meant.nextWidth glyph Nothing at (tokens (chars_from text.now at))) }
+    ensures { result ≡ ahead_of (meant.next_width glyph Nothing at (tokens (chars_from text.now at))) }
 {
     let mut pos = at;
     let mut width = NextWord::Nothing;
@@ -100,7 +100,7 @@ pub fn next_word_fits(
     spaces: Spaces,
 ) -> Look
     requires { FineCursor cursor × FineSpaces spaces × (length text.now ≤ 65535) × (glyph ≤ 64) × (at ≤ length text.now) }
-    ensures { result ≡ look_of (meant.nextFits glyph cursor spaces at (tokens (chars_from text.now at))) }
+    ensures { result ≡ look_of (meant.next_fits glyph cursor spaces at (tokens (chars_from text.now at))) }
 {
     let mut pos = at;
     let mut cur = cursor;

@@ -165,7 +165,7 @@ step-grows s p t at x m h =
     let ts = tokens (chars_from t x.end.0) in
     let y = step s p at u ts in
     let g : SoundTok u (spell ts) = rw tokens_cover h.stands.sound in
-    let f = fine_pen p m (size_of u) (chars_of u) y (fine.step-fine s p at m u ts h.settings h.place g) in
+    let f = fine_pen p m (size_of u) (chars_of u) y (fine.step_fine s p at m u ts h.settings h.place g) in
     rw (measure_of_lem m at u y)
     (record {
       pen = omega (arith, measured-pen m (drawn_of y));
@@ -182,7 +182,7 @@ tok-narrow s p t at x m h =
     let ts = tokens (chars_from t x.end.0) in
     let y = step s p at u ts in
     let g : SoundTok u (spell ts) = rw tokens_cover h.stands.sound in
-    let f = fine_pen p m (size_of u) (chars_of u) y (fine.step-fine s p at m u ts h.settings h.place g) in
+    let f = fine_pen p m (size_of u) (chars_of u) y (fine.step_fine s p at m u ts h.settings h.place g) in
     omega (arith, f, measured-pen m (drawn_of y), tok-size t at x h.stands)
 
 -- ---- the same, of a step that was taken and its growth
