@@ -1,5 +1,6 @@
 // Spaces, tabs and soft hyphens with their lookahead, and the step of any token: the crate's line_iter (rule 5, rule 7, rule 8 and rule 9).
 #![tactic(auto)]
+
 pub mod ahead;
 pub mod hyphens;
 pub mod line_iter;

@@ -4,6 +4,7 @@ use Rattle.moves.specs.FineLaws.{times_bound, fits-room, advance_fine, spaces_fi
 use Rattle.steps.specs.Lexed.{Lexes, lexes, lexes-end}
 use Rattle.steps.specs.FitsLaws.{look_zero, look_word, look_break, look_halts, look_white, look_full, look_end}
 use Rattle.steps.specs.KindLaws.{white_of, halts_of}
+use borrow.Enum.Refused.{opened}
 use Rattle.blanks.proofs.line_iter.next_word_fits.Goals as goal
 
 pub loop-x-init : goal.loop-x-init
@@ -31,7 +32,7 @@ returns-in-Word c =
 pub returns-in-Break : goal.returns-in-Break
 returns-in-Break c =
     c.look_at-in-Break.ensures
-    ∙ look_break _ _ _ ((let read_here : Lexes c.args.text.now c.loop-x.pos c.in-Token.x = lexes _ _ _ (sym c.token_at-token.ensures ∙ c.in-Token.is) in read_here)) c.args.glyph c.loop-x.cur c.loop-x.left c.loop-x.reach _ c.greater-reach.ensures c.in-Break.is _ c.fits3.ensures
+    ∙ look_break _ _ _ ((let read_here : Lexes c.args.text.now c.loop-x.pos c.in-Token.x = lexes _ _ _ (sym c.token_at-token.ensures ∙ c.in-Token.is) in read_here)) c.args.glyph c.loop-x.cur c.loop-x.left c.loop-x.reach _ c.greater-reach.ensures c.in-Break.is _ c.fits-in-Break.ensures
     ∙ c.loop-x.invariant.0
 
 pub white_width-w-requires : goal.white_width-w-requires
@@ -43,12 +44,12 @@ pub returns-then-not-fits : goal.returns-then-not-fits
 returns-then-not-fits c =
     c.look_at-then-not-fits.ensures
     ∙ look_full _ _ _ ((let read_here : Lexes c.args.text.now c.loop-x.pos c.in-Token.x = lexes _ _ _ (sym c.token_at-token.ensures ∙ c.in-Token.is) in read_here)) c.args.glyph c.loop-x.cur c.loop-x.left c.loop-x.reach _ c.greater-reach.ensures (white_of c.in-Token.x.kind c.in-Tab.in-Tab-own.keys3) _ c.white_width-w.ensures
-    (sym c.fits4.ensures ∙ c.if-not-fits.true)
+    (sym c.fits-in-Tab.ensures ∙ c.if-not-fits.true)
     ∙ c.loop-x.invariant.0
 
 pub advanced-cur-requires : goal.advanced-cur-requires
 advanced-cur-requires c =
-    omega (arith, fits-room c.loop-x.cur c.white_width-w.result ((let passed_here : fits_in c.loop-x.cur c.white_width-w.result ≡ true = sym c.fits4.ensures ∙ c.if-not-fits.false in passed_here)), c.loop-x.invariant.1)
+    omega (arith, fits-room c.loop-x.cur c.white_width-w.result ((let passed_here : fits_in c.loop-x.cur c.white_width-w.result ≡ true = sym c.fits-in-Tab.ensures ∙ c.if-not-fits.false in passed_here)), c.loop-x.invariant.1)
 
 pub loop-x-smaller : goal.loop-x-smaller
 loop-x-smaller c =
@@ -58,11 +59,11 @@ loop-x-smaller c =
 pub loop-x-preserved : goal.loop-x-preserved
 loop-x-preserved c =
     let l = (let read_here : Lexes c.args.text.now c.loop-x.pos c.in-Token.x = lexes _ _ _ (sym c.token_at-token.ensures ∙ c.in-Token.is) in read_here) in (
-    look_white _ _ _ l c.args.glyph c.loop-x.cur c.loop-x.left c.loop-x.reach _ c.greater-reach.ensures (white_of c.in-Token.x.kind c.in-Tab.in-Tab-own.keys3) _ c.white_width-w.ensures
-    ((let passed_here : fits_in c.loop-x.cur c.white_width-w.result ≡ true = sym c.fits4.ensures ∙ c.if-not-fits.false in passed_here)) _ _ c.advanced-cur.ensures c.spaces_after-left.ensures ∙ c.loop-x.invariant.0,
-    rw c.advanced-cur.ensures (advance_fine c.loop-x.cur c.white_width-w.result c.loop-x.invariant.1 ((let passed_here : fits_in c.loop-x.cur c.white_width-w.result ≡ true = sym c.fits4.ensures ∙ c.if-not-fits.false in passed_here))),
-    rw c.spaces_after-left.ensures (spaces_fine c.loop-x.left c.in-Token.x.count.0 c.loop-x.invariant.2),
-    l.within,
+      look_white _ _ _ l c.args.glyph c.loop-x.cur c.loop-x.left c.loop-x.reach _ c.greater-reach.ensures (white_of c.in-Token.x.kind c.in-Tab.in-Tab-own.keys3) _ c.white_width-w.ensures
+          ((let passed_here : fits_in c.loop-x.cur c.white_width-w.result ≡ true = sym c.fits-in-Tab.ensures ∙ c.if-not-fits.false in passed_here)) _ _ c.advanced-cur.ensures c.spaces_after-left.ensures ∙ c.loop-x.invariant.0,
+      rw c.advanced-cur.ensures (advance_fine c.loop-x.cur c.white_width-w.result c.loop-x.invariant.1 ((let passed_here : fits_in c.loop-x.cur c.white_width-w.result ≡ true = sym c.fits-in-Tab.ensures ∙ c.if-not-fits.false in passed_here))),
+      rw c.spaces_after-left.ensures (spaces_fine c.loop-x.left c.in-Token.x.count.0 c.loop-x.invariant.2),
+      l.within,
     )
 
 pub returns-in_default-kind : goal.returns-in_default-kind

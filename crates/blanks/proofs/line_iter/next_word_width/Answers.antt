@@ -1,6 +1,7 @@
 use Rattle.std.proofs.Common.{sym, ◌∙◌, arith}
 use Rattle.moves.specs.FineLaws.{times_bound}
 use Rattle.steps.specs.Lexed.{Lexes, lexes, lexes-end}
+use borrow.Enum.Refused.{opened}
 use Rattle.blanks.proofs.WidthLaws.{ahead-zero, ahead-word, ahead_break, ahead-ends, ahead-end, word-known}
 use Rattle.steps.specs.KindLaws.{ends_of}
 use Rattle.blanks.proofs.line_iter.next_word_width.Goals as goal
@@ -26,11 +27,10 @@ loop-x-smaller c =
 
 pub loop-x-preserved : goal.loop-x-preserved
 loop-x-preserved c =
-    let l = (let read_here : Lexes c.args.text.now c.loop-x.pos c.in-Token.x = lexes _ _ _ (sym c.token_at-token.ensures ∙ c.in-Token.is) in read_here) in
-    (
-    ahead-word _ _ c.in-Token.x l c.args.glyph c.loop-x.width c.loop-x.reach c.in-Word.is _ _ c.with_width-width.ensures c.greater-reach.ensures ∙ c.loop-x.invariant.0,
-    l.within,
-    rw c.with_width-width.ensures (word-known _ _ c.in-Token.x l c.args.glyph c.loop-x.width c.loop-x.reach c.requires.1 c.loop-x.invariant.2),
+    let l = (let read_here : Lexes c.args.text.now c.loop-x.pos c.in-Token.x = lexes _ _ _ (sym c.token_at-token.ensures ∙ c.in-Token.is) in read_here) in (
+      ahead-word _ _ c.in-Token.x l c.args.glyph c.loop-x.width c.loop-x.reach c.in-Word.is _ _ c.with_width-width.ensures c.greater-reach.ensures ∙ c.loop-x.invariant.0,
+      l.within,
+      rw c.with_width-width.ensures (word-known _ _ c.in-Token.x l c.args.glyph c.loop-x.width c.loop-x.reach c.requires.1 c.loop-x.invariant.2),
     )
 
 pub with_width-last-requires : goal.with_width-last-requires
@@ -50,5 +50,5 @@ returns-in-Break c =
 
 pub returns-in_default-kind : goal.returns-in_default-kind
 returns-in_default-kind c =
-    ahead-ends _ _ _ ((let read_here : Lexes c.args.text.now c.loop-x.pos c.in-Token.x = lexes _ _ _ (sym c.token_at-token.ensures ∙ c.in-Token.is) in read_here)) c.args.glyph c.loop-x.width c.loop-x.reach (ends_of c.in-Token.x.kind c.in_default-kind.in_default-kind-own.keys3) _ c.greater-reach.ensures
+    ahead-ends _ _ _ ((let read_here : Lexes c.args.text.now c.loop-x.pos c.in-Token.x = lexes _ _ _ (sym c.token_at-token.ensures ∙ c.in-Token.is) in read_here)) c.args.glyph c.loop-x.width c.loop-x.reach (ends_of c.in-Token.x.kind (opened c.in_default-kind.in_default-kind-own.keys3)) _ c.greater-reach.ensures
     ∙ c.loop-x.invariant.0

@@ -15,14 +15,13 @@ moved_on-q-requires c =
     omega (arith, fits-room _ _ ((let wide_here : fits_in c.args.p.cursor c.tab_width-width.result ≡ c.fits.result = sym c.fits.ensures in wide_here) ∙ c.if-fits.true), c.requires.0.place)
 
 pub draws_space-look-requires : goal.draws_space-look-requires
-draws_space-look-requires c =
-    (
-    c.requires.0.settings,
-    tab-moved c.requires.0 c.requires.1 _ _ c.moved_on-q.ensures ((let wide_here : fits_in c.args.p.cursor c.tab_width-width.result ≡ c.fits.result = sym c.fits.ensures in wide_here) ∙ c.if-fits.true),
-    c.requires.0.short,
-    c.requires.0.stands.within,
-    tab_foresees c.args.s c.args.p c.requires.0.stands c.requires.1 c.args.seen c.requires.2 _ c.tab_width-width.ensures _ c.moved_on-q.ensures,
-    )
+draws_space-look-requires c = (
+  c.requires.0.settings,
+  tab-moved c.requires.0 c.requires.1 _ _ c.moved_on-q.ensures ((let wide_here : fits_in c.args.p.cursor c.tab_width-width.result ≡ c.fits.result = sym c.fits.ensures in wide_here) ∙ c.if-fits.true),
+  c.requires.0.short,
+  c.requires.0.stands.within,
+  tab_foresees c.args.s c.args.p c.requires.0.stands c.requires.1 c.args.seen c.requires.2 _ c.tab_width-width.ensures _ c.moved_on-q.ensures,
+)
 
 pub noted_space-requires : goal.noted_space-requires
 noted_space-requires c =

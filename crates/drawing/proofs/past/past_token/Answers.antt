@@ -5,6 +5,7 @@ use denote.Enum.Declared.{tag_of}
 use Rattle.meaning.specs.contracts.tokens.TokenKind.{the_type}
 use Rattle.meaning.specs.declared.tokens.TokenKind.{TokenKind}
 use Rattle.steps.specs.KindLaws.{never}
+use borrow.Enum.Refused.{opened}
 use Rattle.drawing.proofs.past.past_token.Goals as goal
 
 pub past_word-requires : goal.past_word-requires
@@ -17,7 +18,7 @@ past_step-requires c =
     c.requires.0,
     c.requires.1,
     c.requires.2,
-    λ e. never (0 ∷ 1 ∷ 2 ∷ 3 ∷ 5 ∷ []) 4 refl (subst (λ (k : TokenKind). OneOf (0 ∷ 1 ∷ 2 ∷ 3 ∷ 5 ∷ []) (tag_of the_type k)) e c.in_default.in_default-own.keys2),
+    λ e. never (0 ∷ 1 ∷ 2 ∷ 3 ∷ 5 ∷ []) 4 refl (subst (λ (k : TokenKind). OneOf (0 ∷ 1 ∷ 2 ∷ 3 ∷ 5 ∷ []) (tag_of the_type k)) e (opened c.in_default.in_default-own.keys2)),
     )
 
 pub returns-in-Word : goal.returns-in-Word

@@ -13,11 +13,10 @@ add_char-w-requires c =
     (going_fine c.args.text.now c.args.glyph _ c.loop-left.events c.loop-left.w c.loop-left.left c.loop-left.invariant.0 c.requires.short, f.0, f.1, c.requires.glyph)
 
 pub loop-left-preserved : goal.loop-left-preserved
-loop-left-preserved c =
-    (
-    going_on c.args.text.now c.args.glyph _ c.loop-left.events c.loop-left.w c.loop-left.left c.loop-left.invariant.0 c.requires.short c.in-Char.cp c.in-Char.len (sym c.decode.ensures ∙ c.in-Char.is) c.loop-left-test.true _ _ c.add_char-w.ensures,
-    c.add_char-w.auto.events ∙ c.loop-left.invariant.1,
-    )
+loop-left-preserved c = (
+  going_on c.args.text.now c.args.glyph _ c.loop-left.events c.loop-left.w c.loop-left.left c.loop-left.invariant.0 c.requires.short c.in-Char.cp c.in-Char.len (sym c.decode.ensures ∙ c.in-Char.is) c.loop-left-test.true _ _ c.add_char-w.ensures,
+  c.add_char-w.auto.events ∙ c.loop-left.invariant.1,
+)
 
 pub last_stretch-requires : goal.last_stretch-requires
 last_stretch-requires c =
