@@ -16,14 +16,13 @@ returns-then-index-k c =
     ∙ c.loop-k.invariant.0
 
 pub loop-k-preserved : goal.loop-k-preserved
-loop-k-preserved c =
-    (
-    sym
-    (order-on c.args.index.now c.loop-k.k c.loop-k-test.true
-    (read_lower (y_at c.args.index.now c.loop-k.k) (y_at c.args.index.now (c.loop-k.k - 1)) _ (record { sfits = c.t6-1.given }) (record { sfits = c.t10-1.given }) c.if-index-k.false))
-    ∙ c.loop-k.invariant.0,
-    omega arith,
-    )
+loop-k-preserved c = (
+  sym
+      (order-on c.args.index.now c.loop-k.k c.loop-k-test.true
+      (read_lower (y_at c.args.index.now c.loop-k.k) (y_at c.args.index.now (c.loop-k.k - 1)) _ (record { sfits = c.t6-1.given }) (record { sfits = c.t10-1.given }) c.if-index-k.false))
+      ∙ c.loop-k.invariant.0,
+  omega arith,
+)
 
 pub returns : goal.returns
 returns c =
