@@ -14,12 +14,11 @@ returns-then-not-is_boundary c =
     (sym c.is_boundary.ensures ∙ c.if-not-is_boundary.true)
 
 pub chars_before-requires : goal.chars_before-requires
-chars_before-requires c =
-    (
-    c.requires,
-    a-boundary _ _ c.requires (sym c.has_no_rest.ensures ∙ c.if-has_no_rest.false) _ c.rest_end-end.ensures
-    (sym c.is_boundary.ensures ∙ c.if-not-is_boundary.false),
-    )
+chars_before-requires c = (
+  c.requires,
+  a-boundary _ _ c.requires (sym c.has_no_rest.ensures ∙ c.if-has_no_rest.false) _ c.rest_end-end.ensures
+      (sym c.is_boundary.ensures ∙ c.if-not-is_boundary.false),
+)
 
 pub returns : goal.returns
 returns c =

@@ -13,7 +13,7 @@ hand_out_by-requires c =
 
 pub returns-in-Refused : goal.returns-in-Refused
 returns-in-Refused c =
-    record { value = (reading_refused c.args.file.now c.args.settings.now c.args.table.now _ c.check_reading-checked.ensures _ c.hand_out_by.ensures _ c.in-Refused.is).0; settings_after = (reading_refused c.args.file.now c.args.settings.now c.args.table.now _ c.check_reading-checked.ensures _ c.hand_out_by.ensures _ c.in-Refused.is).1; table_after = (reading_refused c.args.file.now c.args.settings.now c.args.table.now _ c.check_reading-checked.ensures _ c.hand_out_by.ensures _ c.in-Refused.is).2 }
+    record { value = (reading_refused c.args.file.now c.args.settings.now c.args.table.now _ c.check_reading-checked.ensures _ c.hand_out_by.ensures _ c.in-Refused.is).0; settings_after = (reading_refused c.args.file.now c.args.settings.now c.args.table.now _ c.check_reading-checked.ensures _ c.hand_out_by.ensures _ c.in-Refused.is).1.0; table_after = (reading_refused c.args.file.now c.args.settings.now c.args.table.now _ c.check_reading-checked.ensures _ c.hand_out_by.ensures _ c.in-Refused.is).1.1 }
 
 pub lines_of-lines-requires : goal.lines_of-lines-requires
 lines_of-lines-requires c =
@@ -21,16 +21,29 @@ lines_of-lines-requires c =
     c.in_default.is in found_here)
 
 pub write_table-requires : goal.write_table-requires
-write_table-requires c =
-    (omega (arith, c.lines_of-lines.ensures, lines-inside c.args.file.now ((let found_here : check_fields c.args.file.now ≡ Good = fields_good c.args.file.now c.args.settings.now c.args.table.now _ c.check_reading-checked.ensures _ c.hand_out_by.ensures
-    c.in_default.is in found_here))), omega (arith, c.lines_of-lines.ensures, (let fit_here : entry_numbers * file_lines c.args.file.now ≤ length c.args.table.now = lines_fit_lem c.args.file.now c.args.settings.now c.args.table.now _ c.check_reading-checked.ensures _ c.hand_out_by.ensures
-    c.in_default.is in fit_here)))
+write_table-requires c = (
+  omega (
+    arith,
+    c.lines_of-lines.ensures,
+    lines-inside c.args.file.now ((let found_here : check_fields c.args.file.now ≡ Good = fields_good c.args.file.now c.args.settings.now c.args.table.now _ c.check_reading-checked.ensures _ c.hand_out_by.ensures
+        c.in_default.is in found_here)),
+  ),
+  omega (
+    arith,
+    c.lines_of-lines.ensures,
+    (let fit_here : entry_numbers * file_lines c.args.file.now ≤ length c.args.table.now = lines_fit_lem c.args.file.now c.args.settings.now c.args.table.now _ c.check_reading-checked.ensures _ c.hand_out_by.ensures
+        c.in_default.is in fit_here),
+  ),
+)
 
 pub file_length-requires : goal.file_length-requires
 file_length-requires c =
-    omega (arith, lines-inside c.args.file.now ((let found_here : check_fields c.args.file.now ≡ Good = fields_good c.args.file.now c.args.settings.now c.args.table.now _ c.check_reading-checked.ensures _ c.hand_out_by.ensures
-    c.in_default.is in found_here)))
+    omega (
+      arith,
+      lines-inside c.args.file.now ((let found_here : check_fields c.args.file.now ≡ Good = fields_good c.args.file.now c.args.settings.now c.args.table.now _ c.check_reading-checked.ensures _ c.hand_out_by.ensures
+          c.in_default.is in found_here)),
+    )
 
 pub returns : goal.returns
 returns c =
-    record { value = (reading_done c.args.file.now c.args.settings.now c.args.table.now _ c.check_reading-checked.ensures _ c.hand_out_by.ensures c.in_default.is c.lines_of-lines.result c.file_length.result c.lines_of-lines.ensures c.file_length.ensures _ c.write_table.ensures).0; settings_after = (reading_done c.args.file.now c.args.settings.now c.args.table.now _ c.check_reading-checked.ensures _ c.hand_out_by.ensures c.in_default.is c.lines_of-lines.result c.file_length.result c.lines_of-lines.ensures c.file_length.ensures _ c.write_table.ensures).1; table_after = (reading_done c.args.file.now c.args.settings.now c.args.table.now _ c.check_reading-checked.ensures _ c.hand_out_by.ensures c.in_default.is c.lines_of-lines.result c.file_length.result c.lines_of-lines.ensures c.file_length.ensures _ c.write_table.ensures).2 }
+    record { value = (reading_done c.args.file.now c.args.settings.now c.args.table.now _ c.check_reading-checked.ensures _ c.hand_out_by.ensures c.in_default.is c.lines_of-lines.result c.file_length.result c.lines_of-lines.ensures c.file_length.ensures _ c.write_table.ensures).0; settings_after = (reading_done c.args.file.now c.args.settings.now c.args.table.now _ c.check_reading-checked.ensures _ c.hand_out_by.ensures c.in_default.is c.lines_of-lines.result c.file_length.result c.lines_of-lines.ensures c.file_length.ensures _ c.write_table.ensures).1.0; table_after = (reading_done c.args.file.now c.args.settings.now c.args.table.now _ c.check_reading-checked.ensures _ c.hand_out_by.ensures c.in_default.is c.lines_of-lines.result c.file_length.result c.lines_of-lines.ensures c.file_length.ensures _ c.write_table.ensures).1.1 }

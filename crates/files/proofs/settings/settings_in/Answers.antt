@@ -7,5 +7,5 @@ use Rattle.files.proofs.settings.settings_in.Goals as goal
 pub returns : goal.returns
 unfolding settings_of
 returns c =
-    let fits : SFits w32 c.signed_of-top.result = record { sfits = c.signed_of-top.type-inv } in
+    let fits : SFits w32 c.signed_of-top.result = record { sfits = c.signed_of-top.type_inv } in
     settings-are c.args.numbers.now _ (to_z-of_z fits ∙ c.signed_of-top.ensures)

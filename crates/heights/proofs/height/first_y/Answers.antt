@@ -12,11 +12,10 @@ returns-then-s-eq0 c =
     kept c.args.s.top (omega (arith, (let top-near_here : mag c.args.s.top ≤ 4096 = (height-measures c.args.s c.args.table.now c.args.lines c.requires).top in top-near_here))) ∙ first-top c.args.s (entries_in c.args.lines c.args.table.now) (omega arith)
 
 pub offset_of-offset-requires : goal.offset_of-offset-requires
-offset_of-offset-requires c =
-    (
-    height-measures c.args.s c.args.table.now c.args.lines c.requires,
-    omega (arith, c.height_of-high.ensures, height-small c.args.s c.args.table.now c.args.lines c.requires),
-    )
+offset_of-offset-requires c = (
+  height-measures c.args.s c.args.table.now c.args.lines c.requires,
+  omega (arith, c.height_of-high.ensures, height-small c.args.s c.args.table.now c.args.lines c.requires),
+)
 
 pub overflow_add-result : goal.overflow_add-result
 overflow_add-result c =

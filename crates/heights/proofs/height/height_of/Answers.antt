@@ -21,15 +21,36 @@ not_counted-left_out-requires c =
 
 pub overflow_sub-result : goal.overflow_sub-result
 overflow_sub-result c =
-    omega (arith, c.added_before-added.ensures, (let left_is_here : c.not_counted-left_out.result ≡ not_counted c.args.s (text_length (entries_in c.args.lines c.args.table.now)) (entries_in c.args.lines c.args.table.now) = let es = entries_in c.args.lines c.args.table.now in
-    omega (arith, c.not_counted-left_out.ensures, ap (λ (n : ℕ). not_counted c.args.s n es) c.text_length-bytes.ensures) in left_is_here), left-within c.args.s c.args.table.now c.args.lines c.requires)
+    omega (
+      arith,
+      c.added_before-added.ensures,
+      (let left_is_here : c.not_counted-left_out.result ≡ not_counted c.args.s (text_length (entries_in c.args.lines c.args.table.now)) (entries_in c.args.lines c.args.table.now) = let es = entries_in c.args.lines c.args.table.now in
+          omega (arith, c.not_counted-left_out.ensures, ap (λ (n : ℕ). not_counted c.args.s n es) c.text_length-bytes.ensures) in left_is_here),
+      left-within c.args.s c.args.table.now c.args.lines c.requires,
+    )
 
 pub overflow_add-result : goal.overflow_add-result
 overflow_add-result c =
-    record { fits = omega (arith, (let found_here : c.args.s.base.0 + (c.added_before-added.result - c.not_counted-left_out.result) ≡ height_of c.args.s (entries_in c.args.lines c.args.table.now) = omega (arith, c.added_before-added.ensures, (let left_is_here : c.not_counted-left_out.result ≡ not_counted c.args.s (text_length (entries_in c.args.lines c.args.table.now)) (entries_in c.args.lines c.args.table.now) = let es = entries_in c.args.lines c.args.table.now in
-    omega (arith, c.not_counted-left_out.ensures, ap (λ (n : ℕ). not_counted c.args.s n es) c.text_length-bytes.ensures) in left_is_here), height-is c.args.s c.args.table.now c.args.lines c.requires) in found_here), height-small c.args.s c.args.table.now c.args.lines c.requires) }
+    record {
+      fits = omega (
+        arith,
+        (let found_here : c.args.s.base.0 + (c.added_before-added.result - c.not_counted-left_out.result) ≡ height_of c.args.s (entries_in c.args.lines c.args.table.now) = omega (
+          arith,
+          c.added_before-added.ensures,
+          (let left_is_here : c.not_counted-left_out.result ≡ not_counted c.args.s (text_length (entries_in c.args.lines c.args.table.now)) (entries_in c.args.lines c.args.table.now) = let es = entries_in c.args.lines c.args.table.now in
+              omega (arith, c.not_counted-left_out.ensures, ap (λ (n : ℕ). not_counted c.args.s n es) c.text_length-bytes.ensures) in left_is_here),
+          height-is c.args.s c.args.table.now c.args.lines c.requires,
+        ) in found_here),
+        height-small c.args.s c.args.table.now c.args.lines c.requires,
+      );
+    }
 
 pub returns : goal.returns
 returns c =
-    (let found_here : c.args.s.base.0 + (c.added_before-added.result - c.not_counted-left_out.result) ≡ height_of c.args.s (entries_in c.args.lines c.args.table.now) = omega (arith, c.added_before-added.ensures, (let left_is_here : c.not_counted-left_out.result ≡ not_counted c.args.s (text_length (entries_in c.args.lines c.args.table.now)) (entries_in c.args.lines c.args.table.now) = let es = entries_in c.args.lines c.args.table.now in
-    omega (arith, c.not_counted-left_out.ensures, ap (λ (n : ℕ). not_counted c.args.s n es) c.text_length-bytes.ensures) in left_is_here), height-is c.args.s c.args.table.now c.args.lines c.requires) in found_here)
+    (let found_here : c.args.s.base.0 + (c.added_before-added.result - c.not_counted-left_out.result) ≡ height_of c.args.s (entries_in c.args.lines c.args.table.now) = omega (
+      arith,
+      c.added_before-added.ensures,
+      (let left_is_here : c.not_counted-left_out.result ≡ not_counted c.args.s (text_length (entries_in c.args.lines c.args.table.now)) (entries_in c.args.lines c.args.table.now) = let es = entries_in c.args.lines c.args.table.now in
+          omega (arith, c.not_counted-left_out.ensures, ap (λ (n : ℕ). not_counted c.args.s n es) c.text_length-bytes.ensures) in left_is_here),
+      height-is c.args.s c.args.table.now c.args.lines c.requires,
+    ) in found_here)

@@ -54,7 +54,7 @@ end_adds-added-requires c =
 pub overflow_add-added : goal.overflow_add-added
 overflow_add-added c =
     record {
-    fits = omega (arith, (let added-near_here : c.loop-k.added ≤ 600000000 = omega (arith, c.loop-k.invariant.2, little_added c.args.s c.args.table.now c.args.lines c.requires.0 c.loop-k.k (omega arith)) in added-near_here), c.end_adds-added.ensures, end-small c.args.s ((let held_here : Measures c.args.s × (c.args.lines ≤ 65536) × (entry_numbers * c.args.lines ≤ length c.args.table.now) = few-held c.args.s c.args.table.now c.args.lines c.requires.0 c.args.lines (omega arith) in held_here)).0 (get_or c.args.table.now (entry_numbers * c.loop-k.k + 3) 0));
+      fits = omega (arith, (let added-near_here : c.loop-k.added ≤ 600000000 = omega (arith, c.loop-k.invariant.2, little_added c.args.s c.args.table.now c.args.lines c.requires.0 c.loop-k.k (omega arith)) in added-near_here), c.end_adds-added.ensures, end-small c.args.s ((let held_here : Measures c.args.s × (c.args.lines ≤ 65536) × (entry_numbers * c.args.lines ≤ length c.args.table.now) = few-held c.args.s c.args.table.now c.args.lines c.requires.0 c.args.lines (omega arith) in held_here)).0 (get_or c.args.table.now (entry_numbers * c.loop-k.k + 3) 0));
     }
 
 pub loop-k-preserved : goal.loop-k-preserved
@@ -66,10 +66,10 @@ loop-k-preserved c =
     ∙ y-parts c.args.s c.args.table.now c.args.lines c.loop-k.k c.loop-k.added c.first_y-first.result (omega arith) c.first_y-first.ensures
     c.loop-k.invariant.2
     in (
-    sym (y-written c.args.s c.args.table.now c.args.lines c.loop-k.k c.loop-k.index c.loop-k-test.true (omega arith) _ y) ∙ c.loop-k.invariant.0,
-    simp length-set c.loop-k.invariant.1,
-    omega (arith, c.loop-k.invariant.2, c.end_adds-added.ensures, added-on c.args.s c.args.table.now c.loop-k.k),
-    omega arith,
+      sym (y-written c.args.s c.args.table.now c.args.lines c.loop-k.k c.loop-k.index c.loop-k-test.true (omega arith) _ y) ∙ c.loop-k.invariant.0,
+      simp length-set c.loop-k.invariant.1,
+      omega (arith, c.loop-k.invariant.2, c.end_adds-added.ensures, added-on c.args.s c.args.table.now c.loop-k.k),
+      omega arith,
     )
 
 pub returns : goal.returns

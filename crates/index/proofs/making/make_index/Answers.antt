@@ -5,4 +5,4 @@ use Rattle.index.proofs.making.make_index.Goals as goal
 pub returns : goal.returns
 unfolding index_after
 returns c =
-    record { value = (c.make_from.ensures).0; index_after = (c.make_from.ensures).1 }
+    record { value = c.make_from.ensures.value; index_after = c.make_from.ensures.index_after }

@@ -1,4 +1,4 @@
-use Rattle.std.proofs.Common.{◌-◌, sym, ◌∙◌, arith}
+use Rattle.std.proofs.Common.{◌-◌, sym, ◌∙◌, arith, rules}
 use Rattle.laws.specs.Indexes.{y_at}
 use Rattle.index.proofs.InOrder.{order-start, order-on, order_bad, order-end}
 use Rattle.index.proofs.ReadYs.{read_lower}
@@ -12,18 +12,17 @@ pub returns-then-index-k : goal.returns-then-index-k
 returns-then-index-k c =
     sym
     (order_bad c.args.index.now c.loop-k.k c.loop-k-test.true
-    (read_lower (y_at c.args.index.now c.loop-k.k) (y_at c.args.index.now (c.loop-k.k - 1)) _ (record { sfits = c.t6-1.given }) (record { sfits = c.t10-1.given }) c.if-index-k.true))
+    (read_lower (y_at c.args.index.now c.loop-k.k) (y_at c.args.index.now (c.loop-k.k - 1)) _ (search rules) (search rules) c.if-index-k.true))
     ∙ c.loop-k.invariant.0
 
 pub loop-k-preserved : goal.loop-k-preserved
-loop-k-preserved c =
-    (
-    sym
-    (order-on c.args.index.now c.loop-k.k c.loop-k-test.true
-    (read_lower (y_at c.args.index.now c.loop-k.k) (y_at c.args.index.now (c.loop-k.k - 1)) _ (record { sfits = c.t6-1.given }) (record { sfits = c.t10-1.given }) c.if-index-k.false))
-    ∙ c.loop-k.invariant.0,
-    omega arith,
-    )
+loop-k-preserved c = (
+  sym
+      (order-on c.args.index.now c.loop-k.k c.loop-k-test.true
+      (read_lower (y_at c.args.index.now c.loop-k.k) (y_at c.args.index.now (c.loop-k.k - 1)) _ (search rules) (search rules) c.if-index-k.false))
+      ∙ c.loop-k.invariant.0,
+  omega arith,
+)
 
 pub returns : goal.returns
 returns c =
