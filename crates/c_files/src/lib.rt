@@ -1,5 +1,6 @@
 // What C gets of the answers about layout files: 0 or the refusal's number, and the values that go with it.
 #![tactic(auto)]
+
 ghost use Rattle.std.specs.Prelude.{◌≡◌};
 ghost use Rattle.meaning.specs.Answers.{writingNumber, writingValue, readingNumber, readingValue, readingLength};
 

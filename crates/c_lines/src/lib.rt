@@ -1,5 +1,6 @@
 // What C gets of the answers about tokens, tables and edits: 0 or the refusal's number, and the values that go with it.
 #![tactic(auto)]
+
 ghost use Rattle.std.specs.Prelude.{◌≡◌};
 ghost use Rattle.meaning.specs.Answers.{tokensNumber, tokensValue, layoutNumber, layoutValue, drawingNumber, drawingValue, drawingCount, affectedNumber, affectedValue, relayNumber, relayValue, relayCount};
 

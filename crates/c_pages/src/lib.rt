@@ -1,5 +1,6 @@
 // What C gets of the answers about pages, a chosen text and box widths: 0 or the refusal's number, and the values that go with it.
 #![tactic(auto)]
+
 ghost use Rattle.std.specs.Prelude.{◌≡◌};
 ghost use Rattle.meaning.specs.Answers.{choosingNumber, choosingValue, choosingWhich, choosingLeft, pagingNumber, pagingValue, pagingCount, pagingAgainNumber, pagingAgainValue, fittingNumber, fittingValue, planningNumber, planningValue};
 

@@ -1,5 +1,6 @@
 // What C gets of the answers about one line, heights and the index of ys: 0 or the refusal's number, and the values that go with it.
 #![tactic(auto)]
+
 ghost use Rattle.std.specs.Prelude.{◌≡◌};
 ghost use Rattle.meaning.specs.Answers.{openNumber, openValue, frameNumber, frameValue, frameRestEnd, frameRestCount, heightNumber, heightValue, yNumber, yValue, yPlace, indexNumber, indexValue, findNumber, findValue};
 

@@ -12,11 +12,11 @@ unfolding together
 returns c =
     λ i.
     record {
-    texts = c.args.f.texts + c.args.g.texts;
-    lines = c.args.f.lines + c.args.g.lines;
-    broken = c.args.f.broken + c.args.g.broken;
-    dropped = c.args.f.dropped + c.args.g.dropped;
-    long = c.args.f.long + c.args.g.long;
-    invalid = c.args.f.invalid + c.args.g.invalid;
-    most = c.larger.ensures i;
+      texts = c.args.f.texts + c.args.g.texts;
+      lines = c.args.f.lines + c.args.g.lines;
+      broken = c.args.f.broken + c.args.g.broken;
+      dropped = c.args.f.dropped + c.args.g.dropped;
+      long = c.args.f.long + c.args.g.long;
+      invalid = c.args.f.invalid + c.args.g.invalid;
+      most = c.larger.ensures i;
     }
