@@ -1,6 +1,6 @@
 // An input, read up to a buffer's end or to its own.
 ghost use Rattle.std.specs.Prelude.{◌+◌, ◌^◌, ◌≤◌, length};
-ghost use Rattle.io.specs.Counts.{IsPrefixLen};
+ghost use Rattle.console.specs.Counts.{IsPrefixLen};
 
 use crate::buffers::large_buffer;
 use std::io;
