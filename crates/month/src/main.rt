@@ -1,24 +1,30 @@
 // A month of clues in numbers: month WIDTHS [people] < CLUES. Each line of standard input is a clue, and each line of the file WIDTHS a box
 // width. Printed is a line of figures for each width, or a table for people. The other settings are those of the listing program.
 #![tactic(auto)]
+
 mod block;
 mod say;
 mod stream;
 mod width_lines;
 
-ghost use Rattle.std.specs.Prelude.{◌≤◌, ◌≡◌, length};
+ghost use Rattle.std.specs.Prelude.{◌≤◌, ◌≡◌, length, IfOk};
 ghost use Rattle.moves.specs.Fine.{FineSettings};
 ghost use Rattle.clues.specs.Summing.{Narrow};
 ghost use Rattle.month.specs.WidthFile.{Read};
 
-use crate::say::{say_bad_width, say_month, say_usage};
+use crate::say::{say_bad_width, say_failed, say_month, say_usage};
 use crate::stream::{Count, count_stream};
 use crate::width_lines::{MOST_WIDTHS, Widths, parse_widths};
+use console::buffers::buffer;
 use console::input::fill;
-use libc::STDERR_FILENO;
+use console::words::{word, word_count};
 use meaning::counts::Pixels;
 use meaning::settings::Settings;
 use month_figures::sums::SUM_NUMBERS;
+use std::env::Env;
+use std::io::IsTerminal;
+use std::rt::Files;
+use std::{fs, io};
 
 // Left aligned, leading spaces on. Nothing here asks for heights, and the width is each one's own.
 fn settings() -> Settings
@@ -41,56 +47,65 @@ fn settings() -> Settings
     }
 }
 
-// Counts standard input in these widths, and says what was counted.
-fn count_month(widths: &[u32], people: bool)
+// Counts an input in these widths, and says what was counted.
+fn count_month(
+    rt: &(impl Print + Eprint),
+    input: &mut impl io::Read,
+    terminal: bool,
+    widths: &[u32],
+    people: bool,
+) -> io::Result<()>
     requires widths_len_bound { length widths.now ≤ 64 }
     requires narrow { Narrow widths.now }
 {
     let mut sums = [0u64; MOST_WIDTHS * SUM_NUMBERS];
-    match count_stream(settings(), widths, &mut sums) {
-        Count::Whole => {
-            say_month(widths, &sums, people);
-        }
+    match count_stream(rt, input, terminal, settings(), widths, &mut sums)? {
+        Count::Whole => say_month(rt, widths, &sums, people),
         Count::Stopped => {
-            io::write_all(
-                STDERR_FILENO,
-                b"month: reading stopped at 4294967295 clues\n",
-            );
-            say_month(widths, &sums, people);
+            rt.eprintln("month: reading stopped at 4294967295 clues")?;
+            say_month(rt, widths, &sums, people)
         }
-        Count::Failed => {
-            io::write_all(STDERR_FILENO, b"month: standard input cannot be read\n");
-        }
+        Count::Failed => rt.eprintln("month: standard input cannot be read"),
     }
 }
 
 // The widths of a file that is open, with its name.
-fn widths_of(fd: i32, path: &[u8], widths: &mut [u32]) -> Widths
-    ensures { Read result widths.new }
+fn widths_of(
+    rt: &(impl Eprint + Alloc),
+    file: &mut impl io::Read,
+    path: &str,
+    widths: &mut [u32],
+) -> io::Result<Widths>
+    ensures { IfOk result (λ listed. Read listed widths.new) }
 {
-    let mut text = io::buffer();
-    let read = fill(fd, &mut text);
-    if read.failed {
-        os::fail(path);
-        return Widths::Unread;
+    let mut text = buffer();
+    let read = fill(file, &mut text);
+    if let Some(error) = read.failed {
+        say_failed(rt, path, error)?;
+        return Ok(Widths::Unread);
     }
     let n = read.bytes;
-    parse_widths(&text[..n], widths)
+    Ok(parse_widths(&text[..n], widths))
 }
 
-fn run(path: &[u8], people: bool) {
-    let fd = os::open_read(path);
-    if fd < 0 {
-        os::fail(path);
-        return;
-    }
+fn run<R: Print + Eprint + Alloc + Files>(
+    rt: &R,
+    input: &mut impl io::Read,
+    terminal: bool,
+    path: &str,
+    people: bool,
+) -> io::Result<()> {
+    let mut file = match fs::open(rt, path) {
+        Ok(file) => file,
+        Err(error) => {
+            return say_failed(rt, path, error);
+        }
+    };
     let mut widths = [0u32; MOST_WIDTHS];
-    let listed = widths_of(fd, path, &mut widths);
-    libc::close(fd);
-    match listed {
-        Widths::Listed(n) => count_month(&widths[..n], people),
-        Widths::Bad(line) => say_bad_width(line),
-        Widths::Unread => {}
+    match widths_of(rt, &mut file, path, &mut widths)? {
+        Widths::Listed(n) => count_month(rt, input, terminal, &widths[..n], people),
+        Widths::Bad(line) => say_bad_width(rt, line),
+        Widths::Unread => Ok(()),
     }
 }
 
@@ -107,34 +122,41 @@ fn is_people(word: &[u8]) -> bool {
 }
 
 // Whether the last word asks for the table for people.
-fn asks_for_people() -> bool {
-    let mut word = io::buffer();
-    let n = os::arg(2, &mut word);
-    is_people(&word[..n])
+fn asks_for_people(rt: &impl Env) -> bool {
+    let mut bytes = buffer();
+    let n = word(rt, 2, &mut bytes);
+    is_people(&bytes[..n])
 }
 
-fn main() {
-    let words = os::arg_count();
+// More words than the program knows.
+const MOST_WORDS: usize = 4;
+
+fn main(rt: HostRuntime) -> io::Result<()> {
+    let words = word_count(&rt, MOST_WORDS);
     if words < 2 {
-        say_usage();
-        return;
+        return say_usage(&rt);
     }
     if 3 < words {
-        say_usage();
-        return;
+        return say_usage(&rt);
     }
-    let people = asks_for_people();
+    let people = asks_for_people(&rt);
     if words == 3 {
         if !people {
-            say_usage();
-            return;
+            return say_usage(&rt);
         }
     }
-    let mut path = io::buffer();
-    let n = os::arg(1, &mut path);
-    if os::errno() != 0 {
-        os::fail(b"month");
-        return;
-    }
-    run(&path[..n], people);
+    let mut path = buffer();
+    let Ok(n) = rt.arg(1, &mut path) else {
+        return rt.eprintln("month: File name too long");
+    };
+    let Ok(path) = str::from_utf8(&path[..n]) else {
+        return rt.eprintln("month: the file's name is not UTF-8");
+    };
+    run(
+        &rt,
+        &mut rt.stdin(),
+        rt.stderr().is_terminal(),
+        path,
+        people,
+    )
 }

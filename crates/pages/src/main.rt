@@ -2,6 +2,7 @@
 // 'refused N V', the number of the refusal and what goes besides it. With the word `text` it prints the pages' text, for people.
 // The settings are those of the scope's examples, in a box 30 wide.
 #![tactic(auto)]
+
 mod shown;
 mod words;
 
@@ -10,30 +11,24 @@ ghost use Rattle.meaning.specs.Pages.{page_numbers};
 
 use crate::shown::show_pages;
 use crate::words::{Asked, read_words};
+use console::buffers::large_buffer;
 use console::input::fill;
 use console::sample::sample_settings;
 use console::saying::{refuse, say, say_number, say_unread};
-use libc::{STDERR_FILENO, STDIN_FILENO};
 use meaning::answers::Paged;
 use meaning::sizes::{ENTRY_NUMBERS, PAGE_NUMBERS};
 use paging::listed::lay_pages;
+use std::io;
 
 // No text has more lines, and no text has more pages than lines.
 const LINES: usize = 65536;
 
-fn say_usage() {
-    io::write_all(
-        STDERR_FILENO,
-        b"usage: pages H < TEXT         for each page of H lines: its first line, and the bytes where it starts and ends\n",
-    );
-    io::write_all(
-        STDERR_FILENO,
-        b"       pages H text < TEXT    the text of each page, line by line\n",
-    );
-    io::write_all(
-        STDERR_FILENO,
-        b"H is a number from 1 to 4294967295. TEXT is UTF-8 of at most 65,535 bytes.\n",
-    );
+fn say_usage(rt: &impl Eprint) -> io::Result<()> {
+    rt.eprintln(
+        "usage: pages H < TEXT         for each page of H lines: its first line, and the bytes where it starts and ends",
+    )?;
+    rt.eprintln("       pages H text < TEXT    the text of each page, line by line")?;
+    rt.eprintln("H is a number from 1 to 4294967295. TEXT is UTF-8 of at most 65,535 bytes.")
 }
 
 fn wide(n: u32) -> u64 {
@@ -41,24 +36,25 @@ fn wide(n: u32) -> u64 {
 }
 
 // The three numbers of the page at a place of the list, as a line of text.
-fn say_page(pages: &[u32], from: usize)
+fn say_page(rt: &impl Print, pages: &[u32], from: usize) -> io::Result<()>
     requires { from + page_numbers ≤ length pages.now }
 {
-    say_number(wide(pages[from]), b" ");
-    say_number(wide(pages[from + 1]), b" ");
-    say_number(wide(pages[from + 2]), b"\n");
+    say_number(rt, wide(pages[from]), b" ")?;
+    say_number(rt, wide(pages[from + 1]), b" ")?;
+    say_number(rt, wide(pages[from + 2]), b"\n")
 }
 
-fn say_pages(pages: &[u32], n: usize)
+fn say_pages(rt: &impl Print, pages: &[u32], n: usize) -> io::Result<()>
     requires { page_numbers * n ≤ length pages.now }
 {
-    say(b"pages ");
-    say_number(n as u64, b"\n");
+    say(rt, b"pages ")?;
+    say_number(rt, n as u64, b"\n")?;
     let mut k: usize = 0;
     while k < n {
-        say_page(pages, PAGE_NUMBERS * k);
+        say_page(rt, pages, PAGE_NUMBERS * k)?;
         k += 1;
     }
+    Ok(())
 }
 
 // Room for the lines of any text, and for its pages. That the arrays have their lengths is all that is said of them.
@@ -74,8 +70,14 @@ fn no_pages() -> [u32; LINES * PAGE_NUMBERS]
     [0; LINES * PAGE_NUMBERS]
 }
 
-// The pages of a text, as numbers or as text.
-fn list(h: u32, text: &[u8], as_text: bool)
+// The pages of a text that was read from this input, as numbers or as text.
+fn list(
+    rt: &(impl Print + Eprint),
+    input: &mut impl io::Read,
+    h: u32,
+    text: &[u8],
+    as_text: bool,
+) -> io::Result<()>
     requires { length text.now ≤ 65536 }
 {
     let mut table = no_lines();
@@ -84,37 +86,41 @@ fn list(h: u32, text: &[u8], as_text: bool)
         Paged::Pages(lines, n) => {
             // no more lines and pages were written than there is room for
             if (LINES as u64) < lines {
-                return;
+                return Ok(());
             }
             if (LINES as u64) < n {
-                return;
+                return Ok(());
             }
             if as_text {
-                show_pages(text, &table, lines as usize, &pages, n as usize);
-                return;
+                return show_pages(rt, text, &table, lines as usize, &pages, n as usize);
             }
-            say_pages(&pages, n as usize);
+            say_pages(rt, &pages, n as usize)
         }
-        Paged::Refused(refusal) => refuse(b"pages", refusal, text.len()),
+        Paged::Refused(refusal) => refuse(rt, input, b"pages", refusal, text.len()),
     }
 }
 
-fn run(h: u32, as_text: bool) {
+fn run(
+    rt: &(impl Print + Eprint),
+    input: &mut impl io::Read,
+    h: u32,
+    as_text: bool,
+) -> io::Result<()> {
     // one byte more than a text may have
-    let mut text = io::large_buffer();
-    let read = fill(STDIN_FILENO, &mut text);
-    if read.failed {
-        say_unread(b"pages");
-        return;
+    let mut text = large_buffer();
+    let read = fill(input, &mut text);
+    if read.failed.is_some() {
+        return say_unread(rt, b"pages");
     }
     let n = read.bytes;
-    list(h, &text[..n], as_text);
+    list(rt, input, h, &text[..n], as_text)
 }
 
-fn main() {
-    match read_words() {
-        Asked::Numbers(h) => run(h, false),
-        Asked::Text(h) => run(h, true),
-        Asked::Nothing => say_usage(),
+fn main(rt: HostRuntime) -> io::Result<()> {
+    let mut input = rt.stdin();
+    match read_words(&rt) {
+        Asked::Numbers(h) => run(&rt, &mut input, h, false),
+        Asked::Text(h) => run(&rt, &mut input, h, true),
+        Asked::Nothing => say_usage(&rt),
     }
 }

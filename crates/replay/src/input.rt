@@ -1,9 +1,9 @@
-// Standard input, line by line, through one buffer.
+// The input, line by line, through one buffer.
 ghost use Rattle.std.specs.Prelude.{◌≤◌, ◌<◌, ◌≡◌, length, take, drop};
 ghost use Rattle.replay.specs.Lines.{line_end, Came, Within};
 
 use console::front::to_front;
-use libc::STDIN_FILENO;
+use std::io;
 
 // What was read and not yet taken: the buffer's bytes from `at` up to `end`.
 #[derive(Clone, Copy)]
@@ -53,19 +53,19 @@ fn find(s: &[u8], from: usize, end: usize) -> usize
 }
 
 // Reads once, into the buffer from a place on, and answers how many bytes came.
-fn read_more(buffer: &mut [u8], end: usize) -> Got
+fn read_more(input: &mut impl io::Read, buffer: &mut [u8], end: usize) -> Got
     requires { end < length buffer.old }
     ensures { Came end (length buffer.new) result }
 {
-    let got = libc::read(STDIN_FILENO, &mut buffer[end..]);
-    if got < 0 {
-        return Got::Failed;
+    match input.read(&mut buffer[end..]) {
+        Ok(more) => {
+            if more == 0 {
+                return Got::Nothing;
+            }
+            Got::UpTo(end + more)
+        }
+        Err(_) => Got::Failed,
     }
-    let more = io::count(got, &buffer[end..]);
-    if more == 0 {
-        return Got::Nothing;
-    }
-    Got::UpTo(end + more)
 }
 
 // The input has ended, with so many bytes after its last line feed.
@@ -79,13 +79,13 @@ fn ended(bytes: usize) -> Line
 }
 
 // Reads on until the line at the buffer's front, of which so many bytes are there, has its line feed.
-fn read_line(buffer: &mut [u8], have: usize) -> Line
+fn read_line(input: &mut impl io::Read, buffer: &mut [u8], have: usize) -> Line
     requires { have ≤ length buffer.old }
     ensures { Within (length buffer.new) result }
 {
     let mut end = have;
     while end < buffer.len() {
-        match read_more(buffer, end) {
+        match read_more(input, buffer, end) {
             Got::UpTo(read) => {
                 let stop = find(buffer, end, read);
                 if stop < read {
@@ -109,7 +109,7 @@ fn read_line(buffer: &mut [u8], have: usize) -> Line
 }
 
 // The next line of the input.
-pub fn next_line(buffer: &mut [u8], held: Held) -> Line
+pub fn next_line(input: &mut impl io::Read, buffer: &mut [u8], held: Held) -> Line
     requires at_le_end { held.at ≤ held.end }
     requires end_in_bounds { held.end ≤ length buffer.old }
     ensures { Within (length buffer.new) result }
@@ -125,5 +125,5 @@ pub fn next_line(buffer: &mut [u8], held: Held) -> Line
         });
     }
     let have = to_front(buffer, at, end);
-    read_line(buffer, have)
+    read_line(input, buffer, have)
 }

@@ -5,6 +5,7 @@
 // two: glyph, width, tab, alignment, leading, a 0 for the retired setting; and four counts, each followed by what it counts: the text's bytes, its
 // tokens (kind, start, end, count), its lines (an entry's first eight numbers) and its events (six numbers).
 #![tactic(auto)]
+
 mod case;
 mod input;
 mod judge;
@@ -18,23 +19,25 @@ use crate::input::{Held, Line, next_line};
 use crate::judge::judge;
 use crate::say::{say_failed, say_malformed, say_replayed};
 use crate::tally::{Counted, count, nothing};
+use console::buffers::large_buffer;
+use std::io;
 
 // 2 ^ 62. Nothing says that an input ends, and a proved loop has to: this one stops at a line that would take centuries to read.
 const MANY: u64 = 0x4000000000000000;
 
-fn main() {
-    let mut buffer = io::large_buffer();
+fn main(rt: HostRuntime) -> io::Result<()> {
+    let mut input = rt.stdin();
+    let mut buffer = large_buffer();
     let mut held = Held { at: 0, end: 0 };
     let mut t = nothing();
     let mut lines: u64 = 0;
     while lines < MANY {
-        match next_line(&mut buffer, held) {
+        match next_line(&mut input, &mut buffer, held) {
             Line::Found(part) => {
                 let start = part.start;
                 let stop = part.stop;
                 let Counted::To(next) = count(t, judge(&buffer[start..stop])) else {
-                    say_malformed(t);
-                    return;
+                    return say_malformed(&rt, t);
                 };
                 t = next;
                 held = Held {
@@ -44,18 +47,15 @@ fn main() {
                 lines += 1;
             }
             Line::Ended => {
-                say_replayed(t);
-                return;
+                return say_replayed(&rt, t);
             }
             Line::Broken => {
-                say_malformed(t);
-                return;
+                return say_malformed(&rt, t);
             }
             Line::Failed => {
-                say_failed(t);
-                return;
+                return say_failed(&rt, t);
             }
         }
     }
-    say_malformed(t);
+    say_malformed(&rt, t)
 }
