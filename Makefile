@@ -40,7 +40,7 @@ $(module): $(shell PROVE='$(PROVE)' scripts/build --is-done library || echo not-
 # From nothing, and not from dist/.
 prove: known-target
 	@command -v rt >/dev/null || { echo "make: there is no command rt: put the Rattle kit's bin folder on the PATH" >&2; exit 1; }
-	rt prove
+	rt all verdict
 	@$(MAKE) PROVE=yes all
 
 $(folder)/bisquemop: $(archive) $(wildcard command/*.[ch]) include/bisquemop.h

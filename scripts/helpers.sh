@@ -3,7 +3,7 @@
 # Set here:
 #   name      the script's own name, for what it says
 #   root      the repository's folder
-#   archive   where the library is that rt writes, for x86-64
+#   archive   where the library is that rt writes, for x86-64: the crate bisquemop_c
 # A script that installs, compiles or builds sets
 #   out       a folder for what it makes
 
@@ -110,11 +110,11 @@ has_kit() { command -v rt >/dev/null; }
 how_to_have_kit="put the Rattle kit's bin folder on the PATH"
 needs_kit() { has_kit || die "there is no command rt: $how_to_have_kit"; }
 
-# Finds the kit, in $kit, and its tools for this machine, in $tools.
+# Finds the kit, in $kit, and its tools, in $tools.
 find_kit() {
     needs_kit
-    kit=$(dirname "$(dirname "$(rt doc)")")
-    tools=$kit/on/$(uname -m)/toolchain
+    kit=$(dirname "$(rt doc)")
+    tools=$kit/toolchain
 }
 
 # Proves and builds the library for C that rt writes, for x86-64, unless that is done already, and shows how far that is.
@@ -235,8 +235,14 @@ link_commands() { # FOLDER BUT..
     for but; do rm -f "$links"/$but; done
 }
 
+# Removes from a folder of what was tried what rt ci refuses in a repository: links, and sources that no crate has.
+leave_to_rt() { # FOLDER
+    find "$1" \( -type l -o -name '*.rt' -o -name '*.antt' \) -delete 2>/dev/null || true
+}
+
 # The last line of a script that tests, and its exit status.
 finish() {
+    [ ! -d "${out-}" ] || leave_to_rt "$out"
     printf '%s passed, %s failed\n' "$passed" "$failed"
     [ "$failed" -eq 0 ]
 }

@@ -2,21 +2,22 @@
 # The module of the proved code, from which the library is compiled for every machine. It is for sh, read by `.` after helpers.sh and
 # targets.sh, and not run.
 #
-# rt compiles for x86-64: once it has proved the library, it hands one LLVM module of it to the kit's clang. A stand-in for the kit
-# keeps a copy of that module, and is the kit in all else. Less what names x86-64 or a path, the module is kept in target/module with
+# rt compiles for x86-64: once it has proved the library, the crate bisquemop_c, it hands one LLVM module of it to the kit's clang. A
+# stand-in for the kit keeps a copy of that module, and is the kit in all else. Less what names x86-64 or a path, the module is kept in target/module with
 # its sum, that of the archive that rt wrote, and that of the sources: they belong together. Where nothing is proved here, the module
 # is the one of dist/, and there is no such archive.
 
 module=$root/target/module/bisquemop.ll
 
-# Makes a folder of links to everything in the kit, but its clang is a script that keeps the module and then runs the kit's own.
+# Makes a folder of links to everything in the kit, but its clang is a script that keeps the module and then runs the kit's own. rt takes
+# the folder that it lies in for the kit, whatever links lead to it: so there is a copy of it.
 make_stand_in() { # FOLDER
-    rm -rf "$1"
-    mkdir -p "$1"
-    link_all "$kit" "$1" on
-    link_all "$kit/on/$(uname -m)" "$1/on/$(uname -m)" toolchain
-    link_all "$tools" "$1/on/$(uname -m)/toolchain" bin
-    stand_in=$1/on/$(uname -m)/toolchain/bin
+    link_all "$kit" "$1" bin toolchain
+    link_all "$kit/bin" "$1/bin" rt rtlib.py
+    cp "$(readlink -f "$(command -v rt)")" "$1/bin/rt"
+    [ ! -e "$kit/bin/rtlib.py" ] || cp "$kit/bin/rtlib.py" "$1/bin"
+    link_all "$tools" "$1/toolchain" bin
+    stand_in=$1/toolchain/bin
     link_all "$tools/bin" "$stand_in" clang
     ln -s "$tools/bin/clang" "$stand_in/of-the-kit"
     cat >"$stand_in/clang" <<'END'
@@ -35,18 +36,21 @@ END
     chmod +x "$stand_in/clang"
 }
 
-# Has rt use it.
+# Makes one in a new folder, which is $room. It lies outside the repository, where rt refuses links.
 use_stand_in() {
     find_kit
-    make_stand_in "$root/$out/kit"
-    RATTLE_HOME=$root/$out/kit
-    export RATTLE_HOME
+    room=$(mktemp -d)
+    make_stand_in "$room/kit"
 }
 
-# Links to all in a folder but one name.
-link_all() { # FROM TO BUT
-    mkdir -p "$2"
-    for file in "$1"/*; do [ "${file##*/}" = "$3" ] || ln -s "$file" "$2"; done
+# Links to all in a folder but some names.
+link_all() { # FROM TO BUT..
+    linked_from=$1 linked_to=$2
+    shift 2
+    mkdir -p "$linked_to"
+    for file in "$linked_from"/*; do
+        case " $* " in *" ${file##*/} "*) ;; *) ln -s "$file" "$linked_to" ;; esac
+    done
 }
 
 # The module that the stand-in has kept, as text in which neither a machine nor a path is named. Each call's answer is marked signext, as
@@ -82,10 +86,21 @@ put_module() { # FILE SOURCES-SUM FILE-BESIDES..
     mv "$out/sums" "$(dirname "$module")/sums"
 }
 
+# Puts the archive that rt wrote to $archive: its object has the library's name there, and not the crate's.
+put_archive() {
+    rm -rf "$out/archive"
+    mkdir -p "$out/archive" "$(dirname "$archive")"
+    (cd "$out/archive" && "$tools/bin/llvm-ar" x "$root/crates/bisquemop_c/out/libbisquemop_c.a") || exit 2
+    mv "$out/archive/bisquemop_c.o" "$out/archive/bisquemop.o"
+    quietly "$out/ar.log" "$tools/bin/llvm-ar" rcs "$out/archive/libbisquemop.a" "$out/archive/bisquemop.o"
+    mv "$out/archive/libbisquemop.a" "$archive"
+}
+
 # Keeps the module that was proved beside the archive that rt wrote.
 keep_module() { # SOURCES-SUM
     write_module "$out/bisquemop.ll"
     marks_every_call "$out/bisquemop.ll" || die "the calls in rt's module are not written as this script knows them"
+    put_archive
     put_module "$out/bisquemop.ll" "$1" target/staticlib/libbisquemop.a
 }
 

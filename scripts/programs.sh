@@ -3,23 +3,19 @@
 # module.sh, and not run.
 #
 # rt makes them for x86-64. dist/ has the modules of those that people run, and these are compiled for this machine. Either way
-# target/programs has what runs a program.
+# a program is put to target/programs.
 
 programs='listing pages month'
 
-# What runs a program that rt has made: the kit's loader, under its emulator on a machine of another kind.
-put_runner() { # NAME
-    emulator=''
-    [ "$(uname -m)" = x86_64 ] || emulator=$tools/bin/qemu-x86_64
-    [ -z "$emulator" ] || [ -x "$emulator" ] || die "the kit has no emulator at $emulator"
+# Where rt leaves a program, and its object, NAME.o.
+made_by_rt() { echo "crates/$1/out/$1"; } # NAME
+
+# Takes a program that rt has made, which rt ci will remove.
+put_made() { # NAME
     mkdir -p target/programs
     rm -f "target/programs/$1.sums"
-    {
-        echo '#!/bin/sh'
-        echo "exec $emulator '$tools/lib/ld-linux-x86-64.so.2' --library-path '$tools/lib' '$root/target/bin/$1' \"\$@\""
-    } >"$out/runner"
-    chmod +x "$out/runner"
-    mv "$out/runner" "target/programs/$1"
+    cp "$(made_by_rt "$1")" "$out/program"
+    mv "$out/program" "target/programs/$1"
 }
 
 # ---- from dist/
@@ -44,19 +40,20 @@ take_program() { # NAME
 
 # ---- the modules of programs that are proved here
 
-# A program is known by its object: rt keeps that and not the module, and proves nothing anew where nothing has changed.
+# A module is known by its object: it is what rt's clang was handed if it gives what rt has written.
 compile_as_rt() { # MODULE OBJECT
     choose_target x86_64-linux
-    compile_ir "$1" "$2" -O3 -march=x86-64 -fPIE -Xclang -fmerge-functions -mllvm -mergefunc-use-aliases
+    told_as_rt=$(echo "$told" | sed 's/-fPIC/-fPIE/')
+    # shellcheck disable=SC2086
+    compile_ir "$1" "$2" -O3 $told_as_rt -Xclang -fmerge-functions -mllvm -mergefunc-use-aliases
 }
 gives_object() { # MODULE NAME
-    compile_as_rt "$1" "$out/$2.o" && cmp -s "$out/$2.o" "target/obj/$2.o"
+    compile_as_rt "$1" "$out/$2.o" && cmp -s "$out/$2.o" "$(made_by_rt "$2").o"
 }
 
-# Keeps the module that the stand-in was handed, if it was, and puts what runs the program.
+# Keeps the module that the stand-in was handed, and the program.
 keep_program() { # NAME
-    put_runner "$1"
-    [ -e "$stand_in/module.bc" ] || return 0
+    put_made "$1"
     mkdir -p target/module
     write_module "$out/$1.ll"
     mv "$out/$1.ll" "target/module/$1.ll"

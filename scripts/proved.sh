@@ -16,10 +16,10 @@ command -v sha256sum >/dev/null || sum_command='shasum -a 256'
 sum_of_input() { $sum_command | cut -d ' ' -f 1; }
 sums_hold() { grep -v '^#' "$1" | $sum_command -c >/dev/null 2>&1; } # FILE
 
-# One sum of all files below these paths, by their names and their bytes, the same on every machine.
+# One sum of all files below these paths, by their names and their bytes, the same on every machine. What rt leaves in a crate is none.
 # shellcheck disable=SC2086
 sum_below() { # PATH..
-    (cd "$root" && find "$@" -type f | LC_ALL=C sort | tr '\n' '\0' | xargs -0 $sum_command) | sum_of_input
+    (cd "$root" && find "$@" -path 'crates/*/out' -prune -o -type f -print | LC_ALL=C sort | tr '\n' '\0' | xargs -0 $sum_command) | sum_of_input
 }
 
 # The sources: all that is proved, and the edits that must fail. And a line for each crate, of its name and its sum.

@@ -16,7 +16,7 @@
 # A line for each: name; LLVM's triple; what clang is told besides; C compiler; its packages; what runs programs; its package.
 target_table() {
     sed -e 's/ *| */|/g' <<'END'
-x86_64-linux | x86_64-unknown-linux-gnu | -march=x86-64 -fPIC | x86_64-linux-gnu-gcc | gcc-x86-64-linux-gnu libc6-dev-amd64-cross | qemu-x86_64 | qemu-user
+x86_64-linux | x86_64-unknown-linux-gnu | -march=x86-64 -fPIC -mllvm -no-x86-call-frame-opt | x86_64-linux-gnu-gcc | gcc-x86-64-linux-gnu libc6-dev-amd64-cross | qemu-x86_64 | qemu-user
 aarch64-linux | aarch64-unknown-linux-gnu | -fPIC | aarch64-linux-gnu-gcc | gcc-aarch64-linux-gnu libc6-dev-arm64-cross | qemu-aarch64 | qemu-user
 armv7-linux | armv7-unknown-linux-gnueabihf | -fPIC | arm-linux-gnueabihf-gcc | gcc-arm-linux-gnueabihf libc6-dev-armhf-cross | qemu-arm | qemu-user
 riscv64-linux | riscv64-unknown-linux-gnu | -fPIC | riscv64-linux-gnu-gcc | gcc-riscv64-linux-gnu libc6-dev-riscv64-cross | qemu-riscv64 | qemu-user
@@ -29,8 +29,8 @@ wasm32 | wasm32-unknown-unknown | -O2 | clang | clang lld wasi-libc libclang-rt-
 aarch64-android | aarch64-linux-android21 | -fPIC | clang | clang | none |
 arm64-ios | arm64-apple-ios13.0 | -fPIC | clang | clang | none |
 arm64-macos | arm64-apple-macos11.0 | -fPIC | clang | clang | none |
-x86_64-macos | x86_64-apple-macos10.12 | -fPIC | clang | clang | none |
-x86_64-windows | x86_64-pc-windows-msvc | | clang | clang | none |
+x86_64-macos | x86_64-apple-macos10.12 | -fPIC -mllvm -no-x86-call-frame-opt | clang | clang | none |
+x86_64-windows | x86_64-pc-windows-msvc | -mllvm -no-x86-call-frame-opt | clang | clang | none |
 END
 }
 
@@ -111,11 +111,15 @@ for_size='-Os -mllvm -force-attribute=optsize'
 # in registers and where it does not, since none has such a number.
 marks() { case $target in cortex-m33) echo 'module asm ".eabi_attribute Tag_ABI_VFP_args, 3"' ;; esac; }
 
+# What rt tells its clang besides, since each of these steps of LLVM is known to compile some correct code wrongly.
+as_rt='-mllvm -disable-machine-licm -mllvm -disable-postra-machine-licm -mllvm -sink-common-insts=false'
+
 # Compiles a module for the target to an object.
 compile_ir() { # MODULE OBJECT WORD..
     compiled=$1 object=$2
     shift 2
-    quietly "$object.log" "$clang" --target="$triple" --no-default-config "$@" -ffunction-sections -fdata-sections \
+    # shellcheck disable=SC2086
+    quietly "$object.log" "$clang" --target="$triple" --no-default-config "$@" -ffunction-sections -fdata-sections $as_rt \
         -mllvm -trap-unreachable -mllvm -no-trap-after-noreturn -fno-crash-diagnostics -Werror -Wno-override-module -c -x ir "$compiled" \
         -o "$object"
     rm -f "$object.log"

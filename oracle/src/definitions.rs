@@ -10,13 +10,10 @@ use embedded_text_checked::plugin::probe as checked;
 
 const HEAD: &str = "\
 -- Layouts by chance. Those in the domain of the comparison are the crate's own.
-use Prim.Native.Nat.{ℕ}
+use Rattle.std.specs.Prelude.{ℕ, ◌≡◌, refl, List, [], ◌∷◌, map, pos}
 use Prim.Native.String.{String}
-use mathlib.Core.Path.{_≡_, refl}
-use mathlib.Core.List.{List, [], _∷_, map}
-use lib.IntN.{pos}
-use Rattle·meaning·specs.specs.Examples.{Example, computed}
-use Rattle·meaning·specs.specs.declared.settings.Settings.{Settings}
+use Rattle.meaning.specs.Examples.{Example, computed}
+use Rattle.meaning.specs.declared.settings.Settings.{Settings}
 
 abbrev sets : (glyph width tab alignment leading wrap : ℕ) → Settings
 sets glyph width tab alignment leading wrap =

@@ -152,9 +152,9 @@ fn settings_of(value: &antt::Value) -> Settings {
     let numbers: Vec<u32> = values.iter().map(antt::Value::number).collect();
     match (name, numbers.as_slice()) {
         ("box", &[width]) => Settings { width, ..EXAMPLE },
-        ("justifiedBox", &[width]) => Settings { width, alignment: 3, leading: 0, ..EXAMPLE },
-        ("waitingBox", &[width]) => Settings { width, wrap: 1, ..EXAMPLE },
-        ("laidOut", &[glyph, width, alignment, leading, wrap]) => Settings { glyph, width, alignment, leading, wrap, ..EXAMPLE },
+        ("justified_box", &[width]) => Settings { width, alignment: 3, leading: 0, ..EXAMPLE },
+        ("waiting_box", &[width]) => Settings { width, wrap: 1, ..EXAMPLE },
+        ("laid_out", &[glyph, width, alignment, leading, wrap]) => Settings { glyph, width, alignment, leading, wrap, ..EXAMPLE },
         (other, _) => panic!("settings {other} are not known"),
     }
 }
@@ -168,7 +168,7 @@ fn layouts(claims: &mut Claims, specs: &str) {
 
 /// What laying again gives is the layout of the new text.
 fn edits(claims: &mut Claims, specs: &str) {
-    for example in antt::table(&file(specs, "EditExamples.antt"), "editExamples") {
+    for example in antt::table(&file(specs, "EditExamples.antt"), "edit_examples") {
         let (_, values) = example.applied();
         let old = values[1].text();
         let (from, to) = (values[2].number() as usize, values[3].number() as usize);
@@ -178,7 +178,7 @@ fn edits(claims: &mut Claims, specs: &str) {
 }
 
 fn tokens(claims: &mut Claims, specs: &str) {
-    for example in antt::table(&file(specs, "SmallExamples.antt"), "tokenExamples") {
+    for example in antt::table(&file(specs, "SmallExamples.antt"), "token_examples") {
         let (_, values) = example.applied();
         let (text, rows) = (values[0].text(), values[1].rows());
         for (side, found) in tokens_by_side(text) {
@@ -198,7 +198,7 @@ fn signed(value: &antt::Value) -> i32 {
 
 /// Indexes of ys, and the line under a y, by the same settings as heights.
 fn indexes(claims: &mut Claims, specs: &str) {
-    for example in antt::table(&file(specs, "IndexExamples.antt"), "indexExamples") {
+    for example in antt::table(&file(specs, "IndexExamples.antt"), "index_examples") {
         let (_, values) = example.applied();
         let (_, standing) = values[0].applied();
         let settings = Settings { height: standing[0].number(), vertical: standing[1].number(), ..EXAMPLE };
@@ -219,7 +219,7 @@ fn indexes(claims: &mut Claims, specs: &str) {
 
 /// Heights and the first two lines' y: spacing 10, paragraph 3, base 8, box top -5.
 fn heights(claims: &mut Claims, specs: &str) {
-    for example in antt::table(&file(specs, "SmallExamples.antt"), "heightExamples") {
+    for example in antt::table(&file(specs, "SmallExamples.antt"), "height_examples") {
         let (_, values) = example.applied();
         let (_, standing) = values[0].applied();
         let settings = Settings { height: standing[0].number(), vertical: standing[1].number(), ..EXAMPLE };

@@ -1,5 +1,6 @@
-// The calls for C. include/bisquemop.h says what each one does.
+// The calls for C, as a library; bisquemop_c hands each on to C. include/bisquemop.h says what each one does.
 #![tactic(auto)]
+
 ghost use Rattle.std.specs.Prelude.{◌≡◌};
 ghost use Rattle.meaning.specs.Settings.{settings_of};
 ghost use Rattle.meaning.specs.Refusals.{checked_number, checked_value};
@@ -50,8 +51,7 @@ use meaning::settings::Settings;
 use paging::listed::{lay_pages, list_again};
 use tokenizer::tokenize::tokenize;
 
-#[unsafe(no_mangle)]
-pub extern "C" fn bisquemop_check_settings(
+pub fn bisquemop_check_settings(
     glyph: u32,
     width: u32,
     tab: u32,
@@ -79,8 +79,7 @@ pub extern "C" fn bisquemop_check_settings(
     checked_number(checked)
 }
 
-#[unsafe(no_mangle)]
-pub extern "C" fn bisquemop_check_text(text: &[u8], value: &mut u64) -> u32
+pub fn bisquemop_check_text(text: &[u8], value: &mut u64) -> u32
     ensures value { result ≡ checked_number (check_text text.now) }
     ensures value_after { value.new ≡ checked_value (check_text text.now) }
 {
@@ -89,8 +88,7 @@ pub extern "C" fn bisquemop_check_text(text: &[u8], value: &mut u64) -> u32
     checked_number(checked)
 }
 
-#[unsafe(no_mangle)]
-pub extern "C" fn bisquemop_tokens(text: &[u8], tokens: &mut [u32], value: &mut u64) -> u32
+pub fn bisquemop_tokens(text: &[u8], tokens: &mut [u32], value: &mut u64) -> u32
     ensures value { result ≡ tokensNumber (tokens_answer text.now tokens.old) }
     ensures tokens_after { tokens.new ≡ tokens_buffer text.now tokens.old }
     ensures value_after { value.new ≡ tokensValue (tokens_answer text.now tokens.old) }
@@ -100,8 +98,7 @@ pub extern "C" fn bisquemop_tokens(text: &[u8], tokens: &mut [u32], value: &mut 
     tokens_number(answer)
 }
 
-#[unsafe(no_mangle)]
-pub extern "C" fn bisquemop_layout(
+pub fn bisquemop_layout(
     glyph: u32,
     width: u32,
     tab: u32,
@@ -132,8 +129,7 @@ pub extern "C" fn bisquemop_layout(
     layout_number(answer)
 }
 
-#[unsafe(no_mangle)]
-pub extern "C" fn bisquemop_layout_events(
+pub fn bisquemop_layout_events(
     glyph: u32,
     width: u32,
     tab: u32,
@@ -169,8 +165,7 @@ pub extern "C" fn bisquemop_layout_events(
     drawing_number(answer)
 }
 
-#[unsafe(no_mangle)]
-pub extern "C" fn bisquemop_open(
+pub fn bisquemop_open(
     glyph: u32,
     width: u32,
     tab: u32,
@@ -199,8 +194,7 @@ pub extern "C" fn bisquemop_open(
     open_number(answer)
 }
 
-#[unsafe(no_mangle)]
-pub extern "C" fn bisquemop_one_line(
+pub fn bisquemop_one_line(
     glyph: u32,
     width: u32,
     tab: u32,
@@ -244,8 +238,7 @@ pub extern "C" fn bisquemop_one_line(
     frame_number(answer)
 }
 
-#[unsafe(no_mangle)]
-pub extern "C" fn bisquemop_first_affected(
+pub fn bisquemop_first_affected(
     table: &[u32],
     lines: u64,
     a: u32,
@@ -266,8 +259,7 @@ pub extern "C" fn bisquemop_first_affected(
     affected_number(answer)
 }
 
-#[unsafe(no_mangle)]
-pub extern "C" fn bisquemop_lay_again(
+pub fn bisquemop_lay_again(
     glyph: u32,
     width: u32,
     tab: u32,
@@ -310,8 +302,7 @@ pub extern "C" fn bisquemop_lay_again(
     relay_number(answer)
 }
 
-#[unsafe(no_mangle)]
-pub extern "C" fn bisquemop_height(
+pub fn bisquemop_height(
     glyph: u32,
     width: u32,
     tab: u32,
@@ -341,8 +332,7 @@ pub extern "C" fn bisquemop_height(
     height_number(answer)
 }
 
-#[unsafe(no_mangle)]
-pub extern "C" fn bisquemop_line_y(
+pub fn bisquemop_line_y(
     glyph: u32,
     width: u32,
     tab: u32,
@@ -376,8 +366,7 @@ pub extern "C" fn bisquemop_line_y(
     y_number(answer)
 }
 
-#[unsafe(no_mangle)]
-pub extern "C" fn bisquemop_index(
+pub fn bisquemop_index(
     glyph: u32,
     width: u32,
     tab: u32,
@@ -409,8 +398,7 @@ pub extern "C" fn bisquemop_index(
     index_number(answer)
 }
 
-#[unsafe(no_mangle)]
-pub extern "C" fn bisquemop_index_again(
+pub fn bisquemop_index_again(
     glyph: u32,
     width: u32,
     tab: u32,
@@ -443,14 +431,7 @@ pub extern "C" fn bisquemop_index_again(
     index_number(answer)
 }
 
-#[unsafe(no_mangle)]
-pub extern "C" fn bisquemop_find_line(
-    table: &[u32],
-    lines: u64,
-    index: &[i32],
-    y: i32,
-    value: &mut u64,
-) -> u32
+pub fn bisquemop_find_line(table: &[u32], lines: u64, index: &[i32], y: i32, value: &mut u64) -> u32
     ensures value { result ≡ findNumber (find_answer table.now lines index.now y) }
     ensures value_after { value.new ≡ findValue (find_answer table.now lines index.now y) }
 {
@@ -459,8 +440,7 @@ pub extern "C" fn bisquemop_find_line(
     find_number(answer)
 }
 
-#[unsafe(no_mangle)]
-pub extern "C" fn bisquemop_write_file(
+pub fn bisquemop_write_file(
     glyph: u32,
     width: u32,
     tab: u32,
@@ -492,8 +472,7 @@ pub extern "C" fn bisquemop_write_file(
     writing_number(answer)
 }
 
-#[unsafe(no_mangle)]
-pub extern "C" fn bisquemop_read_file(
+pub fn bisquemop_read_file(
     file: &[u8],
     settings: &mut [u32],
     table: &mut [u32],
@@ -512,8 +491,7 @@ pub extern "C" fn bisquemop_read_file(
     reading_number(answer)
 }
 
-#[unsafe(no_mangle)]
-pub extern "C" fn bisquemop_choose<'a>(
+pub fn bisquemop_choose<'a>(
     glyph: u32,
     width: u32,
     tab: u32,
@@ -550,8 +528,7 @@ pub extern "C" fn bisquemop_choose<'a>(
     choosing_number(answer)
 }
 
-#[unsafe(no_mangle)]
-pub extern "C" fn bisquemop_pages(
+pub fn bisquemop_pages(
     glyph: u32,
     width: u32,
     tab: u32,
@@ -588,8 +565,7 @@ pub extern "C" fn bisquemop_pages(
     paging_number(answer)
 }
 
-#[unsafe(no_mangle)]
-pub extern "C" fn bisquemop_pages_again(
+pub fn bisquemop_pages_again(
     table: &[u32],
     lines: u64,
     h: u32,
@@ -606,8 +582,7 @@ pub extern "C" fn bisquemop_pages_again(
     paging_again_number(answer)
 }
 
-#[unsafe(no_mangle)]
-pub extern "C" fn bisquemop_columns_fit(
+pub fn bisquemop_columns_fit(
     glyph: u32,
     width: u32,
     tab: u32,
@@ -637,8 +612,7 @@ pub extern "C" fn bisquemop_columns_fit(
     fitting_number(answer)
 }
 
-#[unsafe(no_mangle)]
-pub extern "C" fn bisquemop_columns_plan(
+pub fn bisquemop_columns_plan(
     glyph: u32,
     width: u32,
     tab: u32,
