@@ -10,4 +10,8 @@ part_end-requires c =
 
 pub returns : goal.returns
 returns c =
-    (cut-row _ _ _ _ _ _ _ _ c.requires.left_word c.requires.text_len_bound.1 c.requires.text_len_bound.2 c.part_end.ensures, (part_left _ _ _ _ _ _ _ _ c.requires.left_word c.requires.text_len_bound.1 c.requires.text_len_bound.2 c.part_end.ensures, c.part_end.ensures))
+    record {
+      found_row = cut-row _ _ _ _ _ _ _ _ c.requires.left_word c.requires.text_len_bound.1 c.requires.text_len_bound.2 c.part_end.ensures;
+      left_word_2 = part_left _ _ _ _ _ _ _ _ c.requires.left_word c.requires.text_len_bound.1 c.requires.text_len_bound.2 c.part_end.ensures;
+      between = c.part_end.ensures;
+    }

@@ -8,7 +8,7 @@ returns c =
     λ i.
     record {
       start = c.args.at;
-      c = c.rest_in-resumed.ensures i;
+      rest = c.rest_in-resumed.ensures i;
       ending = c.end_number-ending.ensures i;
       left = c.args.p.left;
       space = c.args.p.spaces.width;
@@ -16,5 +16,5 @@ returns c =
       width = c.args.width;
       dropped = c.args.e.dropped;
       reach = record { 0 = c.greater-reach.ensures i };
-      before = c.args;
+      before = c.args.before;
     }
