@@ -1,8 +1,7 @@
 -- Fields of a layout file: what is written is found, and what is found was written (refusal 9).
 -- Assumes nothing.
-use Rattle.std.specs.Prelude.{ℕ, zero, suc, ◌+◌, ◌*◌, ◌/◌, ◌%◌, ◌≤◌, ◌<◌, ◌≡◌, refl, Bool, true, false, ◌&&◌, List, [], ◌∷◌, ◌++◌, leb, eqb, length, get_or, take, drop}
-use Rattle.std.proofs.Common.{sym, ap, ◌∙◌, append_assoc, append-nil, arith, le-leb, eq-eqb, leb-true, eqb-true, length-drop, take-append-drop, drop_at, take_all, length-take-le}
-use Rattle.std.proofs.lemmas.Bool.{lt-leb}
+use Rattle.std.specs.Prelude.{ℕ, zero, suc, ◌+◌, ◌*◌, ◌/◌, ◌%◌, ◌≤◌, ◌<◌, ◌≡◌, refl, true, ◌&&◌, List, [], ◌∷◌, ◌++◌, leb, eqb, length, get_or, take, drop}
+use Rattle.std.proofs.Common.{sym, ap, ◌∙◌, append-nil, arith, le-leb, eq-eqb, leb-true, eqb-true, length-drop, take-append-drop, drop_at, take_all, length-take-le}
 use Rattle.std.proofs.Math.ListN.{length-append}
 use Rattle.basis.specs.Choice.{pick, pick_true, pick-false, by_test, and_true, and_both}
 use Rattle.meaning.specs.Refusals.{checked_number}
@@ -12,7 +11,7 @@ use Rattle.meaning.specs.ReadFile.{old_line_size, is_field, check_end, check_lin
 use Rattle.meaning.specs.declared.line.Entry.{Entry}
 use Rattle.meaning.specs.declared.refusals.Checked.TheVariants.{Good}
 use Rattle.laws.specs.TableLaws.{entry-numbers, entry_read, numbers-read}
-use Rattle.file_fields.specs.FileNumbers.{Below, Bytes, Words, words-bytes, words-read, below-drop, numbers-count, numbers-written}
+use Rattle.file_fields.specs.FileNumbers.{Bytes, Words, words-bytes, words-read, below-drop, numbers-count, numbers-written}
 
 -- ---- one field
 

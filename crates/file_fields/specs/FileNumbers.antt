@@ -1,7 +1,7 @@
 -- Numbers as four bytes and back, signed numbers as 32 bits and back (the layout file).
 -- Assumes nothing.
 use Rattle.std.specs.Prelude.{ℕ, zero, suc, ◌+◌, ◌-◌, ◌*◌, ◌/◌, ◌%◌, ◌≤◌, ◌<◌, ◌≡◌, refl, List, [], ◌∷◌, ◌++◌, ℤ, pos, negsuc, length, get_or, take, drop}
-use Rattle.std.proofs.Common.{sym, ap, ◌∙◌, append_assoc, arith, lt-ltb, le-ltb, length-drop, take-add, drop_at}
+use Rattle.std.proofs.Common.{ap, append_assoc, arith, lt-ltb, le-ltb, length-drop, take-add, drop_at}
 use Rattle.std.specs.Int.Signed.{mag}
 use Rattle.basis.specs.Choice.{pick}
 use Rattle.basis.specs.Order.{by_lt}

@@ -2,7 +2,7 @@
 -- Assumes nothing.
 use Rattle.std.specs.Prelude.{ℕ, zero, suc, ◌+◌, ◌*◌, ◌/◌, ◌%◌, ◌≤◌, ◌<◌, ◌≡◌, refl, List, [], ◌∷◌, ◌++◌, length, get_or, take, drop, set}
 use Rattle.std.proofs.Common.{sym, ap, ◌∙◌, append-nil, zero-add, add-one, arith, length-drop, drop_of_length-le, drop-drop, get_or-drop, take-suc, length-take-le}
-use Rattle.meaning.specs.Table.{entry_numbers, of_entry, of_all, written, entry_in}
+use Rattle.meaning.specs.Table.{of_all, written}
 use Rattle.meaning.specs.LayoutFile.{header_bytes, number_bytes, bytes_of, field}
 use Rattle.meaning.specs.ReadFile.{number_in, numbers_in}
 use Rattle.laws.specs.TableLaws.{all_append}

@@ -1,24 +1,24 @@
 -- The layout file as a whole: what is written reads back the same, and what is read writes back the same bytes.
 -- Assumes nothing.
-use Rattle.std.specs.Prelude.{ℕ, zero, suc, ◌+◌, ◌-◌, ◌*◌, ◌/◌, ◌≤◌, ◌<◌, ◌≡◌, refl, true, ℤ, length, get_or, take}
+use Rattle.std.specs.Prelude.{ℕ, ◌+◌, ◌*◌, ◌≤◌, ◌<◌, ◌≡◌, true, ℤ, length, get_or, take}
 use Rattle.std.proofs.Math.Path.{sym, ap}
-use Rattle.std.proofs.Common.{◌∙◌, arith, take_all, drop-drop, drop_at}
-use mathlib.Core.List.{List, [], ◌∷◌, ◌++◌}
+use Rattle.std.proofs.Common.{◌∙◌, arith, take_all, drop-drop}
+use mathlib.Core.List.{List, ◌++◌}
 use Rattle.std.specs.Int.Signed.{mag}
 use Rattle.std.proofs.Math.ListN.{drop, length-append, length-drop}
 use Rattle.basis.specs.Choice.{pick, pick_true, pick-false, by_test}
 use Rattle.meaning.specs.Refusals.{checked_number}
 use Rattle.meaning.specs.Settings.{settings_of}
-use Rattle.meaning.specs.Table.{entry_numbers, of_entry, of_all, entry_in}
-use Rattle.meaning.specs.LayoutFile.{header_bytes, number_bytes, settings_numbers, settings_tag, length_tag, settings_size, line_bytes, length_at, lines_at, frame_bytes, bytes_of, bits_of, field, of_settings, settings_field, length_field, line_fields, file_of, file_bytes}
-use Rattle.meaning.specs.ReadFile.{is_field, check_line_fields, check_fields, number_in, numbers_in, signed_of, settings_in, file_settings, file_text_length, file_lines, lines_in, file_entries}
+use Rattle.meaning.specs.Table.{of_all}
+use Rattle.meaning.specs.LayoutFile.{header_bytes, number_bytes, settings_numbers, settings_tag, length_tag, settings_size, line_bytes, length_at, lines_at, frame_bytes, bytes_of, field, of_settings, settings_field, length_field, line_fields, file_of, file_bytes}
+use Rattle.meaning.specs.ReadFile.{is_field, check_line_fields, check_fields, number_in, numbers_in, settings_in, file_settings, file_text_length, file_lines, file_entries}
 use Rattle.meaning.specs.declared.settings.Settings.{Settings}
 use Rattle.meaning.specs.declared.line.Entry.{Entry}
 use Rattle.meaning.specs.declared.refusals.Refusal.TheVariants.{BadField}
 use Rattle.meaning.specs.declared.refusals.Checked.TheVariants.{Good, Refused}
-use Rattle.laws.specs.TableLaws.{values, values-are}
-use Rattle.file_fields.specs.FileNumbers.{Below, Bytes, Words, number_read, number_bytes_lem, bytes_read, words-bytes, words-read, below-drop, below_at, numbers-count, numbers-small, numbers-written, signed_bits, bits_signed}
-use Rattle.file_fields.specs.FileFields.{field_found, field-over, field-length, Found, found, field-written, lines-length, lines-found, EntryWords, lines-read, Lined, good-lined}
+use Rattle.laws.specs.TableLaws.{values-are}
+use Rattle.file_fields.specs.FileNumbers.{Bytes, Words, number_read, number_bytes_lem, bytes_read, words-bytes, words-read, below-drop, below_at, numbers-count, numbers-small, numbers-written, signed_bits, bits_signed}
+use Rattle.file_fields.specs.FileFields.{field_found, field-over, field-length, found, field-written, lines-length, lines-found, EntryWords, lines-read, Lined, good-lined}
 
 -- ---- settings
 

@@ -2,8 +2,8 @@
 -- Assumes nothing.
 use Rattle.std.specs.Prelude.{ℕ, ◌≡◌, List, [], ◌∷◌, ℤ, get_or}
 use Rattle.std.proofs.Math.Path.{sym}
-use Rattle.std.proofs.Common.{ap, ◌∙◌, eq-eqb, ne_eqb}
-use Rattle.basis.specs.Choice.{pick, pick_true, pick-false}
+use Rattle.std.proofs.Common.{◌∙◌, eq-eqb, ne_eqb}
+use Rattle.basis.specs.Choice.{pick_true, pick-false}
 use Rattle.meaning.specs.Checks.{first_of, check_settings, check_room}
 use Rattle.meaning.specs.Settings.{settings_of}
 use Rattle.meaning.specs.LayoutFile.{settings_numbers}

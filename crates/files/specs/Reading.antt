@@ -1,13 +1,13 @@
 -- The lines of a file as the loops over them meet them, and their check (refusal 5).
 -- Assumes nothing.
 use Prim.Native.Nat.{ℕ, zero, suc, ◌+◌, ◌-◌, ◌*◌, ◌≤◌, ◌<◌}
-use Rattle.std.specs.Prelude.{◌≡◌, refl, Bool, true, false, List, [], ◌∷◌, ◌++◌, eqb, length, get_or, take, drop}
+use Rattle.std.specs.Prelude.{◌≡◌, refl, true, false, List, [], ◌∷◌, ◌++◌, eqb, length, get_or, drop}
 use Rattle.std.proofs.Math.Path.{sym, ap}
-use Rattle.std.proofs.Common.{◌∙◌, append-nil, add-zero, add-one, eq-eqb, ne_eqb, length-drop, take_all}
+use Rattle.std.proofs.Common.{◌∙◌, append-nil, add-one, eq-eqb, ne_eqb, take_all}
 use Rattle.std.proofs.Math.Nat.{sub-zero}
 use native.Mathlib.Omega.{arith}
 use Rattle.std.proofs.Math.Seq.{drop-drop}
-use Rattle.basis.specs.Choice.{pick, pick_true, pick-false}
+use Rattle.basis.specs.Choice.{pick_true, pick-false}
 use Rattle.basis.specs.Order.{by_eq, within-is, within-not}
 use Rattle.meaning.specs.Checks.{first_of, check_length}
 use Rattle.meaning.specs.Table.{entry_numbers, of_entry, of_all, entry_in}

@@ -2,17 +2,16 @@
 -- Refusal 1, refusal 2, refusal 3, refusal 5, refusal 8, refusal 9, refusal 11, refusal 12.
 -- Assumes nothing.
 use Prim.Native.Nat.{ℕ, zero, suc, ◌+◌, ◌*◌, ◌≤◌}
-use Rattle.std.specs.Prelude.{◌≡◌, eqb, drop}
+use Rattle.std.specs.Prelude.{◌≡◌, drop}
 use Rattle.std.proofs.Math.Path.{refl, sym, ap}
-use Rattle.std.proofs.Common.{◌∙◌, subst, arith, eq-eqb, ne_eqb}
+use Rattle.std.proofs.Common.{◌∙◌, arith, eq-eqb, ne_eqb}
 use mathlib.Core.List.{List, [], ◌∷◌}
 use Rattle.std.proofs.Math.ListN.{length}
-use Rattle.basis.specs.Choice.{pick, pick_true, pick-false, pick_cases}
-use Rattle.meaning.specs.Refusals.{number_of, checked_number}
-use Rattle.meaning.specs.Settings.{in_range, known_alignment, known_vertical}
+use Rattle.basis.specs.Choice.{pick_true, pick-false, pick_cases}
+use Rattle.meaning.specs.Refusals.{number_of}
 use Rattle.meaning.specs.Checks.{refuse_if, first_of, check_settings, check_length, check_room}
 use Rattle.meaning.specs.Table.{entry_numbers, of_entry, of_all, capacity_of, written}
-use Rattle.meaning.specs.WellFormed.{Before, nothing, line, last_reach, text_length, entry_good, check_lines, check_entries}
+use Rattle.meaning.specs.WellFormed.{Before, nothing, line, text_length, check_lines, check_entries}
 use Rattle.meaning.specs.LayoutFile.{line_bytes, length_at, lines_at, settings_numbers, of_settings, file_bytes}
 use Rattle.meaning.specs.ReadFile.{check_end, check_line_fields, check_fields, file_settings, file_text_length, file_lines, lines_in, file_entries, unretired, check_retired, check_lines_read}
 use Rattle.meaning.specs.Calls.{check_reading, reading_answer, reading_table, handed_out, reading_settings}

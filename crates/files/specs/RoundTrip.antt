@@ -1,18 +1,16 @@
 -- What is written reads back the same, and what is read writes back the same bytes, of what the two calls answer.
 -- Refusal 1, refusal 2, refusal 3, refusal 5, refusal 8, refusal 9, refusal 11, refusal 12.
 -- Assumes nothing.
-use Rattle.std.specs.Prelude.{ℕ, zero, suc, ◌+◌, ◌-◌, ◌*◌, ◌≤◌, ◌<◌, ◌≡◌, refl, true, false, eqb, take, drop}
+use Rattle.std.specs.Prelude.{ℕ, zero, suc, ◌*◌, ◌≤◌, ◌≡◌, refl, eqb, drop}
 use Rattle.std.proofs.Math.Path.{sym, ap}
-use Rattle.std.proofs.Common.{◌∙◌, subst, arith, length-drop, take_at}
-use mathlib.Core.List.{List, [], ◌∷◌, ◌++◌}
+use Rattle.std.proofs.Common.{◌∙◌, subst, arith, length-drop}
+use mathlib.Core.List.{List, [], ◌∷◌}
 use borrow.Author.Tests.{le-leb, eq-eqb, eqb-true}
 use Rattle.std.proofs.Math.ListN.{length}
-use Rattle.basis.specs.Choice.{pick, pick_true, pick-false}
-use Rattle.basis.specs.Order.{by_eq}
+use Rattle.basis.specs.Choice.{pick_true}
 use Rattle.meaning.specs.Refusals.{checked_number}
-use Rattle.meaning.specs.Settings.{settings_of}
 use Rattle.meaning.specs.Checks.{first_of, check_settings, check_length, check_room}
-use Rattle.meaning.specs.Table.{entry_numbers, of_entry, of_all, capacity_of, written, entry_in, entries_in}
+use Rattle.meaning.specs.Table.{entry_numbers, of_entry, of_all, capacity_of, written, entries_in}
 use Rattle.meaning.specs.WellFormed.{text_length, check_entries, check_table}
 use Rattle.meaning.specs.LayoutFile.{settings_numbers, of_settings, file_of, layout_file}
 use Rattle.meaning.specs.ReadFile.{check_fields, file_settings, file_text_length, file_lines, file_entries, unretired, check_retired, check_lines_read}
@@ -30,9 +28,9 @@ use Rattle.laws.specs.TableLaws.{entries_length, entries_numbers, entries_writte
 use Rattle.file_fields.specs.FileNumbers.{Bytes, Words, below-take, below-drop}
 use Rattle.file_fields.specs.FileFields.{EntryWords}
 use Rattle.files.specs.FileLaws.{SettingsWords, file-found, settings-read, length-read, entries_read, file-written}
-use Rattle.laws.specs.GoodChecks.{has_room, room-is}
+use Rattle.laws.specs.GoodChecks.{has_room}
 use Rattle.look.specs.GoodTable.{table-room, table-text}
-use Rattle.files.specs.Tests.{passes, both-good}
+use Rattle.files.specs.Tests.{both-good}
 use Rattle.files.specs.Known.{not_retired, unretired-same}
 use Rattle.files.specs.ReadingCalls.{entries_many, lines_fit_lem}
 

@@ -1,6 +1,6 @@
 -- The tests of a call, one after the other: what one refuses, and what is known where none does.
 -- Assumes nothing.
-use Rattle.std.specs.Prelude.{ℕ, ◌≡◌, refl, List, [], ◌∷◌}
+use Rattle.std.specs.Prelude.{ℕ, ◌≡◌, refl, List, ◌∷◌}
 use Rattle.std.proofs.Common.{arith}
 use Rattle.meaning.specs.Checks.{first_of}
 use Rattle.meaning.specs.declared.refusals.Refusal.{Refusal}

@@ -1,20 +1,19 @@
 -- A layout file as the running calls write it: field behind field.
 -- Assumes nothing.
-use Rattle.std.specs.Prelude.{ℕ, zero, suc, ◌+◌, ◌*◌, ◌/◌, ◌%◌, ◌≤◌, ◌<◌, ◌≡◌, refl, take, drop}
-use Rattle.std.proofs.Common.{sym, ◌∙◌, add-one, arith, length-drop, length-take-le}
+use Rattle.std.specs.Prelude.{ℕ, ◌+◌, ◌*◌, ◌/◌, ◌%◌, ◌≤◌, ◌≡◌, refl, take, drop}
+use Rattle.std.proofs.Common.{sym, ◌∙◌, add-one, arith, length-drop}
 use Rattle.std.proofs.Math.Path.{ap}
 use mathlib.Core.List.{List, [], ◌∷◌, ◌++◌, append_assoc, append-nil}
 use Rattle.std.proofs.Math.ListN.{length, length-append}
 use Rattle.meaning.specs.Table.{entry_numbers, of_entry, of_all, entry_in, entries_in}
-use Rattle.meaning.specs.WellFormed.{text_length}
-use Rattle.meaning.specs.LayoutFile.{header_bytes, number_bytes, settings_numbers, settings_tag, length_tag, line_tag, end_tag, settings_size, line_size, line_bytes, length_at, lines_at, frame_bytes, bytes_of, bits_of, field, of_settings, settings_field, length_field, line_field, line_fields, file_of, layout_file, file_bytes}
+use Rattle.meaning.specs.LayoutFile.{header_bytes, number_bytes, settings_numbers, settings_tag, length_tag, line_tag, end_tag, settings_size, line_size, line_bytes, length_at, lines_at, bytes_of, bits_of, field, of_settings, settings_field, length_field, line_field, line_fields, file_of, file_bytes}
 use Rattle.meaning.specs.declared.settings.Settings.{Settings}
 use Rattle.meaning.specs.declared.line.Entry.{Entry}
 use Rattle.laws.specs.TableLaws.{all-numbers, all_append, entries_length, numbers-read}
-use Rattle.file_fields.specs.FileNumbers.{number_bytes_lem, words-bytes}
-use Rattle.file_fields.specs.FileFields.{field-length, line_body, line-length, lines-length}
+use Rattle.file_fields.specs.FileNumbers.{number_bytes_lem}
+use Rattle.file_fields.specs.FileFields.{field-length, line_body, line-length}
 use Rattle.files.specs.FileLaws.{settings_body}
-use Rattle.table.specs.Numbers.{put_numbers, put-length}
+use Rattle.table.specs.Numbers.{put_numbers}
 use Rattle.table.specs.Stretches.{join_behind, entries_last}
 use Rattle.file_fields.specs.Putting.{put-field}
 

@@ -5,7 +5,7 @@ use Rattle.std.specs.Prelude.{ℕ, ◌+◌, ◌*◌, ◌≤◌, ◌≡◌, List,
 use Rattle.std.proofs.Math.Path.{sym, ap}
 use Rattle.std.proofs.Common.{◌∙◌, arith}
 use Rattle.meaning.specs.Checks.{first_of, check_settings, check_room}
-use Rattle.meaning.specs.Table.{entry_numbers, entries_in, written}
+use Rattle.meaning.specs.Table.{entry_numbers, entries_in}
 use Rattle.meaning.specs.WellFormed.{text_length, check_table}
 use Rattle.meaning.specs.LayoutFile.{frame_bytes, line_bytes, layout_file, file_bytes}
 use Rattle.meaning.specs.Calls.{written_file, check_writing, writing_answer, writing_file}

@@ -1,9 +1,9 @@
 -- Plain lines: the tests of one line by plain numbers, two of them read as one, and blocks of lines after others.
 -- Assumes nothing.
-use Rattle.std.proofs.Common.{◌≡◌, ℕ, ◌+◌, ◌-◌, ◌*◌, ◌%◌, ◌<◌, ◌≤◌, true, false, List, get_or, subst, arith, lt-ltb, le-leb}
+use Rattle.std.proofs.Common.{◌≡◌, ℕ, ◌+◌, ◌-◌, ◌*◌, ◌%◌, ◌<◌, ◌≤◌, true, List, get_or, subst, arith, lt-ltb, le-leb}
 use Rattle.basis.specs.Order.{by_lt}
 use Rattle.meaning.specs.Table.{entry_numbers}
-use Rattle.look.specs.OneLine.{count_fits, ending_at}
+use Rattle.look.specs.OneLine.{count_fits}
 use Rattle.look.specs.Skipping.{block_lines, block_numbers, span, soft_end, Paired, PlainEnd, Starts, Lines}
 use Rattle.look.proofs.SkipTurns.{breaks-good}
 

@@ -3,7 +3,7 @@
 use Rattle.std.proofs.Common.{◌≡◌, ℕ, zero, suc, ◌+◌, ◌-◌, ◌*◌, ◌%◌, ◌<◌, ◌≤◌, true, List, get_or, sym, subst, arith}
 use Rattle.meaning.specs.Table.{entry_numbers}
 use Rattle.look.specs.OneLine.{count_fits}
-use Rattle.look.specs.Skipping.{span, pair_at, Paired, PlainEnd, Counted, Starts, Follows, PlainLine, PlainLines, InStep, StepLine, StepLines}
+use Rattle.look.specs.Skipping.{span, pair_at, Paired, PlainEnd, Counted, Follows, PlainLine, PlainLines, InStep, StepLines}
 use Rattle.look.proofs.PlainTurns.{counts_fit}
 
 -- ---- one line

@@ -1,6 +1,6 @@
 -- Good lines that are not the last, skipped one after the other by plain numbers.
 -- Assumes nothing.
-use Rattle.std.specs.Prelude.{◌≡◌, ℕ, ◌+◌, ◌-◌, ◌*◌, ◌%◌, ◌<◌, ◌≤◌, true, false, ◌&&◌, List, length, drop, slice_index, slice_index_or}
+use Rattle.std.specs.Prelude.{◌≡◌, ℕ, ◌+◌, ◌-◌, ◌*◌, ◌%◌, ◌<◌, ◌≤◌, true, false, List, length, drop, slice_index, slice_index_or}
 use Rattle.meaning.specs.Table.{entry_numbers, entry_in}
 use Rattle.meaning.specs.WellFormed.{Before, line, check_lines}
 use Rattle.meaning.specs.Edit.{unaffected}

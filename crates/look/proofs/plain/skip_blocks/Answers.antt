@@ -1,7 +1,5 @@
 use Rattle.std.proofs.Common.{arith}
 use Rattle.look.proofs.PlainTurns.{lines_none, lines_join, lines_block}
-use Rattle.look.proofs.plain.all_break.Reads as all-break-reads
-use Rattle.look.proofs.plain.all_following.Reads as all-following-reads
 use Rattle.look.proofs.plain.skip_blocks.Goals as goal
 
 pub returns-then-last-lt-BLOCK : goal.returns-then-last-lt-BLOCK

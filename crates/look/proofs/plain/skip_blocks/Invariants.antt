@@ -1,8 +1,6 @@
 -- `table::plain::skip_blocks` meets its contract (refusal 5).
 use Rattle.std.proofs.Common.{◌+◌, ◌-◌, ◌≤◌}
 use Rattle.look.specs.Skipping.{block_numbers, PlainLines}
-use Rattle.look.proofs.plain.all_break.Reads as all-break-reads
-use Rattle.look.proofs.plain.all_following.Reads as all-following-reads
 use Rattle.look.proofs.plain.skip_blocks.Given as goal
 
 abbrev pub invariant-loop-at : goal.invariant-loop-at
