@@ -1,5 +1,6 @@
 // One line, measured, placed and drawn, and the lines of a text, one after the other (rule 8, rule 9 and rule 10).
 #![tactic(auto)]
+
 pub mod cuts;
 pub mod found;
 pub mod hyphened;

@@ -14,10 +14,13 @@ returns-then-word-eq0 c =
 
 pub write_cuts-far-requires : goal.write_cuts-far-requires
 write_cuts-far-requires c =
-    record { stand_ready = (ready-here c.args.s c.args.text.now c.args.stand c.requires.0.0 c.requires.1, c.requires.0.2, refl); room_from = (
-    room-here c.args.s c.args.text.now c.args.stand c.requires.0.0 c.requires.1 c.args.table.now c.args.lines c.requires.0.1,
-    c.long_known-word.ensures (omega (arith, c.if-word-eq0.false)),
-    ) }
+    record {
+      stand_ready = (ready-here c.args.s c.args.text.now c.args.stand c.requires.0.0 c.requires.1, c.requires.0.2, refl);
+      room_from = (
+        room-here c.args.s c.args.text.now c.args.stand c.requires.0.0 c.requires.1 c.args.table.now c.args.lines c.requires.0.1,
+        c.long_known-word.ensures (omega (arith, c.if-word-eq0.false)),
+      );
+    }
 
 pub shape_of-table : goal.shape_of-table
 shape_of-table c =

@@ -40,8 +40,11 @@ write_entry-requires c =
 
 pub overflow_add-n : goal.overflow_add-n
 overflow_add-n c =
-    omega (arith, count_low _ _ _ _ ((let wrote_here : Wrote c.args.s c.args.text.now c.args.table.now c.if-stand-eq0.table c.if-stand-eq0.n c.if-stand-eq0.stand = ⊎_elim (λ w. wrote_same _ _ _ _ _ _ _ _ _ w.7 w.8 w.9 (wrote_on _ _ _ _ _ _ _ _ _ c.loop-stand.invariant (w.2.ensures.on w.5.left)))
-    (λ w. wrote_same _ _ _ _ _ _ _ _ _ w.1 w.2 w.3 c.loop-stand.invariant) c.if-stand-eq0.branch in wrote_here)).counted)
+    omega (
+      arith,
+      count_low _ _ _ _ ((let wrote_here : Wrote c.args.s c.args.text.now c.args.table.now c.if-stand-eq0.table c.if-stand-eq0.n c.if-stand-eq0.stand = ⊎_elim (λ w. wrote_same _ _ _ _ _ _ _ _ _ w.7 w.8 w.9 (wrote_on _ _ _ _ _ _ _ _ _ c.loop-stand.invariant (w.2.ensures.on w.5.left)))
+          (λ w. wrote_same _ _ _ _ _ _ _ _ _ w.1 w.2 w.3 c.loop-stand.invariant) c.if-stand-eq0.branch in wrote_here)).counted,
+    )
 
 pub shape_of-table-then-row : goal.shape_of-table-then-row
 shape_of-table-then-row c =
@@ -50,9 +53,12 @@ shape_of-table-then-row c =
 
 pub returns-then-row : goal.returns-then-row
 returns-then-row c =
-    record { value = count-last _ _ _ _ ((let wrote_here : Wrote c.args.s c.args.text.now c.args.table.now c.if-stand-eq0.table c.if-stand-eq0.n c.if-stand-eq0.stand = ⊎_elim (λ w. wrote_same _ _ _ _ _ _ _ _ _ w.7 w.8 w.9 (wrote_on _ _ _ _ _ _ _ _ _ c.loop-stand.invariant (w.2.ensures.on w.5.left)))
-    (λ w. wrote_same _ _ _ _ _ _ _ _ _ w.1 w.2 w.3 c.loop-stand.invariant) c.if-stand-eq0.branch in wrote_here)).counted _ c.lay_row-row.ensures c.if-row.true; table_after = write_last _ _ _ _ _ _ ((let wrote_here : Wrote c.args.s c.args.text.now c.args.table.now c.if-stand-eq0.table c.if-stand-eq0.n c.if-stand-eq0.stand = ⊎_elim (λ w. wrote_same _ _ _ _ _ _ _ _ _ w.7 w.8 w.9 (wrote_on _ _ _ _ _ _ _ _ _ c.loop-stand.invariant (w.2.ensures.on w.5.left)))
-    (λ w. wrote_same _ _ _ _ _ _ _ _ _ w.1 w.2 w.3 c.loop-stand.invariant) c.if-stand-eq0.branch in wrote_here)) c.requires.text_in_bounds _ c.lay_row-row.ensures _ c.write_entry.ensures c.write_entry.auto.table c.if-row.true }
+    record {
+      value = count-last _ _ _ _ ((let wrote_here : Wrote c.args.s c.args.text.now c.args.table.now c.if-stand-eq0.table c.if-stand-eq0.n c.if-stand-eq0.stand = ⊎_elim (λ w. wrote_same _ _ _ _ _ _ _ _ _ w.7 w.8 w.9 (wrote_on _ _ _ _ _ _ _ _ _ c.loop-stand.invariant (w.2.ensures.on w.5.left)))
+          (λ w. wrote_same _ _ _ _ _ _ _ _ _ w.1 w.2 w.3 c.loop-stand.invariant) c.if-stand-eq0.branch in wrote_here)).counted _ c.lay_row-row.ensures c.if-row.true;
+      table_after = write_last _ _ _ _ _ _ ((let wrote_here : Wrote c.args.s c.args.text.now c.args.table.now c.if-stand-eq0.table c.if-stand-eq0.n c.if-stand-eq0.stand = ⊎_elim (λ w. wrote_same _ _ _ _ _ _ _ _ _ w.7 w.8 w.9 (wrote_on _ _ _ _ _ _ _ _ _ c.loop-stand.invariant (w.2.ensures.on w.5.left)))
+          (λ w. wrote_same _ _ _ _ _ _ _ _ _ w.1 w.2 w.3 c.loop-stand.invariant) c.if-stand-eq0.branch in wrote_here)) c.requires.text_in_bounds _ c.lay_row-row.ensures _ c.write_entry.ensures c.write_entry.auto.table c.if-row.true;
+    }
 
 pub next_stand-stand-requires : goal.next_stand-stand-requires
 next_stand-stand-requires c =
@@ -63,8 +69,13 @@ pub loop-stand-smaller : goal.loop-stand-smaller
 loop-stand-smaller c =
     let i = ((let wrote_here : Wrote c.args.s c.args.text.now c.args.table.now c.if-stand-eq0.table c.if-stand-eq0.n c.if-stand-eq0.stand = ⊎_elim (λ w. wrote_same _ _ _ _ _ _ _ _ _ w.7 w.8 w.9 (wrote_on _ _ _ _ _ _ _ _ _ c.loop-stand.invariant (w.2.ensures.on w.5.left)))
     (λ w. wrote_same _ _ _ _ _ _ _ _ _ w.1 w.2 w.3 c.loop-stand.invariant) c.if-stand-eq0.branch in wrote_here)).counted.ready in
-    omega (arith, (let forward_here : c.loop-stand.stand.at.0 ≤ c.if-stand-eq0.stand.at.0 = ⊎_elim (λ w. omega (arith, (w.2.ensures.on w.5.left).forward, ap (λ (p : Stand). p.at.0) w.9))
-    (λ w. omega (arith, ap (λ (p : Stand). p.at.0) w.3)) c.if-stand-eq0.branch in forward_here), further _ _ _ i _ c.lay_row-row.ensures _ c.next_stand-stand.ensures c.if-row.false, stays _ _ _ i _ c.lay_row-row.ensures _ c.next_stand-stand.ensures)
+    omega (
+      arith,
+      (let forward_here : c.loop-stand.stand.at.0 ≤ c.if-stand-eq0.stand.at.0 = ⊎_elim (λ w. omega (arith, (w.2.ensures.on w.5.left).forward, ap (λ (p : Stand). p.at.0) w.9))
+          (λ w. omega (arith, ap (λ (p : Stand). p.at.0) w.3)) c.if-stand-eq0.branch in forward_here),
+      further _ _ _ i _ c.lay_row-row.ensures _ c.next_stand-stand.ensures c.if-row.false,
+      stays _ _ _ i _ c.lay_row-row.ensures _ c.next_stand-stand.ensures,
+    )
 
 pub loop-stand-preserved : goal.loop-stand-preserved
 loop-stand-preserved c =

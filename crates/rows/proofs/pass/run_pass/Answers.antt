@@ -42,9 +42,17 @@ look_after-ahead-requires c =
     record { settings = c.strides_unless-g.ensures.goes.onward.ready.settings; place = c.strides_unless-g.ensures.goes.onward.ready.place; short = c.strides_unless-g.ensures.goes.onward.ready.short; stands = y.stands; sees = rw y.first at c.strides_unless-g.ensures.foresees_from }
 
 pub step_token-stepped-requires : goal.step_token-stepped-requires
-step_token-stepped-requires c =
-    ((let ready_here : Ready c.args.s c.strides_unless-g.result.place c.args.text.now c.strides_unless-g.result.at.0 c.in-Token.x c.strides_unless-g.result.measure = record { settings = c.strides_unless-g.ensures.goes.onward.ready.settings; place = c.strides_unless-g.ensures.goes.onward.ready.place; short = c.strides_unless-g.ensures.goes.onward.ready.short; stands = ((let pended_here : Pending c.args.text.now c.strides_unless-g.result.at.0 c.loop-known.held.chars.0 c.loop-known.held.count.0 c.in-Token.x = pending _ c.strides_unless-g.result.at.0 c.loop-known.held _ c.strides_unless-g.ensures.goes.onward.ready.rest
-    (sym c.first_token-token.ensures ∙ c.in-Token.is) in pended_here)).stands; small = c.strides_unless-g.ensures.goes.onward.ready.small } in ready_here), c.look_after-ahead.ensures)
+step_token-stepped-requires c = (
+  (let ready_here : Ready c.args.s c.strides_unless-g.result.place c.args.text.now c.strides_unless-g.result.at.0 c.in-Token.x c.strides_unless-g.result.measure = record {
+    settings = c.strides_unless-g.ensures.goes.onward.ready.settings;
+    place = c.strides_unless-g.ensures.goes.onward.ready.place;
+    short = c.strides_unless-g.ensures.goes.onward.ready.short;
+    stands = ((let pended_here : Pending c.args.text.now c.strides_unless-g.result.at.0 c.loop-known.held.chars.0 c.loop-known.held.count.0 c.in-Token.x = pending _ c.strides_unless-g.result.at.0 c.loop-known.held _ c.strides_unless-g.ensures.goes.onward.ready.rest
+        (sym c.first_token-token.ensures ∙ c.in-Token.is) in pended_here)).stands;
+    small = c.strides_unless-g.ensures.goes.onward.ready.small;
+  } in ready_here),
+  c.look_after-ahead.ensures,
+)
 
 pub loop-known-smaller : goal.loop-known-smaller
 loop-known-smaller c =
@@ -59,11 +67,17 @@ loop-known-preserved c =
     let e = sym c.step_token-stepped.ensures ∙ c.in-Go.is in
     let fine = step_keeps c.args.s c.strides_unless-g.result.place _ c.strides_unless-g.result.at.0 c.loop-known.held.chars.0 c.loop-known.held.count.0 c.in-Token.x c.strides_unless-g.result.measure c.strides_unless-g.ensures.goes.onward.ready.settings c.strides_unless-g.ensures.goes.onward.ready.place c.strides_unless-g.ensures.goes.onward.ready.small y _ _ _ e in
     let far = c.greater-reach.ensures ∙ ap (max c.loop-known.reach) c.greater.ensures in (
-    pass-goes c.args.s c.strides_unless-g.result.place _ c.strides_unless-g.result.at.0 c.loop-known.held.chars.0 c.loop-known.held.count.0 c.strides_unless-g.result.measure c.loop-known.reach c.in-Token.x y _ _ _ e _ far _ c.nothing_left-held.ensures
-    ∙ (let strode_here : farther c.loop-known.reach (ran_from c.args.s c.strides_unless-g.result.place c.args.text.now c.strides_unless-g.result.at.0 c.loop-known.held.chars.0 c.loop-known.held.count.0 c.strides_unless-g.result.measure) ≡ ran_from c.args.s c.args.start c.args.text.now c.args.from c.args.rest.chars.0 c.args.rest.count.0 c.args.m = ap (farther c.loop-known.reach) c.strides_unless-g.ensures.goes.onward.same ∙ c.loop-known.invariant.0 in strode_here),
-    record { settings = c.strides_unless-g.ensures.goes.onward.ready.settings; place = fine.0; short = c.strides_unless-g.ensures.goes.onward.ready.short; inside = y.stands.within; rest = none-fits _ _ _ c.nothing_left-held.ensures; small = fine.1 },
-    rw (none-held _ c.in-Token.x.end.0 _ c.nothing_left-held.ensures) (step_foresees ((let ready_here : Ready c.args.s c.strides_unless-g.result.place c.args.text.now c.strides_unless-g.result.at.0 c.in-Token.x c.strides_unless-g.result.measure = record { settings = c.strides_unless-g.ensures.goes.onward.ready.settings; place = c.strides_unless-g.ensures.goes.onward.ready.place; short = c.strides_unless-g.ensures.goes.onward.ready.short; stands = ((let pended_here : Pending c.args.text.now c.strides_unless-g.result.at.0 c.loop-known.held.chars.0 c.loop-known.held.count.0 c.in-Token.x = pending _ c.strides_unless-g.result.at.0 c.loop-known.held _ c.strides_unless-g.ensures.goes.onward.ready.rest
-    (sym c.first_token-token.ensures ∙ c.in-Token.is) in pended_here)).stands; small = c.strides_unless-g.ensures.goes.onward.ready.small } in ready_here)) _ _ _ e c.look_after-ahead.result c.look_after-ahead.ensures),
+      pass-goes c.args.s c.strides_unless-g.result.place _ c.strides_unless-g.result.at.0 c.loop-known.held.chars.0 c.loop-known.held.count.0 c.strides_unless-g.result.measure c.loop-known.reach c.in-Token.x y _ _ _ e _ far _ c.nothing_left-held.ensures
+          ∙ (let strode_here : farther c.loop-known.reach (ran_from c.args.s c.strides_unless-g.result.place c.args.text.now c.strides_unless-g.result.at.0 c.loop-known.held.chars.0 c.loop-known.held.count.0 c.strides_unless-g.result.measure) ≡ ran_from c.args.s c.args.start c.args.text.now c.args.from c.args.rest.chars.0 c.args.rest.count.0 c.args.m = ap (farther c.loop-known.reach) c.strides_unless-g.ensures.goes.onward.same ∙ c.loop-known.invariant.0 in strode_here),
+      record { settings = c.strides_unless-g.ensures.goes.onward.ready.settings; place = fine.0; short = c.strides_unless-g.ensures.goes.onward.ready.short; inside = y.stands.within; rest = none-fits _ _ _ c.nothing_left-held.ensures; small = fine.1 },
+      rw (none-held _ c.in-Token.x.end.0 _ c.nothing_left-held.ensures) (step_foresees ((let ready_here : Ready c.args.s c.strides_unless-g.result.place c.args.text.now c.strides_unless-g.result.at.0 c.in-Token.x c.strides_unless-g.result.measure = record {
+        settings = c.strides_unless-g.ensures.goes.onward.ready.settings;
+        place = c.strides_unless-g.ensures.goes.onward.ready.place;
+        short = c.strides_unless-g.ensures.goes.onward.ready.short;
+        stands = ((let pended_here : Pending c.args.text.now c.strides_unless-g.result.at.0 c.loop-known.held.chars.0 c.loop-known.held.count.0 c.in-Token.x = pending _ c.strides_unless-g.result.at.0 c.loop-known.held _ c.strides_unless-g.ensures.goes.onward.ready.rest
+            (sym c.first_token-token.ensures ∙ c.in-Token.is) in pended_here)).stands;
+        small = c.strides_unless-g.ensures.goes.onward.ready.small;
+      } in ready_here)) _ _ _ e c.look_after-ahead.result c.look_after-ahead.ensures),
     )
 
 pub returns-in-Stop : goal.returns-in-Stop

@@ -15,10 +15,10 @@ unfolding cut_end
 returns c =
     let m : c.noted_space-measure.result ≡ _ = c.noted_space-measure.ensures ∙ ap (λ (x : Measure). cut_shown x c.args.fitting) c.nothing_measured.ensures in
     λ i. record {
-    ended = LineBreak;
-    measure = m i;
-    next = record { 0 = c.args.at + c.args.taken };
-    rest = c.held_rest-left.ensures i;
-    dropped = record { 0 = 0 };
-    reach = record { 0 = c.args.reach };
+      ended = LineBreak;
+      measure = m i;
+      next = record { 0 = c.args.at + c.args.taken };
+      rest = c.held_rest-left.ensures i;
+      dropped = record { 0 = 0 };
+      reach = record { 0 = c.args.reach };
     }
