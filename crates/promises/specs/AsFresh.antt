@@ -14,13 +14,13 @@ use Rattle.meaning.specs.declared.answers.Laid.{Laid}
 use Rattle.meaning.specs.declared.answers.Laid.TheVariants as fresh
 use Rattle.meaning.specs.declared.answers.Relaid.{Relaid}
 use Rattle.promises.specs.Demand3Calls.{EditOf}
-use Rattle.promises.specs.Passed.{Lent, LentNumber}
+use Rattle.promises.specs.Passed.{Lent, LentNumber, LentMut}
 use Rattle.promises.specs.CallContracts.{Layout, LayAgain, CLayout, CLayAgain}
 use Rattle.promises.specs.Demand3.{lay_again_demand_3, c_lay_again_demand_3}
 
 -- The whole new text, and a table that holds the same as the one that laying again was lent.
-module _ (s : Settings) (ed : Edit) (old new : List ℕ) (part table : Lent) (lines : ℕ) (k : EditOf s ed old new table.now lines part.now)
-    (text other : Lent) (whole : text.now ≡ encode_all new) (same : other.now ≡ table.now)
+module _ (s : Settings) (ed : Edit) (old new : List ℕ) (part : Lent) (table : LentMut) (lines : ℕ) (k : EditOf s ed old new table.now lines part.now)
+    (text : Lent) (other : LentMut) (whole : text.now ≡ encode_all new) (same : other.now ≡ table.now)
   where
     -- The fresh layout, of what is lent to it.
     here : (after : List ℕ) → after ≡ layout_table s (encode_all new) table.now → after ≡ layout_table s text.now other.now

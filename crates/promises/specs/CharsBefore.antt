@@ -16,7 +16,7 @@ use Rattle.meaning.specs.declared.answers.Relaid.{Relaid}
 use Rattle.laws.specs.RowInduction.{Each}
 use Rattle.laws.specs.CharsBefore.{CountsBefore, layout-counts}
 use Rattle.promises.specs.Demand3Calls.{EditOf}
-use Rattle.promises.specs.Passed.{Lent, LentNumber}
+use Rattle.promises.specs.Passed.{Lent, LentNumber, LentMut}
 use Rattle.promises.specs.CallContracts.{Layout, LayAgain, CLayout, CLayAgain}
 use Rattle.promises.specs.TableHolds.{layout-table-holds, c-layout-table-holds}
 use Rattle.promises.specs.Demand3.{lay_again_demand_3, c_lay_again_demand_3}
@@ -27,7 +27,7 @@ LinesCount cs es = Each (CountsBefore cs) es
 
 -- ---- the fresh layout
 
-module _ (s : Settings) (text table : Lent) where
+module _ (s : Settings) (text : Lent) (table : LentMut) where
   entries_count : LinesCount (decode_all text.now) (text_entries s text.now)
   unfolding text_entries text_rows layout
   entries_count = layout-counts s (decode_all text.now)
@@ -46,7 +46,7 @@ module _ (s : Settings) (text table : Lent) where
 -- ---- laying again
 
 -- Lent an edit of a text and the table of its layout, of the lines of the new text.
-module _ (s : Settings) (ed : Edit) (old new : List ℕ) (part table : Lent) (lines : ℕ) (k : EditOf s ed old new table.now lines part.now) where
+module _ (s : Settings) (ed : Edit) (old new : List ℕ) (part : Lent) (table : LentMut) (lines : ℕ) (k : EditOf s ed old new table.now lines part.now) where
   pub lay_again-lines-count : (κs : Lfts 2) (z : Relaid) (after : List ℕ) → LayAgain κs s part table lines ed z after
       → LinesCount new (entries_in (length (layout s new)) after)
   lay_again-lines-count κs z after p =

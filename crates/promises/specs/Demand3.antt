@@ -25,7 +25,7 @@ use Rattle.laws.specs.TableLaws.{entries_written}
 use Rattle.promises.specs.Demand3Calls.{EditOf, demand_3_holds}
 use Rattle.promises.specs.SameLines.{SameLines}
 use Rattle.promises.specs.EditSettings.{edit-by}
-use Rattle.promises.specs.Passed.{Lent, LentNumber}
+use Rattle.promises.specs.Passed.{Lent, LentNumber, LentMut}
 use Rattle.promises.specs.CallContracts.{FirstAffected, LayAgain, CFirstAffected, CLayAgain}
 
 -- Of the lines laid, and of the table afterwards. Lines are numbered from 0, so that the first affected one has the number of those
@@ -58,13 +58,25 @@ demand_3_of {s} {ed} {old} {new} {table} after k e =
       past_untouched = ap (drop (entry_numbers * length (layout s new))) e ∙ d.past_untouched;
     }
 
-module _ (s : Settings) (ed : Edit) (old new : List ℕ) (part table : Lent) (lines : ℕ) where
-  -- ---- in Rattle
+-- ---- the first affected line, where the table is lent to be read
 
+module _ (s : Settings) (ed : Edit) (old new : List ℕ) (part table : Lent) (lines : ℕ) where
   -- Asked for the first affected line, the library answers its number.
   pub first-affected_demand_3 : (κs : Lfts 1) (z : Affected) → EditOf s ed old new table.now lines part.now
       → FirstAffected κs table lines ed z → z ≡ affecting.Line (length (unaffected ed.from.0 (layout s old)))
   first-affected_demand_3 κs z k p = p ∙ (demand_3_holds k).affected_call
+
+  -- The same for C.
+  pub c-first-affected_demand_3 : (κs : Lfts 2) (value : LentNumber) (z value' : ℕ) → EditOf s ed old new table.now lines part.now
+      → CFirstAffected κs table lines ed value z value' → (z ≡ 0) × (value' ≡ length (unaffected ed.from.0 (layout s old)))
+  c-first-affected_demand_3 κs value z value' k p =
+      let d = (demand_3_holds k).affected_call in
+      (p.0 ∙ ap affectedNumber d, p.1 ∙ ap affectedValue d)
+
+-- ---- laying again, where it is lent to be written
+
+module _ (s : Settings) (ed : Edit) (old new : List ℕ) (part : Lent) (table : LentMut) (lines : ℕ) where
+  -- ---- in Rattle
 
   -- The edit is not refused: the answer is how many lines the new text has, and how many were laid.
   abbrev pub LaidAgain : Relaid → (after : List ℕ) → Type 0
@@ -82,12 +94,6 @@ module _ (s : Settings) (ed : Edit) (old new : List ℕ) (part table : Lent) (li
   lay_again_other_settings κs former z after same good k p = lay_again_demand_3 κs z after (edit-by same good k) p
 
   -- ---- for C
-
-  pub c-first-affected_demand_3 : (κs : Lfts 2) (value : LentNumber) (z value' : ℕ) → EditOf s ed old new table.now lines part.now
-      → CFirstAffected κs table lines ed value z value' → (z ≡ 0) × (value' ≡ length (unaffected ed.from.0 (layout s old)))
-  c-first-affected_demand_3 κs value z value' k p =
-      let d = (demand_3_holds k).affected_call in
-      (p.0 ∙ ap affectedNumber d, p.1 ∙ ap affectedValue d)
 
   -- 0 is returned, and both counts are written.
   abbrev pub CLaidAgain : (z : ℕ) (after : List ℕ) (value' laid' : ℕ) → Type 0

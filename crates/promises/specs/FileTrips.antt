@@ -27,7 +27,7 @@ use Rattle.files.specs.FileLaws.{SettingsWords}
 use Rattle.files.specs.Tests.{both-good}
 use Rattle.files.specs.ReadingCalls.{entries_many}
 use Rattle.files.specs.RoundTrip.{Writable, read_answer, read_table, read_entries, read-settings, back-answer, back-file}
-use Rattle.promises.specs.Passed.{Lent, LentNumber}
+use Rattle.promises.specs.Passed.{Lent, LentNumber, LentMut}
 use Rattle.promises.specs.CallContracts.{WriteFile, ReadFile, CWriteFile, CReadFile}
 use Rattle.promises.specs.Unwritten.{refusal_some, writing_done}
 
@@ -80,7 +80,7 @@ was_read (Refused r) n m e = absurd (refusal_some r e)
 
 -- ---- what is written reads back the same
 
-module _ (s : Settings) (table : Lent) (lines : ℕ) (out file settings other : Lent) (n : ℕ) (after : List ℕ)
+module _ (s : Settings) (table : Lent) (lines : ℕ) (out : LentMut) (file : Lent) (settings other : LentMut) (n : ℕ) (after : List ℕ)
     (off : s.trailing ≡ 0) (sw : SettingsWords s) (tw : Words table.now) (sent : file.now ≡ take n after)
     (room : settings_numbers ≤ length settings.now) (fit : entry_numbers * lines ≤ length other.now) where
   pub file-read-back : (κs : Lfts 2) (λs : Lfts 3) (z : FileRead) (handed rows : List ℕ)
@@ -130,7 +130,7 @@ module _ (s : Settings) (table : Lent) (lines : ℕ) (out file settings other : 
 
 -- ---- what is read writes back the same bytes
 
-module _ (file settings table again out : Lent) (b : Bytes file.now) (fits : length file.now ≤ length out.now) where
+module _ (file : Lent) (settings table : LentMut) (again : Lent) (out : LentMut) (b : Bytes file.now) (fits : length file.now ≤ length out.now) where
   pub c-file-written-back : (κs : Lfts 5) (λs : Lfts 3) (value bytes other : LentNumber) (handed rows : List ℕ) (lines len z : ℕ)
       (after : List ℕ) (n : ℕ) → CReadFile κs file settings table value bytes 0 handed rows lines len → again.now ≡ rows
       → CWriteFile λs (file_settings file.now) again lines out other z after n

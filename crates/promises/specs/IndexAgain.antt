@@ -22,7 +22,7 @@ use Rattle.meaning.specs.declared.answers.Relaid.{Relaid}
 use Rattle.promises.specs.Demand3Calls.{EditOf}
 use Rattle.promises.specs.WrittenYs.{written-before}
 use Rattle.promises.specs.IndexedAgain.{index_call_again}
-use Rattle.promises.specs.Passed.{Lent, LentYs, LentNumber}
+use Rattle.promises.specs.Passed.{Lent, LentNumber, LentMut, LentYsMut}
 use Rattle.promises.specs.CallContracts.{LayAgain, MakeIndex, MakeIndexAgain, CLayAgain, CIndex, CIndexAgain}
 use Rattle.promises.specs.Demand3.{Demand3Of, lay_again_demand_3, c_lay_again_demand_3}
 
@@ -33,7 +33,7 @@ unfolding kept_before pick
 before-kept s first e Good index ys = rw (eq-eqb _ _ e) (written-before first index ys)
 before-kept s first e (Refused r) index ys = refl
 
-module _ (s : Settings) (top : s.vertical ≡ 0) (table : Lent) (lines first : ℕ) (index : LentYs) (after : List ℤ) where
+module _ (s : Settings) (top : s.vertical ≡ 0) (table : Lent) (lines first : ℕ) (index : LentYsMut) (after : List ℤ) where
   kept : after ≡ index_again_after s table.now lines first index.now → take first after ≡ take first index.now
   unfolding index_again_after index_from
   kept e = ap (take first) e ∙ before-kept s first top (check_indexing s table.now lines (length index.now)) index.now _
@@ -49,9 +49,9 @@ module _ (s : Settings) (top : s.vertical ≡ 0) (table : Lent) (lines first : �
 
 -- An edit, the table that laying again left, and two tables that hold the same: one lent to make the index again, one to make it afresh.
 -- The two indexes hold the same too, and in it the ys of the old lines.
-module _ (s : Settings) (ed : Edit) (old new : List ℕ) (part table : Lent) (lines : ℕ) (k : EditOf s ed old new table.now lines part.now)
+module _ (s : Settings) (ed : Edit) (old new : List ℕ) (part : Lent) (table : LentMut) (lines : ℕ) (k : EditOf s ed old new table.now lines part.now)
     (after : List ℕ) (laid fresh : Lent) (laid-is : laid.now ≡ after) (fresh-is : fresh.now ≡ after)
-    (index other : LentYs) (same : other.now ≡ index.now) (held : take lines index.now ≡ index_of s (layout s old))
+    (index other : LentYsMut) (same : other.now ≡ index.now) (held : take lines index.now ≡ index_of s (layout s old))
   where
     abbrev count : ℕ
     count = length (layout s new)

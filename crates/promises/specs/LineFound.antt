@@ -19,12 +19,12 @@ use Rattle.laws.specs.TableLaws.{entries_length}
 use Rattle.laws.specs.Indexes.{y_at, index_at}
 use Rattle.heights.specs.LineUnder.{SaysOfLines, found-line}
 use Rattle.promises.specs.IndexCalls.{index-lines, index-table, index-held, find_good}
-use Rattle.promises.specs.Passed.{Lent, LentYs, LentNumber}
+use Rattle.promises.specs.Passed.{Lent, LentYs, LentNumber, LentYsMut}
 use Rattle.promises.specs.CallContracts.{MakeIndex, FindLine, CIndex, CFindLine}
 use Rattle.promises.specs.Unwritten.{index-done}
 
 -- A table of so many lines, and an index that was lent to be made.
-module _ (s : Settings) (table : Lent) (lines : ℕ) (index : LentYs) where
+module _ (s : Settings) (table : Lent) (lines : ℕ) (index : LentYsMut) where
   -- Of the index afterwards: its first entries are the ys of the lines, each by rule 11.
   pub record Indexes (after : List ℤ) : Type 0 where
     pub held : take lines after ≡ index_of s (entries_in lines table.now)

@@ -15,7 +15,7 @@ use Rattle.meaning.specs.declared.answers.Laid.TheVariants as laid
 use Rattle.laws.specs.TableLaws.{entries_length}
 use Rattle.laws.specs.LayoutBounds.{few_entries}
 use Rattle.laws.specs.WellFormedLayout.{RisingToEnd, layout-rises-to-end}
-use Rattle.promises.specs.Passed.{Lent, LentNumber}
+use Rattle.promises.specs.Passed.{Lent, LentNumber, LentMut}
 use Rattle.promises.specs.CallContracts.{Layout, CLayout}
 use Rattle.promises.specs.TableHolds.{layout-table-holds, c-layout-table-holds}
 
@@ -24,7 +24,7 @@ pub record LinesRise (cs : List ℕ) (es : List Entry) : Type 0 where
   pub rise : RisingToEnd es
   pub few : length es ≤ most_lines cs
 
-module _ (s : Settings) (text table : Lent) where
+module _ (s : Settings) (text : Lent) (table : LentMut) where
   entries_rise : LinesRise (decode_all text.now) (text_entries s text.now)
   unfolding text_entries text_rows layout
   entries_rise =

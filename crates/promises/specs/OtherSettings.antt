@@ -14,7 +14,7 @@ use Rattle.meaning.specs.declared.settings.Settings.{Settings}
 use Rattle.meaning.specs.declared.answers.Laid.{Laid}
 use Rattle.meaning.specs.declared.answers.LaidWithEvents.{LaidWithEvents}
 use Rattle.promises.specs.SameLines.{SameLines, same_rows}
-use Rattle.promises.specs.Passed.{Lent, LentNumber}
+use Rattle.promises.specs.Passed.{Lent, LentNumber, LentMut}
 use Rattle.promises.specs.CallContracts.{Layout, LayoutWithEvents, CLayout, CLayoutEvents}
 
 -- Both settings are good, or refused alike.
@@ -51,12 +51,12 @@ module _ {s s' : Settings} (e : SameLines s s') (c : check_settings s ≡ check_
   unfolding drawing_events text_events
   drawing-events-same t b v = rw (drawing-check-same t b v, rows_same t)
 
-  pub layout_other_settings : (κs : Lfts 2) (text table : Lent) (z z' : Laid) (after after' : List ℕ) → Layout κs s text table z after
+  pub layout_other_settings : (κs : Lfts 2) (text : Lent) (table : LentMut) (z z' : Laid) (after after' : List ℕ) → Layout κs s text table z after
       → Layout κs s' text table z' after' → (z ≡ z') × (after ≡ after')
   layout_other_settings κs text table z z' after after' p q =
       (p.0 ∙ answer-same text.now table.now ∙ sym q.0, p.1 ∙ table_same text.now table.now ∙ sym q.1)
 
-  pub c-layout_other_settings : (κs : Lfts 3) (text table : Lent) (value : LentNumber) (z z' : ℕ) (after after' : List ℕ) (count count' : ℕ)
+  pub c-layout_other_settings : (κs : Lfts 3) (text : Lent) (table : LentMut) (value : LentNumber) (z z' : ℕ) (after after' : List ℕ) (count count' : ℕ)
       → CLayout κs s text table value z after count → CLayout κs s' text table value z' after' count'
       → (z ≡ z') × (count ≡ count') × (after ≡ after')
   unfolding settings_of
@@ -67,7 +67,7 @@ module _ {s s' : Settings} (e : SameLines s s') (c : check_settings s ≡ check_
         p.1.0 ∙ table_same text.now table.now ∙ sym q.1.0,
       )
 
-  pub layout_with_events_other_settings : (κs : Lfts 3) (text table events : Lent) (z z' : LaidWithEvents) (after after' drawn drawn' : List ℕ)
+  pub layout_with_events_other_settings : (κs : Lfts 3) (text : Lent) (table events : LentMut) (z z' : LaidWithEvents) (after after' drawn drawn' : List ℕ)
       → LayoutWithEvents κs s text table events z after drawn → LayoutWithEvents κs s' text table events z' after' drawn'
       → (z ≡ z') × (after ≡ after') × (drawn ≡ drawn')
   layout_with_events_other_settings κs text table events z z' after after' drawn drawn' p q =
@@ -79,7 +79,7 @@ module _ {s s' : Settings} (e : SameLines s s') (c : check_settings s ≡ check_
         p.1.1 ∙ drawing-events-same t b v ∙ sym q.1.1,
       )
 
-  pub c-layout-events_other_settings : (κs : Lfts 5) (text table events : Lent) (value count : LentNumber) (z z' : ℕ)
+  pub c-layout-events_other_settings : (κs : Lfts 5) (text : Lent) (table events : LentMut) (value count : LentNumber) (z z' : ℕ)
       (after after' drawn drawn' : List ℕ) (lines lines' count' count'' : ℕ)
       → CLayoutEvents κs s text table events value count z after drawn lines count'
       → CLayoutEvents κs s' text table events value count z' after' drawn' lines' count''

@@ -21,12 +21,12 @@ use Rattle.meaning.specs.declared.answers.PagedAgain.{PagedAgain}
 use Rattle.promises.specs.Demand3Calls.{EditOf}
 use Rattle.paging.specs.PagesKept.{pages-kept, pages_untouched}
 use Rattle.promises.specs.PagedAgain.{edit-pages}
-use Rattle.promises.specs.Passed.{Lent, LentNumber}
+use Rattle.promises.specs.Passed.{Lent, LentNumber, LentMut}
 use Rattle.promises.specs.CallContracts.{LayAgain, LayPages, ListAgain, CLayAgain, CPages, CPagesAgain}
 
 -- ---- what is not written
 
-module _ (table : Lent) (lines h first : ℕ) (pages : Lent) (listed : List ℕ) where
+module _ (table : Lent) (lines h first : ℕ) (pages : LentMut) (listed : List ℕ) where
   pub list_again-keeps : (κs : Lfts 2) (z : PagedAgain) → ListAgain κs table lines h first pages z listed
       → take (page_numbers * kept_pages h first lines) listed ≡ take (page_numbers * kept_pages h first lines) pages.now
   list_again-keeps κs z p =
@@ -49,10 +49,10 @@ module _ (table : Lent) (lines h first : ℕ) (pages : Lent) (listed : List ℕ)
 
 -- An edit, the table that laying again left, and a list that held the old pages by the same h; and the new text, lent whole with a table
 -- and a list that hold what these held.
-module _ (s : Settings) (ed : Edit) (old new : List ℕ) (part table : Lent) (lines h : ℕ) (some : 1 ≤ h)
+module _ (s : Settings) (ed : Edit) (old new : List ℕ) (part : Lent) (table : LentMut) (lines h : ℕ) (some : 1 ≤ h)
     (k : EditOf s ed old new table.now lines part.now) (after : List ℕ) (laid : Lent) (laid-is : laid.now ≡ after)
-    (text other : Lent) (text-is : text.now ≡ encode_all new) (other-is : other.now ≡ table.now)
-    (pages list : Lent) (same : list.now ≡ pages.now)
+    (text : Lent) (other : LentMut) (text-is : text.now ≡ encode_all new) (other-is : other.now ≡ table.now)
+    (pages list : LentMut) (same : list.now ≡ pages.now)
     (held : take (page_numbers * length (pages_of h (layout s old))) pages.now ≡ of_all of_page (pages_of h (layout s old)))
   where
     abbrev count : ℕ

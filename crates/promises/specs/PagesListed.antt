@@ -13,7 +13,7 @@ use Rattle.meaning.specs.declared.answers.Chosen.TheVariants as chosen
 use Rattle.meaning.specs.declared.answers.Paged.TheVariants as paged
 use Rattle.promises.specs.ChoosingCalls.{LongSaid, ShortSaid, long-said, short-said}
 use Rattle.promises.specs.PagingCalls.{PagingSaid, paging-said}
-use Rattle.promises.specs.Passed.{Lent, LentNumber}
+use Rattle.promises.specs.Passed.{Lent, LentNumber, LentMut}
 use Rattle.promises.specs.CallContracts.{Choose, LayPages, CChoose, CPages}
 use Rattle.promises.specs.PagesUnwritten.{paging-done, long-done, short-done}
 
@@ -44,7 +44,7 @@ module _ (s : Settings) (long short : Lent) (h : ℕ) where
 
 -- ---- pages
 
-module _ (s : Settings) (text : Lent) (h : ℕ) (table pages : Lent) (after listed : List ℕ) where
+module _ (s : Settings) (text : Lent) (h : ℕ) (table pages : LentMut) (after listed : List ℕ) where
   -- Of a table and a list that were lent: so many lines and n pages.
   pub record Lists (lines n : ℕ) : Type 0 where
     pub said : PagingSaid s h text.now table.now pages.now lines n

@@ -2,22 +2,29 @@
 -- behind of either.
 -- Assumes nothing.
 use Rattle.std.specs.Prelude.{ℕ, List, ℤ}
-use Rattle.std.specs.Borrow.{Bor}
+use Rattle.std.specs.Borrow.{Bor, MutBor}
 use Rattle.meaning.specs.declared.settings.Settings.{Settings}
 use Rattle.meaning.specs.declared.edit.Edit.{Edit}
 
--- A slice, one of signed numbers, and a number, that is lent.
+-- A slice and one of signed numbers, lent to be read, as `&`.
 abbrev pub Lent : Type 0
 Lent = Bor (List ℕ)
 
 abbrev pub LentYs : Type 0
 LentYs = Bor (List ℤ)
 
+-- The same, and a number, lent to be written, as `&mut`.
+abbrev pub LentMut : Type 0
+LentMut = MutBor (List ℕ)
+
+abbrev pub LentYsMut : Type 0
+LentYsMut = MutBor (List ℤ)
+
 abbrev pub LentNumber : Type 0
-LentNumber = Bor ℕ
+LentNumber = MutBor ℕ
 
 abbrev pub LentSigned : Type 0
-LentSigned = Bor ℤ
+LentSigned = MutBor ℤ
 
 -- Any thirteen numbers are those of some settings, and any three those of some edit.
 abbrev pub passed : {X : Type 0} → Settings → X

@@ -12,11 +12,11 @@ use Rattle.meaning.specs.declared.settings.Settings.{Settings}
 use Rattle.meaning.specs.declared.answers.Laid.TheVariants as laid
 use Rattle.laws.specs.RowInduction.{Each}
 use Rattle.promises.specs.TableSpaces.{EntrySaid, table-spaces}
-use Rattle.promises.specs.Passed.{Lent, LentNumber}
+use Rattle.promises.specs.Passed.{Lent, LentNumber, LentMut}
 use Rattle.promises.specs.CallContracts.{Layout, CLayout}
 use Rattle.promises.specs.TableHolds.{layout-table-holds, c-layout-table-holds}
 
-module _ (s : Settings) (text table : Lent) where
+module _ (s : Settings) (text : Lent) (table : LentMut) where
   entries_tell : Each (EntrySaid s) (text_entries s text.now)
   unfolding text_entries text_rows layout
   entries_tell = table-spaces s (decode_all text.now)

@@ -10,11 +10,11 @@ use Rattle.meaning.specs.Calls.{text_entries, layout_answer}
 use Rattle.meaning.specs.declared.settings.Settings.{Settings}
 use Rattle.meaning.specs.declared.answers.Laid.TheVariants as laid
 use Rattle.promises.specs.LayoutCalls.{layout-holds}
-use Rattle.promises.specs.Passed.{Lent, LentNumber}
+use Rattle.promises.specs.Passed.{Lent, LentNumber, LentMut}
 use Rattle.promises.specs.CallContracts.{Layout, CLayout}
 use Rattle.promises.specs.Unwritten.{layout-done}
 
-module _ (s : Settings) (text table : Lent) where
+module _ (s : Settings) (text : Lent) (table : LentMut) where
   pub layout-table-holds : (κs : Lfts 2) (n : ℕ) (after : List ℕ) → Layout κs s text table (laid.Lines n) after
       → entries_in n after ≡ text_entries s text.now
   layout-table-holds κs n after p = ap (entries_in n) p.1 ∙ layout-holds s text.now table.now n (sym p.0)

@@ -11,11 +11,11 @@ use Rattle.meaning.specs.Calls.{text_rows, text_entries}
 use Rattle.meaning.specs.declared.settings.Settings.{Settings}
 use Rattle.meaning.specs.declared.answers.Laid.TheVariants as laid
 use Rattle.laws.specs.NothingDropped.{Waits, DropNothing, layout-keeps}
-use Rattle.promises.specs.Passed.{Lent, LentNumber}
+use Rattle.promises.specs.Passed.{Lent, LentNumber, LentMut}
 use Rattle.promises.specs.CallContracts.{Layout, CLayout}
 use Rattle.promises.specs.TableHolds.{layout-table-holds, c-layout-table-holds}
 
-module _ (s : Settings) (w : Waits s) (text table : Lent) where
+module _ (s : Settings) (w : Waits s) (text : Lent) (table : LentMut) where
   entries_keep : DropNothing (text_entries s text.now)
   unfolding text_entries text_rows layout
   entries_keep = layout-keeps s w (decode_all text.now)
