@@ -8,10 +8,4 @@ use Rattle.bisquemop.proofs.bisquemop_index.Goals as goal
 pub returns : goal.returns
 returns c =
     let s = rw (to_z-of_z c.ranges.top) at c.settings_from-s.ensures in
-    let answer = c.make_index-answer.ensures.value ∙ ap (λ (s : Settings). index_answer s c.args.table.now c.args.lines c.args.index.now) s in (
-    c.index_number.ensures ∙ ap indexNumber answer,
-    (
-    c.make_index-answer.ensures.index_after ∙ ap (λ (s : Settings). index_after s c.args.table.now c.args.lines c.args.index.now) s,
-    c.index_value.ensures ∙ ap indexValue answer,
-    ),
-    )
+    let answer = c.make_index-answer.ensures.value ∙ ap (λ (s : Settings). index_answer s c.args.table.now c.args.lines c.args.index.now) s in record { value = c.index_number.ensures ∙ ap indexNumber answer; index_after = c.make_index-answer.ensures.index_after ∙ ap (λ (s : Settings). index_after s c.args.table.now c.args.lines c.args.index.now) s; value_after = c.index_value.ensures ∙ ap indexValue answer }

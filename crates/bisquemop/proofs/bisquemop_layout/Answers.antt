@@ -8,7 +8,4 @@ use Rattle.bisquemop.proofs.bisquemop_layout.Goals as goal
 pub returns : goal.returns
 returns c =
     let s = rw (to_z-of_z c.ranges.top) at c.settings_from-s.ensures in
-    let answer = c.layout-answer.ensures.value ∙ ap (λ (s : Settings). layout_answer s c.args.text.now c.args.table.now) s in (
-    c.layout_number.ensures ∙ ap layoutNumber answer,
-    (c.layout-answer.ensures.table_after ∙ ap (λ (s : Settings). layout_table s c.args.text.now c.args.table.now) s, c.layout_value.ensures ∙ ap layoutValue answer),
-    )
+    let answer = c.layout-answer.ensures.value ∙ ap (λ (s : Settings). layout_answer s c.args.text.now c.args.table.now) s in record { value = c.layout_number.ensures ∙ ap layoutNumber answer; table_after = c.layout-answer.ensures.table_after ∙ ap (λ (s : Settings). layout_table s c.args.text.now c.args.table.now) s; value_after = c.layout_value.ensures ∙ ap layoutValue answer }

@@ -5,7 +5,4 @@ use Rattle.bisquemop.proofs.bisquemop_pages_again.Goals as goal
 
 pub returns : goal.returns
 returns c =
-    (
-    c.paging_again_number.ensures ∙ ap pagingAgainNumber c.list_again-answer.ensures.value,
-    (c.list_again-answer.ensures.pages_after, c.paging_again_value.ensures ∙ ap pagingAgainValue c.list_again-answer.ensures.value),
-    )
+    record { value = c.paging_again_number.ensures ∙ ap pagingAgainNumber c.list_again-answer.ensures.value; pages_after = c.list_again-answer.ensures.pages_after; value_after = c.paging_again_value.ensures ∙ ap pagingAgainValue c.list_again-answer.ensures.value }

@@ -5,4 +5,4 @@ use Rattle.bisquemop.proofs.bisquemop_tokens.Goals as goal
 
 pub returns : goal.returns
 returns c =
-    (c.tokens_number.ensures ∙ ap tokensNumber c.tokenize-answer.ensures.value, (c.tokenize-answer.ensures.buffer_after, c.tokens_value.ensures ∙ ap tokensValue c.tokenize-answer.ensures.value))
+    record { value = c.tokens_number.ensures ∙ ap tokensNumber c.tokenize-answer.ensures.value; tokens_after = c.tokenize-answer.ensures.buffer_after; value_after = c.tokens_value.ensures ∙ ap tokensValue c.tokenize-answer.ensures.value }

@@ -24,7 +24,7 @@ at_front-front-requires c =
 
 pub find_stop-found-requires : goal.find_stop-found-requires
 find_stop-found-requires c =
-    find_ready _ _ _ _ _ (all-good _ _ _ _ _ c.requires.0) _ c.requires.1 _ c.read_entry-e.ensures _ ((let stands_here : StandsAt c.args.part.now text_front c.read_entry-e.result.0 (resumed_of c.read_entry-e.result (decode_all c.args.part.now)) c.at_front-front.result = record { at-is = c.at_front-front.ensures.at-is; before-is = c.at_front-front.ensures.before-is; rest-is = c.at_front-front.ensures.rest-is ∙ c.held_of.ensures; known = c.at_front-front.ensures.known } in stands_here))
+    find_ready _ _ _ _ _ (all-good _ _ _ _ _ c.requires.0) _ c.requires.1 _ c.read_entry-e.ensures _ ((let stands_here : StandsAt c.args.part.now text_front c.read_entry-e.result.before.0 (resumed_of c.read_entry-e.result (decode_all c.args.part.now)) c.at_front-front.result = record { at-is = c.at_front-front.ensures.at-is; before-is = c.at_front-front.ensures.before-is; rest-is = c.at_front-front.ensures.rest-is ∙ c.held_of.ensures; known = c.at_front-front.ensures.known } in stands_here))
 
 pub overflow_sub-left : goal.overflow_sub-left
 overflow_sub-left c =
@@ -32,7 +32,7 @@ overflow_sub-left c =
     good = c.requires.0;
     first = c.requires.1;
     entry = c.read_entry-e.ensures;
-    stand = (let stands_here : StandsAt c.args.part.now text_front c.read_entry-e.result.0 (resumed_of c.read_entry-e.result (decode_all c.args.part.now)) c.at_front-front.result = record { at-is = c.at_front-front.ensures.at-is; before-is = c.at_front-front.ensures.before-is; rest-is = c.at_front-front.ensures.rest-is ∙ c.held_of.ensures; known = c.at_front-front.ensures.known } in stands_here);
+    stand = (let stands_here : StandsAt c.args.part.now text_front c.read_entry-e.result.before.0 (resumed_of c.read_entry-e.result (decode_all c.args.part.now)) c.at_front-front.result = record { at-is = c.at_front-front.ensures.at-is; before-is = c.at_front-front.ensures.before-is; rest-is = c.at_front-front.ensures.rest-is ∙ c.held_of.ensures; known = c.at_front-front.ensures.known } in stands_here);
     finds = c.find_stop-found.ensures.value;
     few = c.find_stop-found.ensures.before_bound;
     } in sought_here)))
@@ -43,7 +43,7 @@ overflow_add-to c =
     good = c.requires.0;
     first = c.requires.1;
     entry = c.read_entry-e.ensures;
-    stand = (let stands_here : StandsAt c.args.part.now text_front c.read_entry-e.result.0 (resumed_of c.read_entry-e.result (decode_all c.args.part.now)) c.at_front-front.result = record { at-is = c.at_front-front.ensures.at-is; before-is = c.at_front-front.ensures.before-is; rest-is = c.at_front-front.ensures.rest-is ∙ c.held_of.ensures; known = c.at_front-front.ensures.known } in stands_here);
+    stand = (let stands_here : StandsAt c.args.part.now text_front c.read_entry-e.result.before.0 (resumed_of c.read_entry-e.result (decode_all c.args.part.now)) c.at_front-front.result = record { at-is = c.at_front-front.ensures.at-is; before-is = c.at_front-front.ensures.before-is; rest-is = c.at_front-front.ensures.rest-is ∙ c.held_of.ensures; known = c.at_front-front.ensures.known } in stands_here);
     finds = c.find_stop-found.ensures.value;
     few = c.find_stop-found.ensures.before_bound;
     } in sought_here)))
@@ -54,7 +54,7 @@ overflow_add-after c =
     good = c.requires.0;
     first = c.requires.1;
     entry = c.read_entry-e.ensures;
-    stand = (let stands_here : StandsAt c.args.part.now text_front c.read_entry-e.result.0 (resumed_of c.read_entry-e.result (decode_all c.args.part.now)) c.at_front-front.result = record { at-is = c.at_front-front.ensures.at-is; before-is = c.at_front-front.ensures.before-is; rest-is = c.at_front-front.ensures.rest-is ∙ c.held_of.ensures; known = c.at_front-front.ensures.known } in stands_here);
+    stand = (let stands_here : StandsAt c.args.part.now text_front c.read_entry-e.result.before.0 (resumed_of c.read_entry-e.result (decode_all c.args.part.now)) c.at_front-front.result = record { at-is = c.at_front-front.ensures.at-is; before-is = c.at_front-front.ensures.before-is; rest-is = c.at_front-front.ensures.rest-is ∙ c.held_of.ensures; known = c.at_front-front.ensures.known } in stands_here);
     finds = c.find_stop-found.ensures.value;
     few = c.find_stop-found.ensures.before_bound;
     } in sought_here)))
@@ -65,14 +65,14 @@ returns-then-table-after c =
     good = c.requires.0;
     first = c.requires.1;
     entry = c.read_entry-e.ensures;
-    stand = (let stands_here : StandsAt c.args.part.now text_front c.read_entry-e.result.0 (resumed_of c.read_entry-e.result (decode_all c.args.part.now)) c.at_front-front.result = record { at-is = c.at_front-front.ensures.at-is; before-is = c.at_front-front.ensures.before-is; rest-is = c.at_front-front.ensures.rest-is ∙ c.held_of.ensures; known = c.at_front-front.ensures.known } in stands_here);
+    stand = (let stands_here : StandsAt c.args.part.now text_front c.read_entry-e.result.before.0 (resumed_of c.read_entry-e.result (decode_all c.args.part.now)) c.at_front-front.result = record { at-is = c.at_front-front.ensures.at-is; before-is = c.at_front-front.ensures.before-is; rest-is = c.at_front-front.ensures.rest-is ∙ c.held_of.ensures; known = c.at_front-front.ensures.known } in stands_here);
     finds = c.find_stop-found.ensures.value;
     few = c.find_stop-found.ensures.before_bound;
     } in sought_here)) c.if-table-after.true).0; table_after = (no_room _ _ _ _ _ _ _ _ _ ((let sought_here : Sought c.args.s c.args.part.now c.args.table.now c.args.lines c.args.edit c.args.k c.read_entry-e.result c.at_front-front.result c.find_stop-found.result = record {
     good = c.requires.0;
     first = c.requires.1;
     entry = c.read_entry-e.ensures;
-    stand = (let stands_here : StandsAt c.args.part.now text_front c.read_entry-e.result.0 (resumed_of c.read_entry-e.result (decode_all c.args.part.now)) c.at_front-front.result = record { at-is = c.at_front-front.ensures.at-is; before-is = c.at_front-front.ensures.before-is; rest-is = c.at_front-front.ensures.rest-is ∙ c.held_of.ensures; known = c.at_front-front.ensures.known } in stands_here);
+    stand = (let stands_here : StandsAt c.args.part.now text_front c.read_entry-e.result.before.0 (resumed_of c.read_entry-e.result (decode_all c.args.part.now)) c.at_front-front.result = record { at-is = c.at_front-front.ensures.at-is; before-is = c.at_front-front.ensures.before-is; rest-is = c.at_front-front.ensures.rest-is ∙ c.held_of.ensures; known = c.at_front-front.ensures.known } in stands_here);
     finds = c.find_stop-found.ensures.value;
     few = c.find_stop-found.ensures.before_bound;
     } in sought_here)) c.if-table-after.true).1 }
@@ -87,7 +87,7 @@ move_lines-requires c =
     good = c.requires.0;
     first = c.requires.1;
     entry = c.read_entry-e.ensures;
-    stand = (let stands_here : StandsAt c.args.part.now text_front c.read_entry-e.result.0 (resumed_of c.read_entry-e.result (decode_all c.args.part.now)) c.at_front-front.result = record { at-is = c.at_front-front.ensures.at-is; before-is = c.at_front-front.ensures.before-is; rest-is = c.at_front-front.ensures.rest-is ∙ c.held_of.ensures; known = c.at_front-front.ensures.known } in stands_here);
+    stand = (let stands_here : StandsAt c.args.part.now text_front c.read_entry-e.result.before.0 (resumed_of c.read_entry-e.result (decode_all c.args.part.now)) c.at_front-front.result = record { at-is = c.at_front-front.ensures.at-is; before-is = c.at_front-front.ensures.before-is; rest-is = c.at_front-front.ensures.rest-is ∙ c.held_of.ensures; known = c.at_front-front.ensures.known } in stands_here);
     finds = c.find_stop-found.ensures.value;
     few = c.find_stop-found.ensures.before_bound;
     } in sought_here)) c.if-table-after.false _ c.count_before-from.ensures
@@ -98,7 +98,7 @@ write_again-requires c =
     good = c.requires.0;
     first = c.requires.1;
     entry = c.read_entry-e.ensures;
-    stand = (let stands_here : StandsAt c.args.part.now text_front c.read_entry-e.result.0 (resumed_of c.read_entry-e.result (decode_all c.args.part.now)) c.at_front-front.result = record { at-is = c.at_front-front.ensures.at-is; before-is = c.at_front-front.ensures.before-is; rest-is = c.at_front-front.ensures.rest-is ∙ c.held_of.ensures; known = c.at_front-front.ensures.known } in stands_here);
+    stand = (let stands_here : StandsAt c.args.part.now text_front c.read_entry-e.result.before.0 (resumed_of c.read_entry-e.result (decode_all c.args.part.now)) c.at_front-front.result = record { at-is = c.at_front-front.ensures.at-is; before-is = c.at_front-front.ensures.before-is; rest-is = c.at_front-front.ensures.rest-is ∙ c.held_of.ensures; known = c.at_front-front.ensures.known } in stands_here);
     finds = c.find_stop-found.ensures.value;
     few = c.find_stop-found.ensures.before_bound;
     } in sought_here)) c.if-table-after.false _ c.count_before-from.ensures _ c.move_lines.ensures
@@ -110,7 +110,7 @@ returns c =
     good = c.requires.0;
     first = c.requires.1;
     entry = c.read_entry-e.ensures;
-    stand = (let stands_here : StandsAt c.args.part.now text_front c.read_entry-e.result.0 (resumed_of c.read_entry-e.result (decode_all c.args.part.now)) c.at_front-front.result = record { at-is = c.at_front-front.ensures.at-is; before-is = c.at_front-front.ensures.before-is; rest-is = c.at_front-front.ensures.rest-is ∙ c.held_of.ensures; known = c.at_front-front.ensures.known } in stands_here);
+    stand = (let stands_here : StandsAt c.args.part.now text_front c.read_entry-e.result.before.0 (resumed_of c.read_entry-e.result (decode_all c.args.part.now)) c.at_front-front.result = record { at-is = c.at_front-front.ensures.at-is; before-is = c.at_front-front.ensures.before-is; rest-is = c.at_front-front.ensures.rest-is ∙ c.held_of.ensures; known = c.at_front-front.ensures.known } in stands_here);
     finds = c.find_stop-found.ensures.value;
     few = c.find_stop-found.ensures.before_bound;
     } in sought_here)) c.if-table-after.false _ c.count_before-from.ensures _ c.move_lines.ensures
@@ -118,7 +118,7 @@ returns c =
     good = c.requires.0;
     first = c.requires.1;
     entry = c.read_entry-e.ensures;
-    stand = (let stands_here : StandsAt c.args.part.now text_front c.read_entry-e.result.0 (resumed_of c.read_entry-e.result (decode_all c.args.part.now)) c.at_front-front.result = record { at-is = c.at_front-front.ensures.at-is; before-is = c.at_front-front.ensures.before-is; rest-is = c.at_front-front.ensures.rest-is ∙ c.held_of.ensures; known = c.at_front-front.ensures.known } in stands_here);
+    stand = (let stands_here : StandsAt c.args.part.now text_front c.read_entry-e.result.before.0 (resumed_of c.read_entry-e.result (decode_all c.args.part.now)) c.at_front-front.result = record { at-is = c.at_front-front.ensures.at-is; before-is = c.at_front-front.ensures.before-is; rest-is = c.at_front-front.ensures.rest-is ∙ c.held_of.ensures; known = c.at_front-front.ensures.known } in stands_here);
     finds = c.find_stop-found.ensures.value;
     few = c.find_stop-found.ensures.before_bound;
     } in sought_here)) c.if-table-after.false _ c.count_before-from.ensures _ c.move_lines.ensures

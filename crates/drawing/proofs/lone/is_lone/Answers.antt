@@ -54,7 +54,7 @@ pub returns : goal.returns
 unfolding word_of
 returns c =
     let from = c.args.at + 2 in
-    let letter : Letter c.args.text.now from c.first_len.result = c.first_len.ensures (omega (arith, c.if-first_len-eq0.false)) in
+    let letter : Letter c.args.text.now from n = c.first_len.ensures (omega (arith, c.if-first_len-eq0.false)) in
     λ _.
     record {
     none = c.if-rest-ne0.false;

@@ -28,7 +28,7 @@ draw_part-k-requires c =
     (
     placed-room _ _ _ _ _ c.loop-left.invariant.0.ready c.requires.stand_ready.2 c.requires.stand_ready.1 _ _ _ _ c.cut_row-next.ensures.found_row _ c.plain_entry-entry.ensures _
     (few-before _ _ _ _ _ _ _ _ c.loop-left.invariant.1 c.requires.room_from.1),
-    cut-to-draw c.args.s c.args.text.now c.loop-left.at _ c.args.most _ _ _ _ _ c.loop-left.invariant.2 c.requires.room_from.0.1.some c.loop-left-test.true c.cut_row-next.ensures.left_word_2.1
+    cut-to-draw c.args.s c.args.text.now c.loop-left.at _ c.args.most _ _ _ _ _ c.loop-left.invariant.2 c.requires.room_from.0.1.some c.loop-left-test.true c.cut_row-next.ensures.between
     c.cut_row-next.ensures.found_row.inside c.loop-left.invariant.0.ready.line.settings.0 c.requires.stand_ready.2
     (left-fits _ _ _ _ _ c.loop-left.invariant.0.ready c.requires.stand_ready.2 c.requires.stand_ready.1 _ _ _ _ c.cut_row-next.ensures.found_row _ c.plain_entry-entry.ensures),
     )
@@ -60,7 +60,7 @@ loop-left-preserved c =
     c.write_entry.ensures c.write_entry.auto.table refl,
     placed-drew _ _ _ _ _ c.loop-left.invariant.0.ready c.requires.stand_ready.2 c.requires.stand_ready.1 _ _ _ _ c.cut_row-next.ensures.found_row _ c.plain_entry-entry.ensures _ _ _ _ _ c.loop-left.invariant.1 _ _ c.draw_part-k.ensures.events_after
     c.draw_part-k.ensures.value c.draw_part-k.auto.events,
-    c.cut_row-next.ensures.left_word_2.0,
+    c.cut_row-next.ensures.left_word_2,
     λ _. omega (arith, c.loop-left.invariant.0.forward, c.cut_row-next.ensures.found_row.forward),
     )
 
@@ -74,4 +74,4 @@ shape_of-events c =
 
 pub returns : goal.returns
 returns c =
-    (c.loop-left.invariant.0, (c.loop-left.invariant.1, c.loop-left.invariant.3 (omega (arith, c.loop-left-test.false, c.requires.room_from.0.1.long))))
+    record { went = c.loop-left.invariant.0; drew_to = c.loop-left.invariant.1; start_lt_at = c.loop-left.invariant.3 (omega (arith, c.loop-left-test.false, c.requires.room_from.0.1.long)) }

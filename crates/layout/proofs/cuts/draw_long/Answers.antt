@@ -14,7 +14,7 @@ returns-then-word-eq0 c =
 
 pub draw_cuts-requires : goal.draw_cuts-requires
 draw_cuts-requires c =
-    (c.requires.stand_ready, ((c.requires.room_from.0, c.long_word-word.ensures (omega (arith, c.if-word-eq0.false))), c.requires.room_from.1))
+    record { stand_ready = c.requires.stand_ready; room_from = (c.requires.room_from.0, c.long_word-word.ensures (omega (arith, c.if-word-eq0.false))); few_from = c.requires.room_from.1 }
 
 pub shape_of-table : goal.shape_of-table
 shape_of-table c =
@@ -22,8 +22,8 @@ shape_of-table c =
 
 pub shape_of-events : goal.shape_of-events
 shape_of-events c =
-    c.draw_cuts.ensures.drew_to.0.same
+    c.draw_cuts.ensures.drew_to.same
 
 pub returns : goal.returns
 returns c =
-    record { went = c.draw_cuts.ensures.went; drew_to = c.draw_cuts.ensures.drew_to.0 }
+    record { went = c.draw_cuts.ensures.went; drew_to = c.draw_cuts.ensures.drew_to }

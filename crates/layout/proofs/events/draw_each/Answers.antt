@@ -39,8 +39,7 @@ shape_of-events-then-row c =
 pub returns-then-row : goal.returns-then-row
 returns-then-row c =
     let drew = draw-last _ _ _ _ _ _ c.loop-s.invariant.1 _ c.lay_row-row.ensures _ _ c.draw_line-drawn.ensures.events_after c.draw_line-drawn.ensures.value c.draw_line-drawn.auto.events c.if-row.true in
-    let wrote = write_last _ _ _ _ _ _ c.loop-s.invariant.0 c.requires.text_in_bounds _ c.lay_row-row.ensures _ c.write_entry.ensures c.write_entry.auto.table c.if-row.true in
-    (count-last _ _ _ _ c.loop-s.invariant.0.counted _ c.lay_row-row.ensures c.if-row.true, (drew.0, (wrote, drew.1)))
+    let wrote = write_last _ _ _ _ _ _ c.loop-s.invariant.0 c.requires.text_in_bounds _ c.lay_row-row.ensures _ c.write_entry.ensures c.write_entry.auto.table c.if-row.true in record { lines_value = count-last _ _ _ _ c.loop-s.invariant.0.counted _ c.lay_row-row.ensures c.if-row.true; events_value = drew.0; table_after = wrote; events_after = drew.1 }
 
 pub next_stand-stand-requires : goal.next_stand-stand-requires
 next_stand-stand-requires c =

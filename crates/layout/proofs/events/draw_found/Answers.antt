@@ -32,8 +32,7 @@ shape_of-events-then-far c =
 pub returns-then-far : goal.returns-then-far
 returns-then-far c =
     let a = wrote_all _ _ _ _ _ _ _ _ c.loop-stand.invariant.0 (c.draw_on-far.ensures.reaches.all c.if-far.true) in
-    let b = drew-all _ _ _ _ _ _ _ _ c.loop-stand.invariant.1 (c.draw_on-far.ensures.draw_reaches.all c.if-far.true) in
-    (a.0, (b.0, (a.1, b.1)))
+    let b = drew-all _ _ _ _ _ _ _ _ c.loop-stand.invariant.1 (c.draw_on-far.ensures.draw_reaches.all c.if-far.true) in record { lines_value = a.0; events_value = b.0; table_after = a.1; events_after = b.1 }
 
 pub lay_row-row-requires : goal.lay_row-row-requires
 lay_row-row-requires c =
@@ -82,9 +81,8 @@ returns-then-row c =
     (drew-on _ _ _ _ _ _ _ _ _ (w.3.ensures.0.on w.8.left).ready c.loop-stand.invariant.1 (w.3.ensures.1.on w.8.left)))
     (λ w. drew-same _ _ _ _ _ _ _ _ _ w.2 w.4 w.5 c.loop-stand.invariant.1) c.if-stand-eq0.branch in drew_here)) _ c.lay_row-row.ensures _ _ c.draw_line-drawn.ensures.events_after c.draw_line-drawn.ensures.value c.draw_line-drawn.auto.events c.if-row.true in
     let last_written = write_last _ _ _ _ _ _ ((let wrote_here : Wrote c.args.s c.args.text.now c.args.table.now c.if-stand-eq0.table c.if-stand-eq0.lines c.if-stand-eq0.stand = ⊎_elim (λ w. wrote_same _ _ _ _ _ _ _ _ _ w.10 w.12 w.14 (wrote_on _ _ _ _ _ _ _ _ _ c.loop-stand.invariant.0 (w.3.ensures.0.on w.8.left)))
-    (λ w. wrote_same _ _ _ _ _ _ _ _ _ w.1 w.3 w.5 c.loop-stand.invariant.0) c.if-stand-eq0.branch in wrote_here)) c.requires.text_in_bounds _ c.lay_row-row.ensures _ c.write_entry.ensures c.write_entry.auto.table c.if-row.true in
-    (count-last _ _ _ _ ((let wrote_here : Wrote c.args.s c.args.text.now c.args.table.now c.if-stand-eq0.table c.if-stand-eq0.lines c.if-stand-eq0.stand = ⊎_elim (λ w. wrote_same _ _ _ _ _ _ _ _ _ w.10 w.12 w.14 (wrote_on _ _ _ _ _ _ _ _ _ c.loop-stand.invariant.0 (w.3.ensures.0.on w.8.left)))
-    (λ w. wrote_same _ _ _ _ _ _ _ _ _ w.1 w.3 w.5 c.loop-stand.invariant.0) c.if-stand-eq0.branch in wrote_here)).counted _ c.lay_row-row.ensures c.if-row.true, (last-drawn.0, (last_written, last-drawn.1)))
+    (λ w. wrote_same _ _ _ _ _ _ _ _ _ w.1 w.3 w.5 c.loop-stand.invariant.0) c.if-stand-eq0.branch in wrote_here)) c.requires.text_in_bounds _ c.lay_row-row.ensures _ c.write_entry.ensures c.write_entry.auto.table c.if-row.true in record { lines_value = count-last _ _ _ _ ((let wrote_here : Wrote c.args.s c.args.text.now c.args.table.now c.if-stand-eq0.table c.if-stand-eq0.lines c.if-stand-eq0.stand = ⊎_elim (λ w. wrote_same _ _ _ _ _ _ _ _ _ w.10 w.12 w.14 (wrote_on _ _ _ _ _ _ _ _ _ c.loop-stand.invariant.0 (w.3.ensures.0.on w.8.left)))
+    (λ w. wrote_same _ _ _ _ _ _ _ _ _ w.1 w.3 w.5 c.loop-stand.invariant.0) c.if-stand-eq0.branch in wrote_here)).counted _ c.lay_row-row.ensures c.if-row.true; events_value = last-drawn.0; table_after = last_written; events_after = last-drawn.1 }
 
 pub next_stand-stand-requires : goal.next_stand-stand-requires
 next_stand-stand-requires c =

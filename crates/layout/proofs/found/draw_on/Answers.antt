@@ -5,13 +5,7 @@ use Rattle.layout.proofs.found.draw_on.Goals as goal
 
 pub draw_told_lines-requires : goal.draw_told_lines-requires
 draw_told_lines-requires c =
-    (
-    (ready-here c.args.s c.args.text.now c.args.stand c.requires.stand_ready.0 c.requires.chars_value, c.requires.stand_ready.3),
-    (
-    room-here c.args.s c.args.text.now c.args.stand c.requires.stand_ready.0 c.requires.chars_value c.args.table.now c.args.lines c.requires.stand_ready.1,
-    few-here c.args.s c.args.text.now c.args.stand c.requires.stand_ready.0 c.requires.chars_value c.args.drawn c.requires.stand_ready.2,
-    ),
-    )
+    record { stand_ready = (ready-here c.args.s c.args.text.now c.args.stand c.requires.stand_ready.0 c.requires.chars_value, c.requires.stand_ready.3); room_from = room-here c.args.s c.args.text.now c.args.stand c.requires.stand_ready.0 c.requires.chars_value c.args.table.now c.args.lines c.requires.stand_ready.1; few_from = few-here c.args.s c.args.text.now c.args.stand c.requires.stand_ready.0 c.requires.chars_value c.args.drawn c.requires.stand_ready.2 }
 
 pub shape_of-table : goal.shape_of-table
 shape_of-table c =

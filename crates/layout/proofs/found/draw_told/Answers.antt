@@ -20,7 +20,7 @@ write_entry-requires c =
 pub draw_line-requires : goal.draw_line-requires
 draw_line-requires c =
     subst (λ (q : Stand). DrawReady c.args.s c.args.text.now q c.ended_entry-entry.result c.args.k) (sym c.plain_stand-stand.ensures)
-    (found-ready c.args.s c.args.text.now c.args.at c.args (c.args.s.width.0 / c.args.s.glyph.0) c.requires.stand_ready.0 refl c.requires.stand_ready.1 _ _ _ _ _ c.requires.stand_ready.2
+    (found-ready c.args.s c.args.text.now c.args.at c.args.before (c.args.s.width.0 / c.args.s.glyph.0) c.requires.stand_ready.0 refl c.requires.stand_ready.1 _ _ _ _ _ c.requires.stand_ready.2
     c.ended_entry-entry.result c.ended_entry-entry.ensures c.args.k c.requires.entry_numbers_in_bounds.1)
 
 pub shape_of-table : goal.shape_of-table
@@ -33,10 +33,4 @@ shape_of-events c =
 
 pub returns : goal.returns
 returns c =
-    (
-    c.write_entry.ensures ∙ ap (λ (x : Entry). put_numbers c.args.table.now (entry_numbers * c.args.n) (of_entry x)) c.ended_entry-entry.ensures,
-    (
-    c.draw_line.ensures.events_after ∙ (λ i. put_events c.args.events.now c.args.k (line_events c.args.s c.args.text.now (c.plain_stand-stand.ensures i) (c.ended_entry-entry.ensures i))),
-    c.draw_line.ensures.value ∙ (λ i. c.args.k + length (line_events c.args.s c.args.text.now (c.plain_stand-stand.ensures i) (c.ended_entry-entry.ensures i))),
-    ),
-    )
+    record { table_after = c.write_entry.ensures ∙ ap (λ (x : Entry). put_numbers c.args.table.now (entry_numbers * c.args.n) (of_entry x)) c.ended_entry-entry.ensures; events_after = c.draw_line.ensures.events_after ∙ (λ i. put_events c.args.events.now c.args.k (line_events c.args.s c.args.text.now (c.plain_stand-stand.ensures i) (c.ended_entry-entry.ensures i))); value = c.draw_line.ensures.value ∙ (λ i. c.args.k + length (line_events c.args.s c.args.text.now (c.plain_stand-stand.ensures i) (c.ended_entry-entry.ensures i))) }

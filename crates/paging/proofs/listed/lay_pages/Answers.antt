@@ -9,7 +9,7 @@ use Rattle.paging.proofs.listed.lay_pages.Goals as goal
 
 pub returns-in-Refused : goal.returns-in-Refused
 returns-in-Refused c =
-    record { value = (paging-refused _ _ _ _ _ _ (sym c.check_paging-checked.ensures ∙ c.in-Refused.is)).0; table_after = (paging-refused _ _ _ _ _ _ (sym c.check_paging-checked.ensures ∙ c.in-Refused.is)).1; pages_after = (paging-refused _ _ _ _ _ _ (sym c.check_paging-checked.ensures ∙ c.in-Refused.is)).2 }
+    record { value = (paging-refused _ _ _ _ _ _ (sym c.check_paging-checked.ensures ∙ c.in-Refused.is)).0; table_after = (paging-refused _ _ _ _ _ _ (sym c.check_paging-checked.ensures ∙ c.in-Refused.is)).1.0; pages_after = (paging-refused _ _ _ _ _ _ (sym c.check_paging-checked.ensures ∙ c.in-Refused.is)).1.1 }
 
 pub write_lines-lines-requires : goal.write_lines-lines-requires
 write_lines-lines-requires c =
@@ -31,5 +31,5 @@ pub returns : goal.returns
 returns c =
     record { value = (paging-done _ _ _ _ _ ((let tested_here : check_paging c.args.s c.args.h c.args.text.now c.args.table.now c.args.pages.now ≡ Good = sym c.check_paging-checked.ensures ∙ c.in_default.is in tested_here)) _ c.write_lines-lines.ensures.value _ c.write_lines-lines.ensures.table_after c.write_lines-lines.auto.table _
     c.page_count-count.ensures _ c.write_pages.ensures).0; table_after = (paging-done _ _ _ _ _ ((let tested_here : check_paging c.args.s c.args.h c.args.text.now c.args.table.now c.args.pages.now ≡ Good = sym c.check_paging-checked.ensures ∙ c.in_default.is in tested_here)) _ c.write_lines-lines.ensures.value _ c.write_lines-lines.ensures.table_after c.write_lines-lines.auto.table _
-    c.page_count-count.ensures _ c.write_pages.ensures).1; pages_after = (paging-done _ _ _ _ _ ((let tested_here : check_paging c.args.s c.args.h c.args.text.now c.args.table.now c.args.pages.now ≡ Good = sym c.check_paging-checked.ensures ∙ c.in_default.is in tested_here)) _ c.write_lines-lines.ensures.value _ c.write_lines-lines.ensures.table_after c.write_lines-lines.auto.table _
-    c.page_count-count.ensures _ c.write_pages.ensures).2 }
+    c.page_count-count.ensures _ c.write_pages.ensures).1.0; pages_after = (paging-done _ _ _ _ _ ((let tested_here : check_paging c.args.s c.args.h c.args.text.now c.args.table.now c.args.pages.now ≡ Good = sym c.check_paging-checked.ensures ∙ c.in_default.is in tested_here)) _ c.write_lines-lines.ensures.value _ c.write_lines-lines.ensures.table_after c.write_lines-lines.auto.table _
+    c.page_count-count.ensures _ c.write_pages.ensures).1.1 }

@@ -44,7 +44,7 @@ pub loop-left-preserved : goal.loop-left-preserved
 loop-left-preserved c = (
   found-went _ _ _ _ _ _ _ _ _ c.loop-left.invariant.0 c.requires.room_from.0 _ c.requires.stand_ready.2 c.requires.stand_ready.1 LineBreak _ _ _ _ c.cut_row-next.ensures.found_row _ c.plain_entry-entry.ensures _
       c.write_entry.ensures c.write_entry.auto.table refl,
-  c.cut_row-next.ensures.left_word_2.0,
+  c.cut_row-next.ensures.left_word_2,
   λ _. omega (arith, c.loop-left.invariant.0.forward, c.cut_row-next.ensures.found_row.forward),
 )
 

@@ -6,18 +6,18 @@ use Rattle.rows.proofs.found.write_known.Goals as goal
 
 pub long_known-word-requires : goal.long_known-word-requires
 long_known-word-requires c =
-    c.requires.0.0.known
+    c.requires.stand_ready.0.known
 
 pub returns-then-word-eq0 : goal.returns-then-word-eq0
 returns-then-word-eq0 c =
-    reaches_on _ _ _ _ _ _ _ _ (went_nowhere _ _ _ _ _ c.requires.0.0)
+    reaches_on _ _ _ _ _ _ _ _ (went_nowhere _ _ _ _ _ c.requires.stand_ready.0)
 
 pub write_cuts-far-requires : goal.write_cuts-far-requires
 write_cuts-far-requires c =
     record {
-      stand_ready = (ready-here c.args.s c.args.text.now c.args.stand c.requires.0.0 c.requires.1, c.requires.0.2, refl);
+      stand_ready = (ready-here c.args.s c.args.text.now c.args.stand c.requires.stand_ready.0 c.requires.chars_value, c.requires.stand_ready.2, refl);
       room_from = (
-        room-here c.args.s c.args.text.now c.args.stand c.requires.0.0 c.requires.1 c.args.table.now c.args.lines c.requires.0.1,
+        room-here c.args.s c.args.text.now c.args.stand c.requires.stand_ready.0 c.requires.chars_value c.args.table.now c.args.lines c.requires.stand_ready.1,
         c.long_known-word.ensures (omega (arith, c.if-word-eq0.false)),
       );
     }
@@ -28,4 +28,4 @@ shape_of-table c =
 
 pub returns : goal.returns
 returns c =
-    rw c.reached_at.ensures (reaches_here _ _ _ c.requires.0.0 c.requires.1 _ _ _ _ _ _ (reaches_on _ _ _ _ _ _ _ _ c.write_cuts-far.ensures.went))
+    rw c.reached_at.ensures (reaches_here _ _ _ c.requires.stand_ready.0 c.requires.chars_value _ _ _ _ _ _ (reaches_on _ _ _ _ _ _ _ _ c.write_cuts-far.ensures.went))

@@ -14,7 +14,7 @@ write_plain-far-requires c =
 
 pub write_long-cut-requires : goal.write_long-cut-requires
 write_long-cut-requires c =
-    record { stand_ready = (((let passed_here : Went c.args.s c.args.text.now c.args.table.now c.args.lines (plain_stand c.args.start.0 c.args.chars.0) c.write_plain-far.last.1.1.0 c.write_plain-far.result.lines (plain_stand c.write_plain-far.result.at.0 c.write_plain-far.result.0) = went_then _ _ _ _ _ _ _ _ c.loop-at.invariant _ _ _ c.write_plain-far.ensures in passed_here)).ready, c.requires.stand_ready.1, refl); room_from = room-on _ _ _ _ _ _ _ _ ((let passed_here : Went c.args.s c.args.text.now c.args.table.now c.args.lines (plain_stand c.args.start.0 c.args.chars.0) c.write_plain-far.last.1.1.0 c.write_plain-far.result.lines (plain_stand c.write_plain-far.result.at.0 c.write_plain-far.result.0) = went_then _ _ _ _ _ _ _ _ c.loop-at.invariant _ _ _ c.write_plain-far.ensures in passed_here)) c.requires.room_from }
+    record { stand_ready = (((let passed_here : Went c.args.s c.args.text.now c.args.table.now c.args.lines (plain_stand c.args.start.0 c.args.chars.0) c.write_plain-far.new.table c.write_plain-far.result.lines (plain_stand c.write_plain-far.result.at.0 c.write_plain-far.result.before.0) = went_then _ _ _ _ _ _ _ _ c.loop-at.invariant _ _ _ c.write_plain-far.ensures in passed_here)).ready, c.requires.stand_ready.1, refl); room_from = room-on _ _ _ _ _ _ _ _ ((let passed_here : Went c.args.s c.args.text.now c.args.table.now c.args.lines (plain_stand c.args.start.0 c.args.chars.0) c.write_plain-far.new.table c.write_plain-far.result.lines (plain_stand c.write_plain-far.result.at.0 c.write_plain-far.result.before.0) = went_then _ _ _ _ _ _ _ _ c.loop-at.invariant _ _ _ c.write_plain-far.ensures in passed_here)) c.requires.room_from }
 
 pub loop-at-smaller-then-far-at : goal.loop-at-smaller-then-far-at
 loop-at-smaller-then-far-at c =
@@ -22,52 +22,52 @@ loop-at-smaller-then-far-at c =
 
 pub loop-at-preserved-then-far-at : goal.loop-at-preserved-then-far-at
 loop-at-preserved-then-far-at c =
-    (let went_here : Went c.args.s c.args.text.now c.args.table.now c.args.lines (plain_stand c.args.start.0 c.args.chars.0) c.write_long-cut.last.1.1.0 c.write_long-cut.result.lines (plain_stand c.write_long-cut.result.at c.write_long-cut.result) = went_then _ _ _ _ _ _ _ _ ((let passed_here : Went c.args.s c.args.text.now c.args.table.now c.args.lines (plain_stand c.args.start.0 c.args.chars.0) c.write_plain-far.last.1.1.0 c.write_plain-far.result.lines (plain_stand c.write_plain-far.result.at.0 c.write_plain-far.result.0) = went_then _ _ _ _ _ _ _ _ c.loop-at.invariant _ _ _ c.write_plain-far.ensures in passed_here)) _ _ _ c.write_long-cut.ensures in went_here)
+    (let went_here : Went c.args.s c.args.text.now c.args.table.now c.args.lines (plain_stand c.args.start.0 c.args.chars.0) c.write_long-cut.new.table c.write_long-cut.result.lines (plain_stand c.write_long-cut.result.at c.write_long-cut.result.before) = went_then _ _ _ _ _ _ _ _ ((let passed_here : Went c.args.s c.args.text.now c.args.table.now c.args.lines (plain_stand c.args.start.0 c.args.chars.0) c.write_plain-far.new.table c.write_plain-far.result.lines (plain_stand c.write_plain-far.result.at.0 c.write_plain-far.result.before.0) = went_then _ _ _ _ _ _ _ _ c.loop-at.invariant _ _ _ c.write_plain-far.ensures in passed_here)) _ _ _ c.write_long-cut.ensures in went_here)
 
 pub told_row-row-requires : goal.told_row-row-requires
 told_row-row-requires c =
-    let r = ((let went_here : Went c.args.s c.args.text.now c.args.table.now c.args.lines (plain_stand c.args.start.0 c.args.chars.0) c.write_long-cut.last.1.1.0 c.write_long-cut.result.lines (plain_stand c.write_long-cut.result.at c.write_long-cut.result) = went_then _ _ _ _ _ _ _ _ ((let passed_here : Went c.args.s c.args.text.now c.args.table.now c.args.lines (plain_stand c.args.start.0 c.args.chars.0) c.write_plain-far.last.1.1.0 c.write_plain-far.result.lines (plain_stand c.write_plain-far.result.at.0 c.write_plain-far.result.0) = went_then _ _ _ _ _ _ _ _ c.loop-at.invariant _ _ _ c.write_plain-far.ensures in passed_here)) _ _ _ c.write_long-cut.ensures in went_here)).ready.line in
+    let r = ((let went_here : Went c.args.s c.args.text.now c.args.table.now c.args.lines (plain_stand c.args.start.0 c.args.chars.0) c.write_long-cut.new.table c.write_long-cut.result.lines (plain_stand c.write_long-cut.result.at c.write_long-cut.result.before) = went_then _ _ _ _ _ _ _ _ ((let passed_here : Went c.args.s c.args.text.now c.args.table.now c.args.lines (plain_stand c.args.start.0 c.args.chars.0) c.write_plain-far.new.table c.write_plain-far.result.lines (plain_stand c.write_plain-far.result.at.0 c.write_plain-far.result.before.0) = went_then _ _ _ _ _ _ _ _ c.loop-at.invariant _ _ _ c.write_plain-far.ensures in passed_here)) _ _ _ c.write_long-cut.ensures in went_here)).ready.line in
     (r.short, omega (arith, div-le_self c.args.s.width.0 c.args.s.glyph.0, r.settings.2))
 
 pub shape_of-table-then-next-eq0 : goal.shape_of-table-then-next-eq0
 shape_of-table-then-next-eq0 c =
-    ((let went_here : Went c.args.s c.args.text.now c.args.table.now c.args.lines (plain_stand c.args.start.0 c.args.chars.0) c.write_long-cut.last.1.1.0 c.write_long-cut.result.lines (plain_stand c.write_long-cut.result.at c.write_long-cut.result) = went_then _ _ _ _ _ _ _ _ ((let passed_here : Went c.args.s c.args.text.now c.args.table.now c.args.lines (plain_stand c.args.start.0 c.args.chars.0) c.write_plain-far.last.1.1.0 c.write_plain-far.result.lines (plain_stand c.write_plain-far.result.at.0 c.write_plain-far.result.0) = went_then _ _ _ _ _ _ _ _ c.loop-at.invariant _ _ _ c.write_plain-far.ensures in passed_here)) _ _ _ c.write_long-cut.ensures in went_here)).same
+    ((let went_here : Went c.args.s c.args.text.now c.args.table.now c.args.lines (plain_stand c.args.start.0 c.args.chars.0) c.write_long-cut.new.table c.write_long-cut.result.lines (plain_stand c.write_long-cut.result.at c.write_long-cut.result.before) = went_then _ _ _ _ _ _ _ _ ((let passed_here : Went c.args.s c.args.text.now c.args.table.now c.args.lines (plain_stand c.args.start.0 c.args.chars.0) c.write_plain-far.new.table c.write_plain-far.result.lines (plain_stand c.write_plain-far.result.at.0 c.write_plain-far.result.before.0) = went_then _ _ _ _ _ _ _ _ c.loop-at.invariant _ _ _ c.write_plain-far.ensures in passed_here)) _ _ _ c.write_long-cut.ensures in went_here)).same
 
 pub returns-then-next-eq0 : goal.returns-then-next-eq0
 returns-then-next-eq0 c =
-    rw c.reached_at.ensures (reaches_on _ _ _ _ _ _ _ _ ((let went_here : Went c.args.s c.args.text.now c.args.table.now c.args.lines (plain_stand c.args.start.0 c.args.chars.0) c.write_long-cut.last.1.1.0 c.write_long-cut.result.lines (plain_stand c.write_long-cut.result.at c.write_long-cut.result) = went_then _ _ _ _ _ _ _ _ ((let passed_here : Went c.args.s c.args.text.now c.args.table.now c.args.lines (plain_stand c.args.start.0 c.args.chars.0) c.write_plain-far.last.1.1.0 c.write_plain-far.result.lines (plain_stand c.write_plain-far.result.at.0 c.write_plain-far.result.0) = went_then _ _ _ _ _ _ _ _ c.loop-at.invariant _ _ _ c.write_plain-far.ensures in passed_here)) _ _ _ c.write_long-cut.ensures in went_here)))
+    rw c.reached_at.ensures (reaches_on _ _ _ _ _ _ _ _ ((let went_here : Went c.args.s c.args.text.now c.args.table.now c.args.lines (plain_stand c.args.start.0 c.args.chars.0) c.write_long-cut.new.table c.write_long-cut.result.lines (plain_stand c.write_long-cut.result.at c.write_long-cut.result.before) = went_then _ _ _ _ _ _ _ _ ((let passed_here : Went c.args.s c.args.text.now c.args.table.now c.args.lines (plain_stand c.args.start.0 c.args.chars.0) c.write_plain-far.new.table c.write_plain-far.result.lines (plain_stand c.write_plain-far.result.at.0 c.write_plain-far.result.before.0) = went_then _ _ _ _ _ _ _ _ c.loop-at.invariant _ _ _ c.write_plain-far.ensures in passed_here)) _ _ _ c.write_long-cut.ensures in went_here)))
 
 pub ended_entry-entry-requires : goal.ended_entry-entry-requires
 ended_entry-entry-requires c =
-    let r = ((let went_here : Went c.args.s c.args.text.now c.args.table.now c.args.lines (plain_stand c.args.start.0 c.args.chars.0) c.write_long-cut.last.1.1.0 c.write_long-cut.result.lines (plain_stand c.write_long-cut.result.at c.write_long-cut.result) = went_then _ _ _ _ _ _ _ _ ((let passed_here : Went c.args.s c.args.text.now c.args.table.now c.args.lines (plain_stand c.args.start.0 c.args.chars.0) c.write_plain-far.last.1.1.0 c.write_plain-far.result.lines (plain_stand c.write_plain-far.result.at.0 c.write_plain-far.result.0) = went_then _ _ _ _ _ _ _ _ c.loop-at.invariant _ _ _ c.write_plain-far.ensures in passed_here)) _ _ _ c.write_long-cut.ensures in went_here)).ready.line in
+    let r = ((let went_here : Went c.args.s c.args.text.now c.args.table.now c.args.lines (plain_stand c.args.start.0 c.args.chars.0) c.write_long-cut.new.table c.write_long-cut.result.lines (plain_stand c.write_long-cut.result.at c.write_long-cut.result.before) = went_then _ _ _ _ _ _ _ _ ((let passed_here : Went c.args.s c.args.text.now c.args.table.now c.args.lines (plain_stand c.args.start.0 c.args.chars.0) c.write_plain-far.new.table c.write_plain-far.result.lines (plain_stand c.write_plain-far.result.at.0 c.write_plain-far.result.before.0) = went_then _ _ _ _ _ _ _ _ c.loop-at.invariant _ _ _ c.write_plain-far.ensures in passed_here)) _ _ _ c.write_long-cut.ensures in went_here)).ready.line in
     (found-fits c.args.s c.args.text.now _ (c.args.s.width.0 / c.args.s.glyph.0) _ _ _ _ _ ((let found_here : RowIn c.args.text.now c.write_long-cut.result.at (c.args.s.width.0 / c.args.s.glyph.0) c.told_row-row.result = c.told_row-row.ensures c.if-next-eq0.false in found_here)) r.settings.0 refl, r.settings.2)
 
 pub write_entry-requires : goal.write_entry-requires
 write_entry-requires c =
-    went-room _ _ _ _ _ _ _ _ ((let went_here : Went c.args.s c.args.text.now c.args.table.now c.args.lines (plain_stand c.args.start.0 c.args.chars.0) c.write_long-cut.last.1.1.0 c.write_long-cut.result.lines (plain_stand c.write_long-cut.result.at c.write_long-cut.result) = went_then _ _ _ _ _ _ _ _ ((let passed_here : Went c.args.s c.args.text.now c.args.table.now c.args.lines (plain_stand c.args.start.0 c.args.chars.0) c.write_plain-far.last.1.1.0 c.write_plain-far.result.lines (plain_stand c.write_plain-far.result.at.0 c.write_plain-far.result.0) = went_then _ _ _ _ _ _ _ _ c.loop-at.invariant _ _ _ c.write_plain-far.ensures in passed_here)) _ _ _ c.write_long-cut.ensures in went_here)) c.requires.room_from
+    went-room _ _ _ _ _ _ _ _ ((let went_here : Went c.args.s c.args.text.now c.args.table.now c.args.lines (plain_stand c.args.start.0 c.args.chars.0) c.write_long-cut.new.table c.write_long-cut.result.lines (plain_stand c.write_long-cut.result.at c.write_long-cut.result.before) = went_then _ _ _ _ _ _ _ _ ((let passed_here : Went c.args.s c.args.text.now c.args.table.now c.args.lines (plain_stand c.args.start.0 c.args.chars.0) c.write_plain-far.new.table c.write_plain-far.result.lines (plain_stand c.write_plain-far.result.at.0 c.write_plain-far.result.before.0) = went_then _ _ _ _ _ _ _ _ c.loop-at.invariant _ _ _ c.write_plain-far.ensures in passed_here)) _ _ _ c.write_long-cut.ensures in went_here)) c.requires.room_from
 
 pub overflow_add-n : goal.overflow_add-n
 overflow_add-n c =
-    record { fits = omega (arith, went-few _ _ _ _ _ _ _ _ ((let went_here : Went c.args.s c.args.text.now c.args.table.now c.args.lines (plain_stand c.args.start.0 c.args.chars.0) c.write_long-cut.last.1.1.0 c.write_long-cut.result.lines (plain_stand c.write_long-cut.result.at c.write_long-cut.result) = went_then _ _ _ _ _ _ _ _ ((let passed_here : Went c.args.s c.args.text.now c.args.table.now c.args.lines (plain_stand c.args.start.0 c.args.chars.0) c.write_plain-far.last.1.1.0 c.write_plain-far.result.lines (plain_stand c.write_plain-far.result.at.0 c.write_plain-far.result.0) = went_then _ _ _ _ _ _ _ _ c.loop-at.invariant _ _ _ c.write_plain-far.ensures in passed_here)) _ _ _ c.write_long-cut.ensures in went_here)) c.requires.room_from) }
+    record { fits = omega (arith, went-few _ _ _ _ _ _ _ _ ((let went_here : Went c.args.s c.args.text.now c.args.table.now c.args.lines (plain_stand c.args.start.0 c.args.chars.0) c.write_long-cut.new.table c.write_long-cut.result.lines (plain_stand c.write_long-cut.result.at c.write_long-cut.result.before) = went_then _ _ _ _ _ _ _ _ ((let passed_here : Went c.args.s c.args.text.now c.args.table.now c.args.lines (plain_stand c.args.start.0 c.args.chars.0) c.write_plain-far.new.table c.write_plain-far.result.lines (plain_stand c.write_plain-far.result.at.0 c.write_plain-far.result.before.0) = went_then _ _ _ _ _ _ _ _ c.loop-at.invariant _ _ _ c.write_plain-far.ensures in passed_here)) _ _ _ c.write_long-cut.ensures in went_here)) c.requires.room_from) }
 
 pub shape_of-table-then-is_last : goal.shape_of-table-then-is_last
 shape_of-table-then-is_last c =
-    c.write_entry.auto.table ∙ ((let went_here : Went c.args.s c.args.text.now c.args.table.now c.args.lines (plain_stand c.args.start.0 c.args.chars.0) c.write_long-cut.last.1.1.0 c.write_long-cut.result.lines (plain_stand c.write_long-cut.result.at c.write_long-cut.result) = went_then _ _ _ _ _ _ _ _ ((let passed_here : Went c.args.s c.args.text.now c.args.table.now c.args.lines (plain_stand c.args.start.0 c.args.chars.0) c.write_plain-far.last.1.1.0 c.write_plain-far.result.lines (plain_stand c.write_plain-far.result.at.0 c.write_plain-far.result.0) = went_then _ _ _ _ _ _ _ _ c.loop-at.invariant _ _ _ c.write_plain-far.ensures in passed_here)) _ _ _ c.write_long-cut.ensures in went_here)).same
+    c.write_entry.auto.table ∙ ((let went_here : Went c.args.s c.args.text.now c.args.table.now c.args.lines (plain_stand c.args.start.0 c.args.chars.0) c.write_long-cut.new.table c.write_long-cut.result.lines (plain_stand c.write_long-cut.result.at c.write_long-cut.result.before) = went_then _ _ _ _ _ _ _ _ ((let passed_here : Went c.args.s c.args.text.now c.args.table.now c.args.lines (plain_stand c.args.start.0 c.args.chars.0) c.write_plain-far.new.table c.write_plain-far.result.lines (plain_stand c.write_plain-far.result.at.0 c.write_plain-far.result.before.0) = went_then _ _ _ _ _ _ _ _ c.loop-at.invariant _ _ _ c.write_plain-far.ensures in passed_here)) _ _ _ c.write_long-cut.ensures in went_here)).same
 
 pub returns-then-is_last : goal.returns-then-is_last
 returns-then-is_last c =
     rw c.reached_at-then-is_last.ensures
-    (reaches_all _ _ _ _ _ _ _ _ (c.write_entry.auto.table ∙ ((let went_here : Went c.args.s c.args.text.now c.args.table.now c.args.lines (plain_stand c.args.start.0 c.args.chars.0) c.write_long-cut.last.1.1.0 c.write_long-cut.result.lines (plain_stand c.write_long-cut.result.at c.write_long-cut.result) = went_then _ _ _ _ _ _ _ _ ((let passed_here : Went c.args.s c.args.text.now c.args.table.now c.args.lines (plain_stand c.args.start.0 c.args.chars.0) c.write_plain-far.last.1.1.0 c.write_plain-far.result.lines (plain_stand c.write_plain-far.result.at.0 c.write_plain-far.result.0) = went_then _ _ _ _ _ _ _ _ c.loop-at.invariant _ _ _ c.write_plain-far.ensures in passed_here)) _ _ _ c.write_long-cut.ensures in went_here)).same)
-    (found-last _ _ _ _ _ _ _ _ _ ((let went_here : Went c.args.s c.args.text.now c.args.table.now c.args.lines (plain_stand c.args.start.0 c.args.chars.0) c.write_long-cut.last.1.1.0 c.write_long-cut.result.lines (plain_stand c.write_long-cut.result.at c.write_long-cut.result) = went_then _ _ _ _ _ _ _ _ ((let passed_here : Went c.args.s c.args.text.now c.args.table.now c.args.lines (plain_stand c.args.start.0 c.args.chars.0) c.write_plain-far.last.1.1.0 c.write_plain-far.result.lines (plain_stand c.write_plain-far.result.at.0 c.write_plain-far.result.0) = went_then _ _ _ _ _ _ _ _ c.loop-at.invariant _ _ _ c.write_plain-far.ensures in passed_here)) _ _ _ c.write_long-cut.ensures in went_here)) c.requires.room_from _ refl c.requires.stand_ready.1 _ _ _ _ _ ((let found_here : RowIn c.args.text.now c.write_long-cut.result.at (c.args.s.width.0 / c.args.s.glyph.0) c.told_row-row.result = c.told_row-row.ensures c.if-next-eq0.false in found_here)) _ c.ended_entry-entry.ensures _ c.write_entry.ensures
+    (reaches_all _ _ _ _ _ _ _ _ (c.write_entry.auto.table ∙ ((let went_here : Went c.args.s c.args.text.now c.args.table.now c.args.lines (plain_stand c.args.start.0 c.args.chars.0) c.write_long-cut.new.table c.write_long-cut.result.lines (plain_stand c.write_long-cut.result.at c.write_long-cut.result.before) = went_then _ _ _ _ _ _ _ _ ((let passed_here : Went c.args.s c.args.text.now c.args.table.now c.args.lines (plain_stand c.args.start.0 c.args.chars.0) c.write_plain-far.new.table c.write_plain-far.result.lines (plain_stand c.write_plain-far.result.at.0 c.write_plain-far.result.before.0) = went_then _ _ _ _ _ _ _ _ c.loop-at.invariant _ _ _ c.write_plain-far.ensures in passed_here)) _ _ _ c.write_long-cut.ensures in went_here)).same)
+    (found-last _ _ _ _ _ _ _ _ _ ((let went_here : Went c.args.s c.args.text.now c.args.table.now c.args.lines (plain_stand c.args.start.0 c.args.chars.0) c.write_long-cut.new.table c.write_long-cut.result.lines (plain_stand c.write_long-cut.result.at c.write_long-cut.result.before) = went_then _ _ _ _ _ _ _ _ ((let passed_here : Went c.args.s c.args.text.now c.args.table.now c.args.lines (plain_stand c.args.start.0 c.args.chars.0) c.write_plain-far.new.table c.write_plain-far.result.lines (plain_stand c.write_plain-far.result.at.0 c.write_plain-far.result.before.0) = went_then _ _ _ _ _ _ _ _ c.loop-at.invariant _ _ _ c.write_plain-far.ensures in passed_here)) _ _ _ c.write_long-cut.ensures in went_here)) c.requires.room_from _ refl c.requires.stand_ready.1 _ _ _ _ _ ((let found_here : RowIn c.args.text.now c.write_long-cut.result.at (c.args.s.width.0 / c.args.s.glyph.0) c.told_row-row.result = c.told_row-row.ensures c.if-next-eq0.false in found_here)) _ c.ended_entry-entry.ensures _ c.write_entry.ensures
     c.write_entry.auto.table (sym c.is_last.ensures ∙ c.if-is_last.true)))
 
 pub overflow_add-before : goal.overflow_add-before
 overflow_add-before c =
-    record { fits = omega (arith, ((let found_here : RowIn c.args.text.now c.write_long-cut.result.at (c.args.s.width.0 / c.args.s.glyph.0) c.told_row-row.result = c.told_row-row.ensures c.if-next-eq0.false in found_here)).few, div-le_self c.args.s.width.0 c.args.s.glyph.0, ((let went_here : Went c.args.s c.args.text.now c.args.table.now c.args.lines (plain_stand c.args.start.0 c.args.chars.0) c.write_long-cut.last.1.1.0 c.write_long-cut.result.lines (plain_stand c.write_long-cut.result.at c.write_long-cut.result) = went_then _ _ _ _ _ _ _ _ ((let passed_here : Went c.args.s c.args.text.now c.args.table.now c.args.lines (plain_stand c.args.start.0 c.args.chars.0) c.write_plain-far.last.1.1.0 c.write_plain-far.result.lines (plain_stand c.write_plain-far.result.at.0 c.write_plain-far.result.0) = went_then _ _ _ _ _ _ _ _ c.loop-at.invariant _ _ _ c.write_plain-far.ensures in passed_here)) _ _ _ c.write_long-cut.ensures in went_here)).ready.line.settings.2) }
+    record { fits = omega (arith, ((let found_here : RowIn c.args.text.now c.write_long-cut.result.at (c.args.s.width.0 / c.args.s.glyph.0) c.told_row-row.result = c.told_row-row.ensures c.if-next-eq0.false in found_here)).few, div-le_self c.args.s.width.0 c.args.s.glyph.0, ((let went_here : Went c.args.s c.args.text.now c.args.table.now c.args.lines (plain_stand c.args.start.0 c.args.chars.0) c.write_long-cut.new.table c.write_long-cut.result.lines (plain_stand c.write_long-cut.result.at c.write_long-cut.result.before) = went_then _ _ _ _ _ _ _ _ ((let passed_here : Went c.args.s c.args.text.now c.args.table.now c.args.lines (plain_stand c.args.start.0 c.args.chars.0) c.write_plain-far.new.table c.write_plain-far.result.lines (plain_stand c.write_plain-far.result.at.0 c.write_plain-far.result.before.0) = went_then _ _ _ _ _ _ _ _ c.loop-at.invariant _ _ _ c.write_plain-far.ensures in passed_here)) _ _ _ c.write_long-cut.ensures in went_here)).ready.line.settings.2) }
 
 pub overflow_add-before-in-loop-at : goal.overflow_add-before-in-loop-at
 overflow_add-before-in-loop-at c =
-    let i = ((let went_here : Went c.args.s c.args.text.now c.args.table.now c.args.lines (plain_stand c.args.start.0 c.args.chars.0) c.write_long-cut.last.1.1.0 c.write_long-cut.result.lines (plain_stand c.write_long-cut.result.at c.write_long-cut.result) = went_then _ _ _ _ _ _ _ _ ((let passed_here : Went c.args.s c.args.text.now c.args.table.now c.args.lines (plain_stand c.args.start.0 c.args.chars.0) c.write_plain-far.last.1.1.0 c.write_plain-far.result.lines (plain_stand c.write_plain-far.result.at.0 c.write_plain-far.result.0) = went_then _ _ _ _ _ _ _ _ c.loop-at.invariant _ _ _ c.write_plain-far.ensures in passed_here)) _ _ _ c.write_long-cut.ensures in went_here)).ready in
+    let i = ((let went_here : Went c.args.s c.args.text.now c.args.table.now c.args.lines (plain_stand c.args.start.0 c.args.chars.0) c.write_long-cut.new.table c.write_long-cut.result.lines (plain_stand c.write_long-cut.result.at c.write_long-cut.result.before) = went_then _ _ _ _ _ _ _ _ ((let passed_here : Went c.args.s c.args.text.now c.args.table.now c.args.lines (plain_stand c.args.start.0 c.args.chars.0) c.write_plain-far.new.table c.write_plain-far.result.lines (plain_stand c.write_plain-far.result.at.0 c.write_plain-far.result.before.0) = went_then _ _ _ _ _ _ _ _ c.loop-at.invariant _ _ _ c.write_plain-far.ensures in passed_here)) _ _ _ c.write_long-cut.ensures in went_here)).ready in
     record { fits = omega (arith, ((let found_here : RowIn c.args.text.now c.write_long-cut.result.at (c.args.s.width.0 / c.args.s.glyph.0) c.told_row-row.result = c.told_row-row.ensures c.if-next-eq0.false in found_here)).few, div-le_self c.args.s.width.0 c.args.s.glyph.0, i.line.settings.2, i.few, i.line.inside, i.line.short) }
 
 pub loop-at-smaller : goal.loop-at-smaller
@@ -77,5 +77,5 @@ loop-at-smaller c =
 pub loop-at-preserved : goal.loop-at-preserved
 loop-at-preserved c =
     let goes = sym c.is_last.ensures ∙ c.if-is_last.false in
-    found-went _ _ _ _ _ _ _ _ _ ((let went_here : Went c.args.s c.args.text.now c.args.table.now c.args.lines (plain_stand c.args.start.0 c.args.chars.0) c.write_long-cut.last.1.1.0 c.write_long-cut.result.lines (plain_stand c.write_long-cut.result.at c.write_long-cut.result) = went_then _ _ _ _ _ _ _ _ ((let passed_here : Went c.args.s c.args.text.now c.args.table.now c.args.lines (plain_stand c.args.start.0 c.args.chars.0) c.write_plain-far.last.1.1.0 c.write_plain-far.result.lines (plain_stand c.write_plain-far.result.at.0 c.write_plain-far.result.0) = went_then _ _ _ _ _ _ _ _ c.loop-at.invariant _ _ _ c.write_plain-far.ensures in passed_here)) _ _ _ c.write_long-cut.ensures in went_here)) c.requires.room_from _ refl c.requires.stand_ready.1 _ _ _ _ _ (found-more _ _ _ _ ((let found_here : RowIn c.args.text.now c.write_long-cut.result.at (c.args.s.width.0 / c.args.s.glyph.0) c.told_row-row.result = c.told_row-row.ensures c.if-next-eq0.false in found_here)) goes) _ c.ended_entry-entry.ensures _
+    found-went _ _ _ _ _ _ _ _ _ ((let went_here : Went c.args.s c.args.text.now c.args.table.now c.args.lines (plain_stand c.args.start.0 c.args.chars.0) c.write_long-cut.new.table c.write_long-cut.result.lines (plain_stand c.write_long-cut.result.at c.write_long-cut.result.before) = went_then _ _ _ _ _ _ _ _ ((let passed_here : Went c.args.s c.args.text.now c.args.table.now c.args.lines (plain_stand c.args.start.0 c.args.chars.0) c.write_plain-far.new.table c.write_plain-far.result.lines (plain_stand c.write_plain-far.result.at.0 c.write_plain-far.result.before.0) = went_then _ _ _ _ _ _ _ _ c.loop-at.invariant _ _ _ c.write_plain-far.ensures in passed_here)) _ _ _ c.write_long-cut.ensures in went_here)) c.requires.room_from _ refl c.requires.stand_ready.1 _ _ _ _ _ (found-more _ _ _ _ ((let found_here : RowIn c.args.text.now c.write_long-cut.result.at (c.args.s.width.0 / c.args.s.glyph.0) c.told_row-row.result = c.told_row-row.ensures c.if-next-eq0.false in found_here)) goes) _ c.ended_entry-entry.ensures _
     c.write_entry.ensures c.write_entry.auto.table goes
