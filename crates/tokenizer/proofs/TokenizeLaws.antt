@@ -30,7 +30,7 @@ use Rattle.tokenizer.specs.Writing.{numbers_from, check_needed, room_answer, roo
 ranged-length : (at : ℕ) (ts : List Tok) → length (ranged at ts) ≡ length ts
 unfolding ranged
 ranged-length at [] = refl
-ranged-length at (t ∷ ts) = ap suc (ranged-length _ ts)
+ranged-length at (t ∷ ts) = ap suc (ranged-length (at + size_of t) ts)
 
 numbers-length : (at : ℕ) (ts : List Tok) → length (of_all of_token (ranged at ts)) ≡ token_numbers * length ts
 unfolding ranged of_all of_token

@@ -7,7 +7,7 @@ use native.Mathlib.Omega.{arith}
 use lib.ListN.{set}
 use lib.Seq.{sets}
 use Rattle.meaning.specs.Tokens.{tokens, ranged}
-use Rattle.meaning.specs.Table.{token_numbers, token_number, of_token, of_all, written}
+use Rattle.meaning.specs.Table.{token_numbers, token_number, of_token, of_all}
 use Rattle.parser.specs.Lexing.{chars_from, lexeme_at}
 use Rattle.tokenizer.specs.Writing.{numbers_of, numbers_from}
 use Rattle.parser.specs.declared.lexeme.Lexeme.{Lexeme}

@@ -1,5 +1,6 @@
 // The call that lists the tokens of a text, and a reader of them (rule 3).
 #![tactic(auto)]
+
 pub mod count;
 pub mod reader;
 pub mod tokenize;

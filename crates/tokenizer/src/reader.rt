@@ -1,6 +1,5 @@
-// A reader that holds the caller's text, as the crate's parser does, and goes from token to token. The checker covers no function
-// over a struct that holds a reference, so `next` and `token_from` are proved by hand and leave the work to covered ones.
-// Nothing here calls the two: they stand because the scope names their form.
+// A reader that holds the caller's text, as the crate's parser does, and goes from token to token. Nothing here calls `next` and
+// `token_from`: they stand because the scope names their form.
 // Rule 3.
 ghost use Rattle.std.specs.Prelude.{◌≡◌, ◌≤◌, length};
 ghost use Rattle.meaning.specs.Tokens.{tokens};

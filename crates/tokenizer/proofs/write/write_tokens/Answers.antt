@@ -22,12 +22,12 @@ loop-lexeme-smaller c =
 pub loop-lexeme-preserved : goal.loop-lexeme-preserved
 loop-lexeme-preserved c =
     let s = (let step_here : Next c.args.text.now c.loop-lexeme.at c.in-Token.lexeme = next c.args.text.now c.loop-lexeme.at _ (sym c.token_at.ensures ∙ c.in-Token.is) in step_here) in (
-    ap (λ (b : List ℕ). sets b (token_numbers * (c.loop-lexeme.n + 1)) (numbers_from c.args.text.now c.in-Token.lexeme.end.0)) c.put_token.ensures
-    ∙ sets_more c.args.text.now c.loop-lexeme.buffer c.loop-lexeme.n c.loop-lexeme.at _ s ∙ c.loop-lexeme.invariant.0,
-    omega (arith, ap length s.more),
-    omega (arith, c.put_token.auto.buffer),
-    omega arith,
-    omega arith,
+      ap (λ (b : List ℕ). sets b (token_numbers * (c.loop-lexeme.n + 1)) (numbers_from c.args.text.now c.in-Token.lexeme.end.0)) c.put_token.ensures
+          ∙ sets_more c.args.text.now c.loop-lexeme.buffer c.loop-lexeme.n c.loop-lexeme.at _ s ∙ c.loop-lexeme.invariant.0,
+      omega (arith, ap length s.more),
+      omega (arith, c.put_token.auto.buffer),
+      omega arith,
+      omega arith,
     )
 
 pub returns-in-End : goal.returns-in-End
