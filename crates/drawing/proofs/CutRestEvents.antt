@@ -1,6 +1,6 @@
 -- What a pass draws of a resumed rest that it cuts (rule 9, rule 13).
 -- Assumes nothing.
-use Prim.Native.Nat.{ℕ, ◌+◌, ◌-◌, ◌*◌, ◌/◌, ◌≤◌, ◌<◌, min}
+use Prim.Native.Nat.{ℕ, ◌+◌, ◌-◌, ◌/◌, ◌≤◌, ◌<◌, min}
 use mathlib.Core.Path.{◌≡◌, refl, sym, ap, ◌∙◌}
 use mathlib.Core.List.{List, [], ◌∷◌}
 use native.Mathlib.Nat.{div-lt_iff_lt-mul}
@@ -13,7 +13,7 @@ use Rattle.basis.specs.Choice.{pick}
 use Rattle.utf8.specs.Encoding.{size}
 use Rattle.meaning.specs.Tokens.{ender}
 use Rattle.meaning.specs.Cursor.{room_of}
-use Rattle.meaning.specs.Words.{Drawn, drawn}
+use Rattle.meaning.specs.Words.{drawn}
 use Rattle.meaning.specs.Line.{unmeasured}
 use Rattle.meaning.specs.declared.settings.Settings.{Settings}
 use Rattle.meaning.specs.declared.cursor.Place.{Place}
@@ -22,7 +22,6 @@ use Rattle.parser.specs.Lexing.{chars_from}
 use Rattle.steps.specs.Pending.{Pending, pending, rest_lexeme}
 use Rattle.steps.specs.Running.{PassReady}
 use Rattle.steps.specs.declared.step.Resumed.{Resumed}
-use Rattle.steps.specs.declared.step.Stepped.TheVariants.{Stop}
 use Rattle.steps.proofs.RestLaws.{rest-inside, rest_read}
 use Rattle.blanks.specs.CutRests.{CutRest, cut_end, cut-filled, thin-taken, cut-stops}
 use Rattle.prints.specs.TokenDrawn.{grown_by, run_drawn}

@@ -1,6 +1,6 @@
 -- What is drawn of a line that is a "-" alone (rule 8, rule 13).
 -- Assumes nothing.
-use Prim.Native.Nat.{ℕ, ◌+◌, ◌-◌, ◌*◌, ◌/◌, ◌≤◌, ◌<◌}
+use Prim.Native.Nat.{ℕ, ◌+◌, ◌-◌, ◌*◌, ◌/◌, ◌≤◌}
 use mathlib.Core.Path.{◌≡◌, refl, sym, ap, ◌∙◌}
 use mathlib.Core.Bool.{true, false, ◌&&◌}
 use mathlib.Core.List.{List, [], ◌∷◌, ◌++◌}
@@ -8,7 +8,7 @@ use native.Mathlib.Omega.{arith}
 use borrow.Author.Tests.{eq-eqb, ne_eqb}
 use Rattle.basis.specs.Choice.{pick, pick_cases, by_test}
 use Rattle.meaning.specs.Cursor.{room_of, fits_in, has_moved}
-use Rattle.meaning.specs.Words.{Drawn, drawn}
+use Rattle.meaning.specs.Words.{drawn}
 use Rattle.meaning.specs.LineIter.{Step, wrap_on, unfit_word, cut_word, on_word, step}
 use Rattle.meaning.specs.Line.{unmeasured}
 use Rattle.meaning.specs.declared.settings.Settings.{Settings}
@@ -27,12 +27,10 @@ use Rattle.strides.specs.OnwardLaws.{read-pending}
 use Rattle.strides.specs.GoesLaws.{rest-none}
 use Rattle.strides.specs.MarkLaws.{hyphen-read}
 use Rattle.strides.specs.LoneHyphens.{Lone, lone_place, lone_measure, lone-goes, lone-over, lone-none, lone-waits, lone_drops}
-use Rattle.ink.specs.declared.pen.Pen.{Pen}
 use Rattle.prints.specs.TokenDrawn.{drawn_of, tok_drawn, grown_by, print_drawn}
 use Rattle.prints.specs.TokenEvents.{break_drawn}
 use Rattle.drawing.specs.Drawn.{drawn_from}
 use Rattle.drawing.specs.PassDrawn.{go-drawn, stop-drawn}
-use Rattle.drawing.specs.DrawingOn.{PenReady}
 use Rattle.drawing.specs.LoneLines.{LoneLine}
 
 -- Of a word of which no character fits nothing is drawn, be it dropped or not.

@@ -1,11 +1,11 @@
 -- What is drawn of a soft hyphen that does not show and of the word behind it, and of zero width spaces (rule 8, rule 13).
 -- Assumes nothing.
-use Prim.Native.Nat.{ℕ, ◌+◌, ◌*◌, ◌≤◌, ◌<◌}
+use Prim.Native.Nat.{ℕ, ◌+◌, ◌≤◌, ◌<◌}
 use mathlib.Core.Path.{◌≡◌, refl, sym, ap, subst, ◌∙◌}
 use mathlib.Core.Bool.{false}
 use mathlib.Core.List.{List, [], ◌∷◌, ◌++◌}
 use native.Mathlib.Omega.{arith}
-use lib.ListN.{length, take}
+use lib.ListN.{take}
 use Rattle.basis.specs.Choice.{pick}
 use Rattle.meaning.specs.Words.{Drawn, drawn, drawn_word}
 use Rattle.meaning.specs.Line.{unmeasured}

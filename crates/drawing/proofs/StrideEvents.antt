@@ -6,11 +6,9 @@ use mathlib.Core.Bool.{true, false}
 use mathlib.Core.List.{List, [], ◌∷◌, ◌++◌}
 use native.Mathlib.Nat.{div-one, div-lt_iff_lt-mul}
 use native.Mathlib.Omega.{arith}
-use borrow.Author.Tests.{leb-false, eq-eqb, eqb-true, eqb-false}
-use lib.Dec.{eqb}
+use borrow.Author.Tests.{leb-false, eq-eqb}
 use lib.ListN.{length}
-use Rattle.basis.specs.Choice.{pick, pick_cases}
-use Rattle.basis.specs.Order.{by_eq}
+use Rattle.basis.specs.Choice.{pick}
 use Rattle.meaning.specs.Cursor.{room_of, fits_in}
 use Rattle.meaning.specs.SpaceConfig.{spaces_width}
 use Rattle.meaning.specs.Tokens.{tokens}

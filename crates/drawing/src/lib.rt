@@ -1,5 +1,6 @@
 // The events of a line, drawn into a lent buffer (rule 13).
 #![tactic(auto)]
+
 pub mod cuts;
 mod inked;
 mod lone;

@@ -7,7 +7,7 @@ use mathlib.Core.List.{List, []}
 use native.Mathlib.Nat.{mul_comm, div-le_of_le-mul}
 use native.Mathlib.Omega.{arith}
 use borrow.Author.Tests.{eq-eqb, ne_eqb}
-use lib.ListN.{length, take, length-take}
+use lib.ListN.{take, length-take}
 use lib.Seq.{take-take}
 use Rattle.basis.specs.Choice.{pick, pick_cases}
 use Rattle.meaning.specs.Cursor.{room_of, fits_in, has_moved}

@@ -1,6 +1,7 @@
 -- `drawing::lone::is_lone` meets its contract (rule 8).
 use Rattle.std.proofs.Common.{◌+◌, refl, sym, arith}
 use mathlib.Core.Bool.{false≢true}
+use Rattle.std.proofs.lemmas.Bool.{not-false}
 use Rattle.meaning.specs.Characters.{in_word}
 use Rattle.parser.specs.Lexing.{chars_from}
 use Rattle.parser.specs.Scanning.{glue_of, scan_from, word_of}
@@ -44,7 +45,7 @@ returns-then-glyph-left c =
 
 pub overflow_add-at : goal.overflow_add-at
 overflow_add-at c =
-    omega (arith, mark-room _ _ 2 ((let hyphen_here : Mark c.args.text.now c.args.at 2 = c.hyphen_at.ensures (c.if-not-hyphen_at.false) in hyphen_here)), c.requires.short)
+    omega (arith, mark-room _ _ 2 ((let hyphen_here : Mark c.args.text.now c.args.at 2 = c.hyphen_at.ensures c.if-not-hyphen_at.false in hyphen_here)), c.requires.short)
 
 pub returns-then-first_len-eq0 : goal.returns-then-first_len-eq0
 returns-then-first_len-eq0 c =
@@ -54,17 +55,17 @@ pub returns : goal.returns
 unfolding word_of
 returns c =
     let from = c.args.at + 2 in
-    let letter : Letter c.args.text.now from n = c.first_len.ensures (omega (arith, c.if-first_len-eq0.false)) in
+    let letter : Letter c.args.text.now from c.first_len.result = c.first_len.ensures (omega (arith, c.if-first_len-eq0.false)) in
     λ _.
     record {
-    none = c.if-rest-ne0.false;
-    word = word_of (scan_from in_word glue_of (from + c.first_len.result) 1 0 (chars_from c.args.text.now (from + c.first_len.result)));
-    lone = record {
-    hyphen = (let hyphen_here : Mark c.args.text.now c.args.at 2 = c.hyphen_at.ensures (c.if-not-hyphen_at.false) in hyphen_here);
-    word = sym (letter-lexed c.args.text.now from c.first_len.result letter);
-    kind = refl;
-    empty = c.if-not-p.false;
-    shown = omega (arith, c.room-left.ensures, c.if-left-glyph.false);
-    over = omega (arith, c.room-left.ensures, c.if-glyph-left.false);
-    };
+      none = c.if-rest-ne0.false;
+      word = word_of (scan_from in_word glue_of (from + c.first_len.result) 1 0 (chars_from c.args.text.now (from + c.first_len.result)));
+      lone = record {
+        hyphen = (let hyphen_here : Mark c.args.text.now c.args.at 2 = c.hyphen_at.ensures c.if-not-hyphen_at.false in hyphen_here);
+        word = sym (letter-lexed c.args.text.now from c.first_len.result letter);
+        kind = refl;
+        empty = not-false _ c.if-not-p.false;
+        shown = omega (arith, c.room-left.ensures, c.if-left-glyph.false);
+        over = omega (arith, c.room-left.ensures, c.if-glyph-left.false);
+      };
     }

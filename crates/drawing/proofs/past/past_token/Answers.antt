@@ -13,18 +13,17 @@ past_word-requires c =
     (c.requires.0, c.requires.1, c.in-Word.is)
 
 pub past_step-requires : goal.past_step-requires
-past_step-requires c =
-    (
-    c.requires.0,
-    c.requires.1,
-    c.requires.2,
-    λ e. never (0 ∷ 1 ∷ 2 ∷ 3 ∷ 5 ∷ []) 4 refl (subst (λ (k : TokenKind). OneOf (0 ∷ 1 ∷ 2 ∷ 3 ∷ 5 ∷ []) (tag_of the_type k)) e (opened c.in_default.in_default-own.keys2)),
-    )
+past_step-requires c = (
+  c.requires.0,
+  c.requires.1,
+  c.requires.2,
+  λ e. never (0 ∷ 1 ∷ 2 ∷ 3 ∷ 5 ∷ []) 4 refl (subst (λ (k : TokenKind). OneOf (0 ∷ 1 ∷ 2 ∷ 3 ∷ 5 ∷ []) (tag_of the_type k)) e (opened c.in_default.in_default-own.keys2)),
+)
 
 pub returns-in-Word : goal.returns-in-Word
 returns-in-Word c =
-    record { pen_after = (c.past_word.ensures).0; went = (c.past_word.ensures).1 }
+    c.past_word.ensures
 
 pub returns-in_default : goal.returns-in_default
 returns-in_default c =
-    record { pen_after = (c.past_step.ensures).0; went = (c.past_step.ensures).1 }
+    c.past_step.ensures

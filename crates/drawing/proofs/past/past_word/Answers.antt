@@ -26,11 +26,14 @@ word_place-place-requires c =
 
 pub returns-then-fits : goal.returns-then-fits
 returns-then-fits c =
-    record { pen_after = c.draw_whole-whole.ensures; went = record {
-    measure = _;
-    reach = _;
-    is = sym (word-goes c.args.s c.args.p c.args.text.now c.args.at c.args.x unmeasured ((let word_here : WordAt c.args.text.now c.args.at c.args.x = word-at _ _ _ c.requires.0.stands c.requires.2 in word_here)) (sym c.fits.ensures ∙ c.if-fits.true) c.word_place-place.result _ c.word_place-place.ensures refl);
-    } }
+    record {
+      pen_after = c.draw_whole-whole.ensures;
+      went = record {
+        measure = _;
+        reach = _;
+        is = sym (word-goes c.args.s c.args.p c.args.text.now c.args.at c.args.x unmeasured ((let word_here : WordAt c.args.text.now c.args.at c.args.x = word-at _ _ _ c.requires.0.stands c.requires.2 in word_here)) (sym c.fits.ensures ∙ c.if-fits.true) c.word_place-place.result _ c.word_place-place.ensures refl);
+      };
+    }
 
 pub draw_cut-cut-requires : goal.draw_cut-cut-requires
 draw_cut-cut-requires c =

@@ -20,9 +20,12 @@ shape_of-events-then-s-wide c =
 
 pub returns-then-s-wide : goal.returns-then-s-wide
 returns-then-s-wide c =
-    record { events_after = (goal_is c.args.s (plain_start c.args.s c.args.x) c.args.text.now c.args.at 0 0 c.args.events.now _ c.args.k c.args.x c.draw_plain_words-pen.result
-    (ends-cut c.requires.1 c.requires.0.pass.settings.0 c.draw_plain_words-pen.ensures (omega (arith, c.if-s-wide.true)))).0; value = (goal_is c.args.s (plain_start c.args.s c.args.x) c.args.text.now c.args.at 0 0 c.args.events.now _ c.args.k c.args.x c.draw_plain_words-pen.result
-    (ends-cut c.requires.1 c.requires.0.pass.settings.0 c.draw_plain_words-pen.ensures (omega (arith, c.if-s-wide.true)))).1 }
+    record {
+      events_after = (goal_is c.args.s (plain_start c.args.s c.args.x) c.args.text.now c.args.at 0 0 c.args.events.now _ c.args.k c.args.x c.draw_plain_words-pen.result
+          (ends-cut c.requires.1 c.requires.0.pass.settings.0 c.draw_plain_words-pen.ensures (omega (arith, c.if-s-wide.true)))).0;
+      value = (goal_is c.args.s (plain_start c.args.s c.args.x) c.args.text.now c.args.at 0 0 c.args.events.now _ c.args.k c.args.x c.draw_plain_words-pen.result
+          (ends-cut c.requires.1 c.requires.0.pass.settings.0 c.draw_plain_words-pen.ensures (omega (arith, c.if-s-wide.true)))).1;
+    }
 
 pub overflow_add-end : goal.overflow_add-end
 overflow_add-end c =
@@ -38,6 +41,9 @@ shape_of-events c =
 
 pub returns : goal.returns
 returns c =
-    record { events_after = (goal_is c.args.s (plain_start c.args.s c.args.x) c.args.text.now c.args.at 0 0 c.args.events.now _ c.args.k c.args.x c.put_one-last.result
-    (ends-thin c.requires.1 c.requires.0.pass.settings.0 c.draw_plain_words-pen.ensures (omega (arith, c.if-s-wide.false)) _ _ c.put_one-last.ensures)).0; value = (goal_is c.args.s (plain_start c.args.s c.args.x) c.args.text.now c.args.at 0 0 c.args.events.now _ c.args.k c.args.x c.put_one-last.result
-    (ends-thin c.requires.1 c.requires.0.pass.settings.0 c.draw_plain_words-pen.ensures (omega (arith, c.if-s-wide.false)) _ _ c.put_one-last.ensures)).1 }
+    record {
+      events_after = (goal_is c.args.s (plain_start c.args.s c.args.x) c.args.text.now c.args.at 0 0 c.args.events.now _ c.args.k c.args.x c.put_one-last.result
+          (ends-thin c.requires.1 c.requires.0.pass.settings.0 c.draw_plain_words-pen.ensures (omega (arith, c.if-s-wide.false)) _ _ c.put_one-last.ensures)).0;
+      value = (goal_is c.args.s (plain_start c.args.s c.args.x) c.args.text.now c.args.at 0 0 c.args.events.now _ c.args.k c.args.x c.put_one-last.result
+          (ends-thin c.requires.1 c.requires.0.pass.settings.0 c.draw_plain_words-pen.ensures (omega (arith, c.if-s-wide.false)) _ _ c.put_one-last.ensures)).1;
+    }

@@ -27,7 +27,7 @@ put_one-pen-requires c =
 
 pub loop-to-init : goal.loop-to-init
 loop-to-init c =
-    (turn-first c.requires.1 ((let first_here : DrewPlain c.args.s c.args.text.now c.args.x c.args.at c.args.events.now (plain_start c.args.s c.args.x) c.args.at (pen_at c.args.k c.args.x) c.put_one-pen.last.0 c.word_end-first.result c.put_one-pen.result = first-drawn c.requires.1 c.requires.0 c.word_end-first.ensures c.args.events.now _ _ c.put_one-pen.ensures in first_here)) c.word_end-first.ensures, refl)
+    (turn-first c.requires.1 ((let first_here : DrewPlain c.args.s c.args.text.now c.args.x c.args.at c.args.events.now (plain_start c.args.s c.args.x) c.args.at (pen_at c.args.k c.args.x) c.put_one-pen.new.events c.word_end-first.result c.put_one-pen.result = first-drawn c.requires.1 c.requires.0 c.word_end-first.ensures c.args.events.now _ _ c.put_one-pen.ensures in first_here)) c.word_end-first.ensures, refl)
 
 pub overflow_add-from : goal.overflow_add-from
 overflow_add-from c =
@@ -62,11 +62,10 @@ loop-to-smaller c =
     omega (arith, c.loop-to-test.true, c.word_end-next.ensures.word.letters.forward)
 
 pub loop-to-preserved : goal.loop-to-preserved
-loop-to-preserved c =
-    (
-    turn-next c.requires.1 c.loop-to.invariant.0 c.loop-to-test.true c.word_end-next.ensures _ _ c.put_one-spaced.ensures _ _ c.put_one-pen-in-loop-to.ensures,
-    c.put_one-pen-in-loop-to.auto.events ∙ c.put_one-spaced.auto.events ∙ c.loop-to.invariant.1,
-    )
+loop-to-preserved c = (
+  turn-next c.requires.1 c.loop-to.invariant.0 c.loop-to-test.true c.word_end-next.ensures _ _ c.put_one-spaced.ensures _ _ c.put_one-pen-in-loop-to.ensures,
+  c.put_one-pen-in-loop-to.auto.events ∙ c.put_one-spaced.auto.events ∙ c.loop-to.invariant.1,
+)
 
 pub shape_of-events : goal.shape_of-events
 shape_of-events c =
@@ -74,4 +73,4 @@ shape_of-events c =
 
 pub returns : goal.returns
 returns c =
-    turn_last c.requires.1 ((let first_here : DrewPlain c.args.s c.args.text.now c.args.x c.args.at c.args.events.now (plain_start c.args.s c.args.x) c.args.at (pen_at c.args.k c.args.x) c.put_one-pen.last.0 c.word_end-first.result c.put_one-pen.result = first-drawn c.requires.1 c.requires.0 c.word_end-first.ensures c.args.events.now _ _ c.put_one-pen.ensures in first_here)) c.loop-to.invariant.0 c.loop-to-test.false
+    turn_last c.requires.1 ((let first_here : DrewPlain c.args.s c.args.text.now c.args.x c.args.at c.args.events.now (plain_start c.args.s c.args.x) c.args.at (pen_at c.args.k c.args.x) c.put_one-pen.new.events c.word_end-first.result c.put_one-pen.result = first-drawn c.requires.1 c.requires.0 c.word_end-first.ensures c.args.events.now _ _ c.put_one-pen.ensures in first_here)) c.loop-to.invariant.0 c.loop-to-test.false

@@ -27,13 +27,12 @@ overflow_add-at c =
     omega (arith, (let inside_here : c.args.at + c.room.result / c.args.p.spaces.width.0 ≤ length c.args.text.now = omega (arith, (let fitting_here : c.room.result / c.args.p.spaces.width.0 ≡ room_of c.args.p.cursor / c.args.p.spaces.width.0 = ap (λ (k : ℕ). k / c.args.p.spaces.width.0) c.room.ensures in fitting_here), fitting-inside c.requires.0.pass c.requires.1) in inside_here), c.requires.0.pass.short)
 
 pub put_one-requires : goal.put_one-requires
-put_one-requires c =
-    (
-    omega (arith, c.requires.0.few, c.requires.0.pass.inside, c.requires.0.pass.short),
-    omega (arith, c.requires.0.narrow, c.requires.0.pass.inside, c.requires.0.pass.short),
-    omega (arith, c.requires.0.pass.inside, c.requires.0.pass.short),
-    omega (arith, (let inside_here : c.args.at + c.room.result / c.args.p.spaces.width.0 ≤ length c.args.text.now = omega (arith, (let fitting_here : c.room.result / c.args.p.spaces.width.0 ≡ room_of c.args.p.cursor / c.args.p.spaces.width.0 = ap (λ (k : ℕ). k / c.args.p.spaces.width.0) c.room.ensures in fitting_here), fitting-inside c.requires.0.pass c.requires.1) in inside_here), c.requires.0.pass.short),
-    )
+put_one-requires c = (
+  omega (arith, c.requires.0.few, c.requires.0.pass.inside, c.requires.0.pass.short),
+  omega (arith, c.requires.0.narrow, c.requires.0.pass.inside, c.requires.0.pass.short),
+  omega (arith, c.requires.0.pass.inside, c.requires.0.pass.short),
+  omega (arith, (let inside_here : c.args.at + c.room.result / c.args.p.spaces.width.0 ≤ length c.args.text.now = omega (arith, (let fitting_here : c.room.result / c.args.p.spaces.width.0 ≡ room_of c.args.p.cursor / c.args.p.spaces.width.0 = ap (λ (k : ℕ). k / c.args.p.spaces.width.0) c.room.ensures in fitting_here), fitting-inside c.requires.0.pass c.requires.1) in inside_here), c.requires.0.pass.short),
+)
 
 pub returns : goal.returns
 returns c =

@@ -14,13 +14,12 @@ overflow_mul-wide c =
     record { fits = omega (arith, first-narrow c.requires c.args.events.now c.args.events.now c.args.pen ((let found_here : Beginning c.args.s c.args.p c.args.text.now c.args.at c.in-Word.b = subst (FirstIs c.args.s c.args.p c.args.text.now c.args.at) c.in-Word.is c.first_taken.ensures in found_here))) }
 
 pub put_one-printed-requires : goal.put_one-printed-requires
-put_one-printed-requires c =
-    (
-    omega (arith, c.requires.few, c.requires.pass.inside, c.requires.pass.short),
-    omega (arith, c.requires.narrow, c.requires.pass.inside, c.requires.pass.short, first-narrow c.requires c.args.events.now c.args.events.now c.args.pen ((let found_here : Beginning c.args.s c.args.p c.args.text.now c.args.at c.in-Word.b = subst (FirstIs c.args.s c.args.p c.args.text.now c.args.at) c.in-Word.is c.first_taken.ensures in found_here))),
-    omega (arith, c.requires.pass.inside, c.requires.pass.short),
-    (first-numbers c.requires.pass ((let found_here : Beginning c.args.s c.args.p c.args.text.now c.args.at c.in-Word.b = subst (FirstIs c.args.s c.args.p c.args.text.now c.args.at) c.in-Word.is c.first_taken.ensures in found_here))).0,
-    )
+put_one-printed-requires c = (
+  omega (arith, c.requires.few, c.requires.pass.inside, c.requires.pass.short),
+  omega (arith, c.requires.narrow, c.requires.pass.inside, c.requires.pass.short, first-narrow c.requires c.args.events.now c.args.events.now c.args.pen ((let found_here : Beginning c.args.s c.args.p c.args.text.now c.args.at c.in-Word.b = subst (FirstIs c.args.s c.args.p c.args.text.now c.args.at) c.in-Word.is c.first_taken.ensures in found_here))),
+  omega (arith, c.requires.pass.inside, c.requires.pass.short),
+  (first-numbers c.requires.pass ((let found_here : Beginning c.args.s c.args.p c.args.text.now c.args.at c.in-Word.b = subst (FirstIs c.args.s c.args.p c.args.text.now c.args.at) c.in-Word.is c.first_taken.ensures in found_here))).0,
+)
 
 pub returns-in-None : goal.returns-in-None
 returns-in-None c =

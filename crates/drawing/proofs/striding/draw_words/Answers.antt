@@ -1,4 +1,4 @@
-use Rattle.std.proofs.Common.{◌≡◌, refl, subst, ◌∙◌, false, arith, length}
+use Rattle.std.proofs.Common.{◌≡◌, refl, subst, ◌∙◌, arith, length}
 use Rattle.steps.specs.Unrolled.{nothing_resumed}
 use Rattle.strides.specs.Strides.{Waits}
 use Rattle.strides.specs.Next.{Decides, Taking}
@@ -64,9 +64,8 @@ loop-s-smaller c =
     omega (arith, strode_at _ _ _ c.inked_at-g.ensures, taken-numbers ((let taking_here : Taking c.args.s c.draw_strides-far.result.place c.args.text.now c.draw_strides-far.result.at c.in-Fits.t = subst (Decides c.args.s c.draw_strides-far.result.place c.args.text.now c.draw_strides-far.result.at) c.in-Fits.is c.next_pair.ensures in taking_here)) c.draw_strides-far.ensures.strode.onward.ready.pass, c.draw_taken-after.ensures.ready.pass.inside, c.draw_strides-far.ensures.strode.onward.forward)
 
 pub loop-s-preserved : goal.loop-s-preserved
-loop-s-preserved c =
-    (
-    drew-on c.loop-s.invariant.0 (drew-on c.draw_strides-far.ensures.strode.onward (strode_to c.inked_at-g.ensures c.draw_taken-after.ensures).onward),
-    strode_full _ _ _ c.inked_at-g.ensures (taken-full ((let taking_here : Taking c.args.s c.draw_strides-far.result.place c.args.text.now c.draw_strides-far.result.at c.in-Fits.t = subst (Decides c.args.s c.draw_strides-far.result.place c.args.text.now c.draw_strides-far.result.at) c.in-Fits.is c.next_pair.ensures in taking_here))),
-    c.draw_taken-after.auto.events ∙ c.draw_strides-far.auto.events ∙ c.loop-s.invariant.2,
-    )
+loop-s-preserved c = (
+  drew-on c.loop-s.invariant.0 (drew-on c.draw_strides-far.ensures.strode.onward (strode_to c.inked_at-g.ensures c.draw_taken-after.ensures).onward),
+  strode_full _ _ _ c.inked_at-g.ensures (taken-full ((let taking_here : Taking c.args.s c.draw_strides-far.result.place c.args.text.now c.draw_strides-far.result.at c.in-Fits.t = subst (Decides c.args.s c.draw_strides-far.result.place c.args.text.now c.draw_strides-far.result.at) c.in-Fits.is c.next_pair.ensures in taking_here))),
+  c.draw_taken-after.auto.events ∙ c.draw_strides-far.auto.events ∙ c.loop-s.invariant.2,
+)

@@ -10,13 +10,12 @@ overflow_mul-n c =
     record { fits = omega (arith, (let wide_here : c.args.word.chars.0 * c.args.glyph ≤ 65535 * 64 = times_bound {n = 65535} c.args.word.chars.0 c.args.glyph c.requires.0.many c.requires.0.glyph in wide_here)) }
 
 pub put_one-requires : goal.put_one-requires
-put_one-requires c =
-    (
-    omega (arith, c.requires.0.few),
-    omega (arith, c.requires.0.narrow, (let wide_here : c.args.word.chars.0 * c.args.glyph ≤ 65535 * 64 = times_bound {n = 65535} c.args.word.chars.0 c.args.glyph c.requires.0.many c.requires.0.glyph in wide_here)),
-    omega (arith, c.requires.0.inside, c.requires.0.short),
-    omega (arith, scanned_inside c.args.text.now c.args.from c.args.word c.requires.1, c.requires.0.short),
-    )
+put_one-requires c = (
+  omega (arith, c.requires.0.few),
+  omega (arith, c.requires.0.narrow, (let wide_here : c.args.word.chars.0 * c.args.glyph ≤ 65535 * 64 = times_bound {n = 65535} c.args.word.chars.0 c.args.glyph c.requires.0.many c.requires.0.glyph in wide_here)),
+  omega (arith, c.requires.0.inside, c.requires.0.short),
+  omega (arith, scanned_inside c.args.text.now c.args.from c.args.word c.requires.1, c.requires.0.short),
+)
 
 pub returns-then-word-eq0 : goal.returns-then-word-eq0
 returns-then-word-eq0 c =

@@ -18,10 +18,10 @@ returns-then-not-space_fits c =
 pub put_one-requires : goal.put_one-requires
 put_one-requires c =
     let y = (read-pending _ _ _ c.requires.1.pair.space).stands in (
-    omega (arith, c.requires.0.few, c.requires.0.pass.inside, c.requires.0.pass.short),
-    omega (arith, c.requires.0.narrow, c.requires.0.pass.inside, c.requires.0.pass.short),
-    omega (arith, c.requires.0.pass.inside, c.requires.0.pass.short),
-    omega (arith, y.within, c.requires.0.pass.short),
+      omega (arith, c.requires.0.few, c.requires.0.pass.inside, c.requires.0.pass.short),
+      omega (arith, c.requires.0.narrow, c.requires.0.pass.inside, c.requires.0.pass.short),
+      omega (arith, c.requires.0.pass.inside, c.requires.0.pass.short),
+      omega (arith, y.within, c.requires.0.pass.short),
     )
 
 pub returns : goal.returns

@@ -16,14 +16,13 @@ moved_on-q-requires c =
     omega (arith, fits-room c.args.p.cursor c.tab_width-width.result (sym c.fits.ensures ∙ c.if-fits.true), c.requires.0.place)
 
 pub draws_space-look-requires : goal.draws_space-look-requires
-draws_space-look-requires c =
-    (
-    c.requires.0.settings,
-    tab-moved c.args.p _ c.tab_width-width.result c.requires.0.place c.moved_on-q.ensures (sym c.fits.ensures ∙ c.if-fits.true),
-    c.requires.0.short,
-    c.requires.0.stands.within,
-    tab_foresees c.args.s c.args.p c.requires.0.stands c.requires.1 c.args.seen c.requires.2 _ c.tab_width-width.ensures _ c.moved_on-q.ensures,
-    )
+draws_space-look-requires c = (
+  c.requires.0.settings,
+  tab-moved c.args.p _ c.tab_width-width.result c.requires.0.place c.moved_on-q.ensures (sym c.fits.ensures ∙ c.if-fits.true),
+  c.requires.0.short,
+  c.requires.0.stands.within,
+  tab_foresees c.args.s c.args.p c.requires.0.stands c.requires.1 c.args.seen c.requires.2 _ c.tab_width-width.ensures _ c.moved_on-q.ensures,
+)
 
 pub put_one-requires : goal.put_one-requires
 put_one-requires c =

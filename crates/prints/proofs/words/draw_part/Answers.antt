@@ -15,9 +15,17 @@ overflow_mul-n c =
 
 pub put_one-requires : goal.put_one-requires
 unfolding part_of
-put_one-requires c =
-    (omega (arith, c.requires.0.few), omega (arith, c.requires.0.narrow, (let wide_here : c.args.n * c.args.glyph ≤ 65535 * 64 = times_bound {n = 65535} c.args.n c.args.glyph c.requires.0.many c.requires.0.glyph in wide_here)), omega (arith, c.requires.0.inside, c.requires.0.short), omega (arith, (let ends_here : c.args.part.end.0 ≤ length c.args.text.now = let cs = chars_from c.args.text.now c.args.at in
-    omega (arith, ap (λ (q : Part). q.end.0) c.requires.1.0, size-take c.args.n cs, chars-within c.args.text.now c.args.at, c.requires.0.inside) in ends_here), c.requires.0.short))
+put_one-requires c = (
+  omega (arith, c.requires.0.few),
+  omega (arith, c.requires.0.narrow, (let wide_here : c.args.n * c.args.glyph ≤ 65535 * 64 = times_bound {n = 65535} c.args.n c.args.glyph c.requires.0.many c.requires.0.glyph in wide_here)),
+  omega (arith, c.requires.0.inside, c.requires.0.short),
+  omega (
+    arith,
+    (let ends_here : c.args.part.end.0 ≤ length c.args.text.now = let cs = chars_from c.args.text.now c.args.at in
+        omega (arith, ap (λ (q : Part). q.end.0) c.requires.1.0, size-take c.args.n cs, chars-within c.args.text.now c.args.at, c.requires.0.inside) in ends_here),
+    c.requires.0.short,
+  ),
+)
 
 pub returns-then-part-eq0 : goal.returns-then-part-eq0
 returns-then-part-eq0 c =
