@@ -1,5 +1,6 @@
 // The public calls that lay a text.
 #![tactic(auto)]
+
 pub mod checked;
 pub mod cuts;
 pub mod drawn;

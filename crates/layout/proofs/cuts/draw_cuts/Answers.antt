@@ -24,14 +24,13 @@ write_entry-requires c =
     went-room _ _ _ _ _ _ _ _ c.loop-left.invariant.0 c.requires.room_from.0.0
 
 pub draw_part-k-requires : goal.draw_part-k-requires
-draw_part-k-requires c =
-    (
-    placed-room _ _ _ _ _ c.loop-left.invariant.0.ready c.requires.stand_ready.2 c.requires.stand_ready.1 _ _ _ _ c.cut_row-next.ensures.found_row _ c.plain_entry-entry.ensures _
-    (few-before _ _ _ _ _ _ _ _ c.loop-left.invariant.1 c.requires.room_from.1),
-    cut-to-draw c.args.s c.args.text.now c.loop-left.at _ c.args.most _ _ _ _ _ c.loop-left.invariant.2 c.requires.room_from.0.1.some c.loop-left-test.true c.cut_row-next.ensures.between
-    c.cut_row-next.ensures.found_row.inside c.loop-left.invariant.0.ready.line.settings.0 c.requires.stand_ready.2
-    (left-fits _ _ _ _ _ c.loop-left.invariant.0.ready c.requires.stand_ready.2 c.requires.stand_ready.1 _ _ _ _ c.cut_row-next.ensures.found_row _ c.plain_entry-entry.ensures),
-    )
+draw_part-k-requires c = (
+  placed-room _ _ _ _ _ c.loop-left.invariant.0.ready c.requires.stand_ready.2 c.requires.stand_ready.1 _ _ _ _ c.cut_row-next.ensures.found_row _ c.plain_entry-entry.ensures _
+      (few-before _ _ _ _ _ _ _ _ c.loop-left.invariant.1 c.requires.room_from.1),
+  cut-to-draw c.args.s c.args.text.now c.loop-left.at _ c.args.most _ _ _ _ _ c.loop-left.invariant.2 c.requires.room_from.0.1.some c.loop-left-test.true c.cut_row-next.ensures.between
+      c.cut_row-next.ensures.found_row.inside c.loop-left.invariant.0.ready.line.settings.0 c.requires.stand_ready.2
+      (left-fits _ _ _ _ _ c.loop-left.invariant.0.ready c.requires.stand_ready.2 c.requires.stand_ready.1 _ _ _ _ c.cut_row-next.ensures.found_row _ c.plain_entry-entry.ensures),
+)
 
 pub overflow_add-n : goal.overflow_add-n
 overflow_add-n c =
@@ -54,15 +53,14 @@ loop-left-smaller c =
     omega (arith, c.loop-left-test.true, c.requires.room_from.0.1.some)
 
 pub loop-left-preserved : goal.loop-left-preserved
-loop-left-preserved c =
-    (
-    found-went _ _ _ _ _ _ _ _ _ c.loop-left.invariant.0 c.requires.room_from.0.0 _ c.requires.stand_ready.2 c.requires.stand_ready.1 LineBreak _ _ _ _ c.cut_row-next.ensures.found_row _ c.plain_entry-entry.ensures _
-    c.write_entry.ensures c.write_entry.auto.table refl,
-    placed-drew _ _ _ _ _ c.loop-left.invariant.0.ready c.requires.stand_ready.2 c.requires.stand_ready.1 _ _ _ _ c.cut_row-next.ensures.found_row _ c.plain_entry-entry.ensures _ _ _ _ _ c.loop-left.invariant.1 _ _ c.draw_part-k.ensures.events_after
-    c.draw_part-k.ensures.value c.draw_part-k.auto.events,
-    c.cut_row-next.ensures.left_word_2,
-    λ _. omega (arith, c.loop-left.invariant.0.forward, c.cut_row-next.ensures.found_row.forward),
-    )
+loop-left-preserved c = (
+  found-went _ _ _ _ _ _ _ _ _ c.loop-left.invariant.0 c.requires.room_from.0.0 _ c.requires.stand_ready.2 c.requires.stand_ready.1 LineBreak _ _ _ _ c.cut_row-next.ensures.found_row _ c.plain_entry-entry.ensures _
+      c.write_entry.ensures c.write_entry.auto.table refl,
+  placed-drew _ _ _ _ _ c.loop-left.invariant.0.ready c.requires.stand_ready.2 c.requires.stand_ready.1 _ _ _ _ c.cut_row-next.ensures.found_row _ c.plain_entry-entry.ensures _ _ _ _ _ c.loop-left.invariant.1 _ _ c.draw_part-k.ensures.events_after
+      c.draw_part-k.ensures.value c.draw_part-k.auto.events,
+  c.cut_row-next.ensures.left_word_2,
+  λ _. omega (arith, c.loop-left.invariant.0.forward, c.cut_row-next.ensures.found_row.forward),
+)
 
 pub shape_of-table : goal.shape_of-table
 shape_of-table c =

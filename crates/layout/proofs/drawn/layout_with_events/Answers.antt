@@ -22,7 +22,11 @@ write_and_draw-both-requires c =
 
 pub returns : goal.returns
 returns c =
-    record { value = (drawing-done _ _ _ _ (sym c.check_layout-checked.ensures ∙ c.in_default.is) (sym c.check_events-room.ensures ∙ c.in_default-room.is)
-    _ _ c.write_and_draw-both.ensures.lines_value c.write_and_draw-both.ensures.events_value _ c.write_and_draw-both.ensures.table_after _ c.write_and_draw-both.ensures.events_after).0; table_after = (drawing-done _ _ _ _ (sym c.check_layout-checked.ensures ∙ c.in_default.is) (sym c.check_events-room.ensures ∙ c.in_default-room.is)
-    _ _ c.write_and_draw-both.ensures.lines_value c.write_and_draw-both.ensures.events_value _ c.write_and_draw-both.ensures.table_after _ c.write_and_draw-both.ensures.events_after).1.0; events_after = (drawing-done _ _ _ _ (sym c.check_layout-checked.ensures ∙ c.in_default.is) (sym c.check_events-room.ensures ∙ c.in_default-room.is)
-    _ _ c.write_and_draw-both.ensures.lines_value c.write_and_draw-both.ensures.events_value _ c.write_and_draw-both.ensures.table_after _ c.write_and_draw-both.ensures.events_after).1.1 }
+    record {
+      value = (drawing-done _ _ _ _ (sym c.check_layout-checked.ensures ∙ c.in_default.is) (sym c.check_events-room.ensures ∙ c.in_default-room.is)
+          _ _ c.write_and_draw-both.ensures.lines_value c.write_and_draw-both.ensures.events_value _ c.write_and_draw-both.ensures.table_after _ c.write_and_draw-both.ensures.events_after).0;
+      table_after = (drawing-done _ _ _ _ (sym c.check_layout-checked.ensures ∙ c.in_default.is) (sym c.check_events-room.ensures ∙ c.in_default-room.is)
+          _ _ c.write_and_draw-both.ensures.lines_value c.write_and_draw-both.ensures.events_value _ c.write_and_draw-both.ensures.table_after _ c.write_and_draw-both.ensures.events_after).1.0;
+      events_after = (drawing-done _ _ _ _ (sym c.check_layout-checked.ensures ∙ c.in_default.is) (sym c.check_events-room.ensures ∙ c.in_default-room.is)
+          _ _ c.write_and_draw-both.ensures.lines_value c.write_and_draw-both.ensures.events_value _ c.write_and_draw-both.ensures.table_after _ c.write_and_draw-both.ensures.events_after).1.1;
+    }

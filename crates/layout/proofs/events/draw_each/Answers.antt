@@ -50,10 +50,9 @@ loop-s-smaller c =
     omega (arith, further _ _ _ c.loop-s.invariant.1.ready _ c.lay_row-row.ensures _ c.next_stand-stand.ensures c.if-row.false, stays _ _ _ c.loop-s.invariant.1.ready _ c.lay_row-row.ensures _ c.next_stand-stand.ensures)
 
 pub loop-s-preserved : goal.loop-s-preserved
-loop-s-preserved c =
-    (
-    write_next _ _ _ _ _ _ c.loop-s.invariant.0 c.requires.text_in_bounds _ c.lay_row-row.ensures _ c.write_entry.ensures c.write_entry.auto.table _ c.next_stand-stand.ensures
-    c.if-row.false,
-    draw-next _ _ _ _ _ _ c.loop-s.invariant.1 _ c.lay_row-row.ensures _ _ c.draw_line-drawn.ensures.events_after c.draw_line-drawn.ensures.value c.draw_line-drawn.auto.events _ c.next_stand-stand.ensures
-    c.if-row.false,
-    )
+loop-s-preserved c = (
+  write_next _ _ _ _ _ _ c.loop-s.invariant.0 c.requires.text_in_bounds _ c.lay_row-row.ensures _ c.write_entry.ensures c.write_entry.auto.table _ c.next_stand-stand.ensures
+      c.if-row.false,
+  draw-next _ _ _ _ _ _ c.loop-s.invariant.1 _ c.lay_row-row.ensures _ _ c.draw_line-drawn.ensures.events_after c.draw_line-drawn.ensures.value c.draw_line-drawn.auto.events _ c.next_stand-stand.ensures
+      c.if-row.false,
+)

@@ -25,9 +25,12 @@ shape_of-events-then-row c =
 
 pub returns-then-row : goal.returns-then-row
 returns-then-row c =
-    record { value = (draw-last _ _ _ _ _ _ c.loop-s.invariant _ c.lay_row-row.ensures _ _ c.draw_line-k.ensures.events_after c.draw_line-k.ensures.value
-    c.draw_line-k.auto.events c.if-row.true).0; events_after = (draw-last _ _ _ _ _ _ c.loop-s.invariant _ c.lay_row-row.ensures _ _ c.draw_line-k.ensures.events_after c.draw_line-k.ensures.value
-    c.draw_line-k.auto.events c.if-row.true).1 }
+    record {
+      value = (draw-last _ _ _ _ _ _ c.loop-s.invariant _ c.lay_row-row.ensures _ _ c.draw_line-k.ensures.events_after c.draw_line-k.ensures.value
+          c.draw_line-k.auto.events c.if-row.true).0;
+      events_after = (draw-last _ _ _ _ _ _ c.loop-s.invariant _ c.lay_row-row.ensures _ _ c.draw_line-k.ensures.events_after c.draw_line-k.ensures.value
+          c.draw_line-k.auto.events c.if-row.true).1;
+    }
 
 pub next_stand-stand-requires : goal.next_stand-stand-requires
 next_stand-stand-requires c =
