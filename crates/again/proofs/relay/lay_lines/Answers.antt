@@ -28,54 +28,66 @@ find_stop-found-requires c =
 
 pub overflow_sub-left : goal.overflow_sub-left
 overflow_sub-left c =
-    omega (arith, kept-within _ _ _ _ _ _ _ _ _ ((let sought_here : Sought c.args.s c.args.part.now c.args.table.now c.args.lines c.args.edit c.args.k c.read_entry-e.result c.at_front-front.result c.find_stop-found.result = record {
-    good = c.requires.0;
-    first = c.requires.1;
-    entry = c.read_entry-e.ensures;
-    stand = (let stands_here : StandsAt c.args.part.now text_front c.read_entry-e.result.before.0 (resumed_of c.read_entry-e.result (decode_all c.args.part.now)) c.at_front-front.result = record { at-is = c.at_front-front.ensures.at-is; before-is = c.at_front-front.ensures.before-is; rest-is = c.at_front-front.ensures.rest-is ∙ c.held_of.ensures; known = c.at_front-front.ensures.known } in stands_here);
-    finds = c.find_stop-found.ensures.value;
-    few = c.find_stop-found.ensures.before_bound;
-    } in sought_here)))
+    omega (
+      arith,
+      kept-within _ _ _ _ _ _ _ _ _ ((let sought_here : Sought c.args.s c.args.part.now c.args.table.now c.args.lines c.args.edit c.args.k c.read_entry-e.result c.at_front-front.result c.find_stop-found.result = record {
+        good = c.requires.0;
+        first = c.requires.1;
+        entry = c.read_entry-e.ensures;
+        stand = (let stands_here : StandsAt c.args.part.now text_front c.read_entry-e.result.before.0 (resumed_of c.read_entry-e.result (decode_all c.args.part.now)) c.at_front-front.result = record { at-is = c.at_front-front.ensures.at-is; before-is = c.at_front-front.ensures.before-is; rest-is = c.at_front-front.ensures.rest-is ∙ c.held_of.ensures; known = c.at_front-front.ensures.known } in stands_here);
+        finds = c.find_stop-found.ensures.value;
+        few = c.find_stop-found.ensures.before_bound;
+      } in sought_here)),
+    )
 
 pub overflow_add-to : goal.overflow_add-to
 overflow_add-to c =
-    omega (arith, counts-low _ _ _ _ _ _ _ _ _ ((let sought_here : Sought c.args.s c.args.part.now c.args.table.now c.args.lines c.args.edit c.args.k c.read_entry-e.result c.at_front-front.result c.find_stop-found.result = record {
-    good = c.requires.0;
-    first = c.requires.1;
-    entry = c.read_entry-e.ensures;
-    stand = (let stands_here : StandsAt c.args.part.now text_front c.read_entry-e.result.before.0 (resumed_of c.read_entry-e.result (decode_all c.args.part.now)) c.at_front-front.result = record { at-is = c.at_front-front.ensures.at-is; before-is = c.at_front-front.ensures.before-is; rest-is = c.at_front-front.ensures.rest-is ∙ c.held_of.ensures; known = c.at_front-front.ensures.known } in stands_here);
-    finds = c.find_stop-found.ensures.value;
-    few = c.find_stop-found.ensures.before_bound;
-    } in sought_here)))
+    omega (
+      arith,
+      counts-low _ _ _ _ _ _ _ _ _ ((let sought_here : Sought c.args.s c.args.part.now c.args.table.now c.args.lines c.args.edit c.args.k c.read_entry-e.result c.at_front-front.result c.find_stop-found.result = record {
+        good = c.requires.0;
+        first = c.requires.1;
+        entry = c.read_entry-e.ensures;
+        stand = (let stands_here : StandsAt c.args.part.now text_front c.read_entry-e.result.before.0 (resumed_of c.read_entry-e.result (decode_all c.args.part.now)) c.at_front-front.result = record { at-is = c.at_front-front.ensures.at-is; before-is = c.at_front-front.ensures.before-is; rest-is = c.at_front-front.ensures.rest-is ∙ c.held_of.ensures; known = c.at_front-front.ensures.known } in stands_here);
+        finds = c.find_stop-found.ensures.value;
+        few = c.find_stop-found.ensures.before_bound;
+      } in sought_here)),
+    )
 
 pub overflow_add-after : goal.overflow_add-after
 overflow_add-after c =
-    omega (arith, counts-low _ _ _ _ _ _ _ _ _ ((let sought_here : Sought c.args.s c.args.part.now c.args.table.now c.args.lines c.args.edit c.args.k c.read_entry-e.result c.at_front-front.result c.find_stop-found.result = record {
-    good = c.requires.0;
-    first = c.requires.1;
-    entry = c.read_entry-e.ensures;
-    stand = (let stands_here : StandsAt c.args.part.now text_front c.read_entry-e.result.before.0 (resumed_of c.read_entry-e.result (decode_all c.args.part.now)) c.at_front-front.result = record { at-is = c.at_front-front.ensures.at-is; before-is = c.at_front-front.ensures.before-is; rest-is = c.at_front-front.ensures.rest-is ∙ c.held_of.ensures; known = c.at_front-front.ensures.known } in stands_here);
-    finds = c.find_stop-found.ensures.value;
-    few = c.find_stop-found.ensures.before_bound;
-    } in sought_here)))
+    omega (
+      arith,
+      counts-low _ _ _ _ _ _ _ _ _ ((let sought_here : Sought c.args.s c.args.part.now c.args.table.now c.args.lines c.args.edit c.args.k c.read_entry-e.result c.at_front-front.result c.find_stop-found.result = record {
+        good = c.requires.0;
+        first = c.requires.1;
+        entry = c.read_entry-e.ensures;
+        stand = (let stands_here : StandsAt c.args.part.now text_front c.read_entry-e.result.before.0 (resumed_of c.read_entry-e.result (decode_all c.args.part.now)) c.at_front-front.result = record { at-is = c.at_front-front.ensures.at-is; before-is = c.at_front-front.ensures.before-is; rest-is = c.at_front-front.ensures.rest-is ∙ c.held_of.ensures; known = c.at_front-front.ensures.known } in stands_here);
+        finds = c.find_stop-found.ensures.value;
+        few = c.find_stop-found.ensures.before_bound;
+      } in sought_here)),
+    )
 
 pub returns-then-table-after : goal.returns-then-table-after
 returns-then-table-after c =
-    record { value = (no_room _ _ _ _ _ _ _ _ _ ((let sought_here : Sought c.args.s c.args.part.now c.args.table.now c.args.lines c.args.edit c.args.k c.read_entry-e.result c.at_front-front.result c.find_stop-found.result = record {
-    good = c.requires.0;
-    first = c.requires.1;
-    entry = c.read_entry-e.ensures;
-    stand = (let stands_here : StandsAt c.args.part.now text_front c.read_entry-e.result.before.0 (resumed_of c.read_entry-e.result (decode_all c.args.part.now)) c.at_front-front.result = record { at-is = c.at_front-front.ensures.at-is; before-is = c.at_front-front.ensures.before-is; rest-is = c.at_front-front.ensures.rest-is ∙ c.held_of.ensures; known = c.at_front-front.ensures.known } in stands_here);
-    finds = c.find_stop-found.ensures.value;
-    few = c.find_stop-found.ensures.before_bound;
-    } in sought_here)) c.if-table-after.true).0; table_after = (no_room _ _ _ _ _ _ _ _ _ ((let sought_here : Sought c.args.s c.args.part.now c.args.table.now c.args.lines c.args.edit c.args.k c.read_entry-e.result c.at_front-front.result c.find_stop-found.result = record {
-    good = c.requires.0;
-    first = c.requires.1;
-    entry = c.read_entry-e.ensures;
-    stand = (let stands_here : StandsAt c.args.part.now text_front c.read_entry-e.result.before.0 (resumed_of c.read_entry-e.result (decode_all c.args.part.now)) c.at_front-front.result = record { at-is = c.at_front-front.ensures.at-is; before-is = c.at_front-front.ensures.before-is; rest-is = c.at_front-front.ensures.rest-is ∙ c.held_of.ensures; known = c.at_front-front.ensures.known } in stands_here);
-    finds = c.find_stop-found.ensures.value;
-    few = c.find_stop-found.ensures.before_bound;
-    } in sought_here)) c.if-table-after.true).1 }
+    record {
+      value = (no_room _ _ _ _ _ _ _ _ _ ((let sought_here : Sought c.args.s c.args.part.now c.args.table.now c.args.lines c.args.edit c.args.k c.read_entry-e.result c.at_front-front.result c.find_stop-found.result = record {
+        good = c.requires.0;
+        first = c.requires.1;
+        entry = c.read_entry-e.ensures;
+        stand = (let stands_here : StandsAt c.args.part.now text_front c.read_entry-e.result.before.0 (resumed_of c.read_entry-e.result (decode_all c.args.part.now)) c.at_front-front.result = record { at-is = c.at_front-front.ensures.at-is; before-is = c.at_front-front.ensures.before-is; rest-is = c.at_front-front.ensures.rest-is ∙ c.held_of.ensures; known = c.at_front-front.ensures.known } in stands_here);
+        finds = c.find_stop-found.ensures.value;
+        few = c.find_stop-found.ensures.before_bound;
+      } in sought_here)) c.if-table-after.true).0;
+      table_after = (no_room _ _ _ _ _ _ _ _ _ ((let sought_here : Sought c.args.s c.args.part.now c.args.table.now c.args.lines c.args.edit c.args.k c.read_entry-e.result c.at_front-front.result c.find_stop-found.result = record {
+        good = c.requires.0;
+        first = c.requires.1;
+        entry = c.read_entry-e.ensures;
+        stand = (let stands_here : StandsAt c.args.part.now text_front c.read_entry-e.result.before.0 (resumed_of c.read_entry-e.result (decode_all c.args.part.now)) c.at_front-front.result = record { at-is = c.at_front-front.ensures.at-is; before-is = c.at_front-front.ensures.before-is; rest-is = c.at_front-front.ensures.rest-is ∙ c.held_of.ensures; known = c.at_front-front.ensures.known } in stands_here);
+        finds = c.find_stop-found.ensures.value;
+        few = c.find_stop-found.ensures.before_bound;
+      } in sought_here)) c.if-table-after.true).1;
+    }
 
 pub count_before-from-requires : goal.count_before-from-requires
 count_before-from-requires c =
@@ -84,42 +96,45 @@ count_before-from-requires c =
 pub move_lines-requires : goal.move_lines-requires
 move_lines-requires c =
     movable _ _ _ _ _ _ _ _ _ ((let sought_here : Sought c.args.s c.args.part.now c.args.table.now c.args.lines c.args.edit c.args.k c.read_entry-e.result c.at_front-front.result c.find_stop-found.result = record {
-    good = c.requires.0;
-    first = c.requires.1;
-    entry = c.read_entry-e.ensures;
-    stand = (let stands_here : StandsAt c.args.part.now text_front c.read_entry-e.result.before.0 (resumed_of c.read_entry-e.result (decode_all c.args.part.now)) c.at_front-front.result = record { at-is = c.at_front-front.ensures.at-is; before-is = c.at_front-front.ensures.before-is; rest-is = c.at_front-front.ensures.rest-is ∙ c.held_of.ensures; known = c.at_front-front.ensures.known } in stands_here);
-    finds = c.find_stop-found.ensures.value;
-    few = c.find_stop-found.ensures.before_bound;
+      good = c.requires.0;
+      first = c.requires.1;
+      entry = c.read_entry-e.ensures;
+      stand = (let stands_here : StandsAt c.args.part.now text_front c.read_entry-e.result.before.0 (resumed_of c.read_entry-e.result (decode_all c.args.part.now)) c.at_front-front.result = record { at-is = c.at_front-front.ensures.at-is; before-is = c.at_front-front.ensures.before-is; rest-is = c.at_front-front.ensures.rest-is ∙ c.held_of.ensures; known = c.at_front-front.ensures.known } in stands_here);
+      finds = c.find_stop-found.ensures.value;
+      few = c.find_stop-found.ensures.before_bound;
     } in sought_here)) c.if-table-after.false _ c.count_before-from.ensures
 
 pub write_again-requires : goal.write_again-requires
 write_again-requires c =
     write_ready _ _ _ _ _ _ _ _ _ ((let sought_here : Sought c.args.s c.args.part.now c.args.table.now c.args.lines c.args.edit c.args.k c.read_entry-e.result c.at_front-front.result c.find_stop-found.result = record {
-    good = c.requires.0;
-    first = c.requires.1;
-    entry = c.read_entry-e.ensures;
-    stand = (let stands_here : StandsAt c.args.part.now text_front c.read_entry-e.result.before.0 (resumed_of c.read_entry-e.result (decode_all c.args.part.now)) c.at_front-front.result = record { at-is = c.at_front-front.ensures.at-is; before-is = c.at_front-front.ensures.before-is; rest-is = c.at_front-front.ensures.rest-is ∙ c.held_of.ensures; known = c.at_front-front.ensures.known } in stands_here);
-    finds = c.find_stop-found.ensures.value;
-    few = c.find_stop-found.ensures.before_bound;
+      good = c.requires.0;
+      first = c.requires.1;
+      entry = c.read_entry-e.ensures;
+      stand = (let stands_here : StandsAt c.args.part.now text_front c.read_entry-e.result.before.0 (resumed_of c.read_entry-e.result (decode_all c.args.part.now)) c.at_front-front.result = record { at-is = c.at_front-front.ensures.at-is; before-is = c.at_front-front.ensures.before-is; rest-is = c.at_front-front.ensures.rest-is ∙ c.held_of.ensures; known = c.at_front-front.ensures.known } in stands_here);
+      finds = c.find_stop-found.ensures.value;
+      few = c.find_stop-found.ensures.before_bound;
     } in sought_here)) c.if-table-after.false _ c.count_before-from.ensures _ c.move_lines.ensures
     c.move_lines.auto.table
 
 pub returns : goal.returns
 returns c =
-    record { value = (relaid_whole _ _ _ _ _ _ _ _ _ ((let sought_here : Sought c.args.s c.args.part.now c.args.table.now c.args.lines c.args.edit c.args.k c.read_entry-e.result c.at_front-front.result c.find_stop-found.result = record {
-    good = c.requires.0;
-    first = c.requires.1;
-    entry = c.read_entry-e.ensures;
-    stand = (let stands_here : StandsAt c.args.part.now text_front c.read_entry-e.result.before.0 (resumed_of c.read_entry-e.result (decode_all c.args.part.now)) c.at_front-front.result = record { at-is = c.at_front-front.ensures.at-is; before-is = c.at_front-front.ensures.before-is; rest-is = c.at_front-front.ensures.rest-is ∙ c.held_of.ensures; known = c.at_front-front.ensures.known } in stands_here);
-    finds = c.find_stop-found.ensures.value;
-    few = c.find_stop-found.ensures.before_bound;
-    } in sought_here)) c.if-table-after.false _ c.count_before-from.ensures _ c.move_lines.ensures
-    c.move_lines.auto.table _ c.write_again.ensures).0; table_after = (relaid_whole _ _ _ _ _ _ _ _ _ ((let sought_here : Sought c.args.s c.args.part.now c.args.table.now c.args.lines c.args.edit c.args.k c.read_entry-e.result c.at_front-front.result c.find_stop-found.result = record {
-    good = c.requires.0;
-    first = c.requires.1;
-    entry = c.read_entry-e.ensures;
-    stand = (let stands_here : StandsAt c.args.part.now text_front c.read_entry-e.result.before.0 (resumed_of c.read_entry-e.result (decode_all c.args.part.now)) c.at_front-front.result = record { at-is = c.at_front-front.ensures.at-is; before-is = c.at_front-front.ensures.before-is; rest-is = c.at_front-front.ensures.rest-is ∙ c.held_of.ensures; known = c.at_front-front.ensures.known } in stands_here);
-    finds = c.find_stop-found.ensures.value;
-    few = c.find_stop-found.ensures.before_bound;
-    } in sought_here)) c.if-table-after.false _ c.count_before-from.ensures _ c.move_lines.ensures
-    c.move_lines.auto.table _ c.write_again.ensures).1 }
+    record {
+      value = (relaid_whole _ _ _ _ _ _ _ _ _ ((let sought_here : Sought c.args.s c.args.part.now c.args.table.now c.args.lines c.args.edit c.args.k c.read_entry-e.result c.at_front-front.result c.find_stop-found.result = record {
+        good = c.requires.0;
+        first = c.requires.1;
+        entry = c.read_entry-e.ensures;
+        stand = (let stands_here : StandsAt c.args.part.now text_front c.read_entry-e.result.before.0 (resumed_of c.read_entry-e.result (decode_all c.args.part.now)) c.at_front-front.result = record { at-is = c.at_front-front.ensures.at-is; before-is = c.at_front-front.ensures.before-is; rest-is = c.at_front-front.ensures.rest-is ∙ c.held_of.ensures; known = c.at_front-front.ensures.known } in stands_here);
+        finds = c.find_stop-found.ensures.value;
+        few = c.find_stop-found.ensures.before_bound;
+      } in sought_here)) c.if-table-after.false _ c.count_before-from.ensures _ c.move_lines.ensures
+          c.move_lines.auto.table _ c.write_again.ensures).0;
+      table_after = (relaid_whole _ _ _ _ _ _ _ _ _ ((let sought_here : Sought c.args.s c.args.part.now c.args.table.now c.args.lines c.args.edit c.args.k c.read_entry-e.result c.at_front-front.result c.find_stop-found.result = record {
+        good = c.requires.0;
+        first = c.requires.1;
+        entry = c.read_entry-e.ensures;
+        stand = (let stands_here : StandsAt c.args.part.now text_front c.read_entry-e.result.before.0 (resumed_of c.read_entry-e.result (decode_all c.args.part.now)) c.at_front-front.result = record { at-is = c.at_front-front.ensures.at-is; before-is = c.at_front-front.ensures.before-is; rest-is = c.at_front-front.ensures.rest-is ∙ c.held_of.ensures; known = c.at_front-front.ensures.known } in stands_here);
+        finds = c.find_stop-found.ensures.value;
+        few = c.find_stop-found.ensures.before_bound;
+      } in sought_here)) c.if-table-after.false _ c.count_before-from.ensures _ c.move_lines.ensures
+          c.move_lines.auto.table _ c.write_again.ensures).1;
+    }

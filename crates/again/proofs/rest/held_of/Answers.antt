@@ -14,10 +14,10 @@ chars_before-chars-requires c =
 pub overflow_cast-result-2 : goal.overflow_cast-result-2
 overflow_cast-result-2 c =
     omega (
-    arith,
-    c.requires.2,
-    few-chars _ _ c.requires.0 (sym c.has_no_rest.ensures ∙ c.if-has_no_rest.false) _ c.rest_end-end.ensures _
-    c.chars_before-chars.ensures,
+      arith,
+      c.requires.2,
+      few-chars _ _ c.requires.0 (sym c.has_no_rest.ensures ∙ c.if-has_no_rest.false) _ c.rest_end-end.ensures _
+          c.chars_before-chars.ensures,
     )
 
 pub returns : goal.returns

@@ -26,8 +26,11 @@ meets_first-requires c =
 
 pub returns-then-meets_first : goal.returns-then-meets_first
 returns-then-meets_first c =
-    record { value = c.found_at.ensures
-    ∙ stops _ _ _ _ _ _ _ _ _ _ _ c.loop-s.invariant c.skip_before-j.ensures _ c.rest_behind-rest.ensures (sym c.meets_first.ensures ∙ c.if-meets_first.true); before_bound = omega (arith, ap (λ (f : Found). f.before.0) c.found_at.ensures, stop-few _ _ _ _ _ _ _ _ _ _ _ c.loop-s.invariant c.skip_before-j.ensures) }
+    record {
+      value = c.found_at.ensures
+          ∙ stops _ _ _ _ _ _ _ _ _ _ _ c.loop-s.invariant c.skip_before-j.ensures _ c.rest_behind-rest.ensures (sym c.meets_first.ensures ∙ c.if-meets_first.true);
+      before_bound = omega (arith, ap (λ (f : Found). f.before.0) c.found_at.ensures, stop-few _ _ _ _ _ _ _ _ _ _ _ c.loop-s.invariant c.skip_before-j.ensures);
+    }
 
 pub lay_row-row-requires : goal.lay_row-row-requires
 lay_row-row-requires c =
@@ -39,9 +42,12 @@ overflow_add-n c =
 
 pub returns-then-row : goal.returns-then-row
 returns-then-row c =
-    record { value = c.found_at-then-row.ensures
-    ∙ finds-last _ _ _ _ _ _ _ _ _ _ _ c.loop-s.invariant c.skip_before-j.ensures _ c.rest_behind-rest.ensures
-    (sym c.meets_first.ensures ∙ c.if-meets_first.false) c.requires.rising _ c.lay_row-row.ensures c.if-row.true; before_bound = omega (arith, ap (λ (f : Found). f.before.0) c.found_at-then-row.ensures) }
+    record {
+      value = c.found_at-then-row.ensures
+          ∙ finds-last _ _ _ _ _ _ _ _ _ _ _ c.loop-s.invariant c.skip_before-j.ensures _ c.rest_behind-rest.ensures
+          (sym c.meets_first.ensures ∙ c.if-meets_first.false) c.requires.rising _ c.lay_row-row.ensures c.if-row.true;
+      before_bound = omega (arith, ap (λ (f : Found). f.before.0) c.found_at-then-row.ensures);
+    }
 
 pub next_stand-stand-requires : goal.next_stand-stand-requires
 next_stand-stand-requires c =

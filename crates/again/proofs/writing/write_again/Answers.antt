@@ -15,18 +15,9 @@ pub entry_behind-whole-requires : goal.entry_behind-whole-requires
 entry_behind-whole-requires c =
     (c.requires.low, line-movable _ _ _ _ _ _ _ _ _ _ c.loop-n.invariant _ c.lay_row-row.ensures)
 
--- The line is one of those that the table has room for.
-pub overflow_add-k : goal.overflow_add-k
-overflow_add-k c =
-    omega (arith, c.loop-n-test.true, c.requires.room, c.well-formed.1.1.0.0)
-
 pub write_entry-requires : goal.write_entry-requires
 write_entry-requires c =
     omega (arith, c.loop-n-test.true, c.requires.room, c.loop-n.invariant.same)
-
-pub overflow_add-n : goal.overflow_add-n
-overflow_add-n c =
-    omega (arith, c.loop-n-test.true, c.requires.room, c.well-formed.1.1.0.0)
 
 pub next_stand-stand-requires : goal.next_stand-stand-requires
 next_stand-stand-requires c =
