@@ -235,6 +235,18 @@ link_commands() { # FOLDER BUT..
     for but; do rm -f "$links"/$but; done
 }
 
+# Copies crates of the repository, without what rt has left in them.
+copy_crates() { # FOLDER CRATE..
+    to_copy=$1
+    shift
+    for each; do
+        mkdir -p "$to_copy/crates/$each"
+        for part in "$root/crates/$each"/*; do
+            case $part in */out | */'*') ;; *) cp -R "$part" "$to_copy/crates/$each" ;; esac
+        done
+    done
+}
+
 # Removes a copy of the repository in which rt has worked. rt takes what it has built in one copy for another one, as long as there is the
 # stamp: so the stamps go first, and never a part of what they stand for alone.
 remove_copy() { # FOLDER
