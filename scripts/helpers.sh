@@ -235,8 +235,28 @@ link_commands() { # FOLDER BUT..
     for but; do rm -f "$links"/$but; done
 }
 
+# Copies crates of the repository, without what rt has left in them.
+copy_crates() { # FOLDER CRATE..
+    to_copy=$1
+    shift
+    for each; do
+        mkdir -p "$to_copy/crates/$each"
+        for part in "$root/crates/$each"/*; do
+            case $part in */out | */'*') ;; *) cp -R "$part" "$to_copy/crates/$each" ;; esac
+        done
+    done
+}
+
+# Removes a copy of the repository in which rt has worked. rt takes what it has built in one copy for another one, as long as there is the
+# stamp: so the stamps go first, and never a part of what they stand for alone.
+remove_copy() { # FOLDER
+    rm -f "$1"/crates/*/out/rlib/stamp
+    rm -rf "$1"
+}
+
 # Removes from a folder of what was tried what rt ci refuses in a repository: links, and sources that no crate has.
 leave_to_rt() { # FOLDER
+    find "$1" -path '*/out/rlib/stamp' -delete 2>/dev/null || true
     find "$1" \( -type l -o -name '*.rt' -o -name '*.antt' \) -delete 2>/dev/null || true
 }
 

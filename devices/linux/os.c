@@ -1,15 +1,12 @@
 /*
- * What the programs pages and month ask of the system besides the C library: their words, a file to read, and errno. The Rattle kit has
- * functions of these names for the programs that rt makes; here are those for the modules of dist/, on Linux. A slice is a pointer and
- * how many bytes it has.
+ * What the programs of dist/ ask of the system besides the C library: their words, and errno. The Rattle kit has functions of these
+ * names for the programs that rt makes; here are those for the modules of dist/, on Linux. A slice is a pointer and how many bytes it
+ * has.
  */
-#define _POSIX_C_SOURCE 200809L
 #include <errno.h>
-#include <fcntl.h>
 #include <stdint.h>
 #include <string.h>
 
-int32_t rattle_open_to_read(const char *path);
 int32_t rattle_errno(void);
 void rattle_set_errno(int32_t number);
 uint64_t rattle_arg_count(void);
@@ -39,11 +36,6 @@ int64_t rattle_arg(uint64_t which, uint8_t *to, uint64_t room)
     uint64_t length = strlen(words[which]);
     memcpy(to, words[which], length < room ? length : room);
     return length <= room ? (int64_t)length : -2;
-}
-
-int32_t rattle_open_to_read(const char *path)
-{
-    return open(path, O_RDONLY | O_CLOEXEC);
 }
 
 int32_t rattle_errno(void)
