@@ -12,5 +12,5 @@ loop-i-preserved c =
 
 pub returns : goal.returns
 returns c =
-    let q : c.args.to ≡ l.loop.i = omega arith in
+    let q : c.args.to ≡ c.loop-i.i = omega arith in
     rw q c.loop-i.invariant.0

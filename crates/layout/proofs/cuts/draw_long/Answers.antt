@@ -14,7 +14,7 @@ returns-then-word-eq0 c =
 
 pub draw_cuts-requires : goal.draw_cuts-requires
 draw_cuts-requires c =
-    record { stand_ready = c.requires.stand_ready; room_from = (c.requires.room_from.0, c.long_word-word.ensures (omega (arith, c.if-word-eq0.false))); few_from = c.requires.room_from.1 }
+    record { stand_ready = c.requires.stand_ready; room_from = (c.requires.room_from, c.long_word-word.ensures (omega (arith, c.if-word-eq0.false))); few_from = c.requires.few_from }
 
 pub shape_of-table : goal.shape_of-table
 shape_of-table c =

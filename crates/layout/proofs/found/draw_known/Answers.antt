@@ -16,14 +16,10 @@ returns-then-word-eq0 c =
 
 pub draw_cuts-far-requires : goal.draw_cuts-far-requires
 draw_cuts-far-requires c =
-    record {
-      stand_ready = (ready-here c.args.s c.args.text.now c.args.stand c.requires.stand_ready.0 c.requires.chars_value, c.requires.stand_ready.3, refl);
-      room_from = (
-        room-here c.args.s c.args.text.now c.args.stand c.requires.stand_ready.0 c.requires.chars_value c.args.table.now c.args.lines c.requires.stand_ready.1,
-        c.long_known-word.ensures (omega (arith, c.if-word-eq0.false)),
-      );
-      few_from = few-here c.args.s c.args.text.now c.args.stand c.requires.stand_ready.0 c.requires.chars_value c.args.drawn c.requires.stand_ready.2;
-    }
+    record { stand_ready = (ready-here c.args.s c.args.text.now c.args.stand c.requires.stand_ready.0 c.requires.chars_value, c.requires.stand_ready.3, refl); room_from = (
+    room-here c.args.s c.args.text.now c.args.stand c.requires.stand_ready.0 c.requires.chars_value c.args.table.now c.args.lines c.requires.stand_ready.1,
+    c.long_known-word.ensures (omega (arith, c.if-word-eq0.false)),
+    ); few_from = few-here c.args.s c.args.text.now c.args.stand c.requires.stand_ready.0 c.requires.chars_value c.args.drawn c.requires.stand_ready.2 }
 
 pub shape_of-table : goal.shape_of-table
 shape_of-table c =
@@ -35,13 +31,4 @@ shape_of-events c =
 
 pub returns : goal.returns
 returns c =
-    record {
-      reaches = (rw c.drawn_at.ensures (
-        reaches_here _ _ _ c.requires.stand_ready.0 c.requires.chars_value _ _ _ _ _ _ (reaches_on _ _ _ _ _ _ _ _ c.draw_cuts-far.ensures.went),
-        draws-here _ _ _ c.requires.stand_ready.0 c.requires.chars_value _ _ _ _ _ _ (draws-on _ _ _ _ _ _ _ _ c.draw_cuts-far.ensures.drew_to),
-      )).0;
-      draw_reaches = (rw c.drawn_at.ensures (
-        reaches_here _ _ _ c.requires.stand_ready.0 c.requires.chars_value _ _ _ _ _ _ (reaches_on _ _ _ _ _ _ _ _ c.draw_cuts-far.ensures.went),
-        draws-here _ _ _ c.requires.stand_ready.0 c.requires.chars_value _ _ _ _ _ _ (draws-on _ _ _ _ _ _ _ _ c.draw_cuts-far.ensures.drew_to),
-      )).1;
-    }
+    record { reaches = rw c.drawn_at.ensures (reaches_here _ _ _ c.requires.stand_ready.0 c.requires.chars_value _ _ _ _ _ _ (reaches_on _ _ _ _ _ _ _ _ c.draw_cuts-far.ensures.went)); draw_reaches = rw c.drawn_at.ensures (draws-here _ _ _ c.requires.stand_ready.0 c.requires.chars_value _ _ _ _ _ _ (draws-on _ _ _ _ _ _ _ _ c.draw_cuts-far.ensures.drew_to)) }

@@ -12,11 +12,11 @@ loop-at-init c =
 
 pub draw_plain_lines-far-requires : goal.draw_plain_lines-far-requires
 draw_plain_lines-far-requires c =
-    record { stand_ready = (c.loop-at.invariant.0.ready, c.requires.stand_ready.1); room_from = room-on _ _ _ _ _ _ _ _ c.loop-at.invariant.0 c.requires.room_from.0; few_from = few_on _ _ _ _ _ _ _ _ c.loop-at.invariant.1 c.requires.room_from.1 }
+    record { stand_ready = (c.loop-at.invariant.0.ready, c.requires.stand_ready.1); room_from = room-on _ _ _ _ _ _ _ _ c.loop-at.invariant.0 c.requires.room_from; few_from = few_on _ _ _ _ _ _ _ _ c.loop-at.invariant.1 c.requires.few_from }
 
 pub draw_long-cut-requires : goal.draw_long-cut-requires
 draw_long-cut-requires c =
-    record { stand_ready = (((let passed_here : Went c.args.s c.args.text.now c.args.table.now c.args.lines (plain_stand c.args.start.0 c.args.chars.0) c.draw_plain_lines-far.new.table c.draw_plain_lines-far.result.lines (plain_stand c.draw_plain_lines-far.result.at.0 c.draw_plain_lines-far.result.before.0) = went_then _ _ _ _ _ _ _ _ c.loop-at.invariant.0 _ _ _ c.draw_plain_lines-far.ensures.went in passed_here)).ready, c.requires.stand_ready.1, refl); room_from = room-on _ _ _ _ _ _ _ _ ((let passed_here : Went c.args.s c.args.text.now c.args.table.now c.args.lines (plain_stand c.args.start.0 c.args.chars.0) c.draw_plain_lines-far.new.table c.draw_plain_lines-far.result.lines (plain_stand c.draw_plain_lines-far.result.at.0 c.draw_plain_lines-far.result.before.0) = went_then _ _ _ _ _ _ _ _ c.loop-at.invariant.0 _ _ _ c.draw_plain_lines-far.ensures.went in passed_here)) c.requires.room_from.0; few_from = few_on _ _ _ _ _ _ _ _ ((let traced_here : DrewTo c.args.s c.args.text.now c.args.events.now c.args.drawn (plain_stand c.args.start.0 c.args.chars.0) c.draw_plain_lines-far.new.events c.draw_plain_lines-far.result.events (plain_stand c.draw_plain_lines-far.result.at.0 c.draw_plain_lines-far.result.before.0) = drew-then _ _ _ _ _ _ _ _ c.loop-at.invariant.1 _ _ _ c.draw_plain_lines-far.ensures.drew_to in traced_here)) c.requires.room_from.1 }
+    record { stand_ready = (((let passed_here : Went c.args.s c.args.text.now c.args.table.now c.args.lines (plain_stand c.args.start.0 c.args.chars.0) c.draw_plain_lines-far.new.table c.draw_plain_lines-far.result.lines (plain_stand c.draw_plain_lines-far.result.at.0 c.draw_plain_lines-far.result.before.0) = went_then _ _ _ _ _ _ _ _ c.loop-at.invariant.0 _ _ _ c.draw_plain_lines-far.ensures.went in passed_here)).ready, c.requires.stand_ready.1, refl); room_from = room-on _ _ _ _ _ _ _ _ ((let passed_here : Went c.args.s c.args.text.now c.args.table.now c.args.lines (plain_stand c.args.start.0 c.args.chars.0) c.draw_plain_lines-far.new.table c.draw_plain_lines-far.result.lines (plain_stand c.draw_plain_lines-far.result.at.0 c.draw_plain_lines-far.result.before.0) = went_then _ _ _ _ _ _ _ _ c.loop-at.invariant.0 _ _ _ c.draw_plain_lines-far.ensures.went in passed_here)) c.requires.room_from; few_from = few_on _ _ _ _ _ _ _ _ ((let traced_here : DrewTo c.args.s c.args.text.now c.args.events.now c.args.drawn (plain_stand c.args.start.0 c.args.chars.0) c.draw_plain_lines-far.new.events c.draw_plain_lines-far.result.events (plain_stand c.draw_plain_lines-far.result.at.0 c.draw_plain_lines-far.result.before.0) = drew-then _ _ _ _ _ _ _ _ c.loop-at.invariant.1 _ _ _ c.draw_plain_lines-far.ensures.drew_to in traced_here)) c.requires.few_from }
 
 pub loop-at-smaller-then-far-at : goal.loop-at-smaller-then-far-at
 loop-at-smaller-then-far-at c =
@@ -41,15 +41,15 @@ shape_of-events-then-next-eq0 c =
 
 pub returns-then-next-eq0 : goal.returns-then-next-eq0
 returns-then-next-eq0 c =
-    record { reaches = (rw c.drawn_at.ensures (reaches_on _ _ _ _ _ _ _ _ ((let went_here : Went c.args.s c.args.text.now c.args.table.now c.args.lines (plain_stand c.args.start.0 c.args.chars.0) c.draw_long-cut.new.table c.draw_long-cut.result.lines (plain_stand c.draw_long-cut.result.at c.draw_long-cut.result.before) = went_then _ _ _ _ _ _ _ _ ((let passed_here : Went c.args.s c.args.text.now c.args.table.now c.args.lines (plain_stand c.args.start.0 c.args.chars.0) c.draw_plain_lines-far.new.table c.draw_plain_lines-far.result.lines (plain_stand c.draw_plain_lines-far.result.at.0 c.draw_plain_lines-far.result.before.0) = went_then _ _ _ _ _ _ _ _ c.loop-at.invariant.0 _ _ _ c.draw_plain_lines-far.ensures.went in passed_here)) _ _ _ c.draw_long-cut.ensures.went in went_here)), draws-on _ _ _ _ _ _ _ _ ((let drew_here : DrewTo c.args.s c.args.text.now c.args.events.now c.args.drawn (plain_stand c.args.start.0 c.args.chars.0) c.draw_long-cut.new.events c.draw_long-cut.result.events (plain_stand c.draw_long-cut.result.at c.draw_long-cut.result.before) = drew-then _ _ _ _ _ _ _ _ ((let traced_here : DrewTo c.args.s c.args.text.now c.args.events.now c.args.drawn (plain_stand c.args.start.0 c.args.chars.0) c.draw_plain_lines-far.new.events c.draw_plain_lines-far.result.events (plain_stand c.draw_plain_lines-far.result.at.0 c.draw_plain_lines-far.result.before.0) = drew-then _ _ _ _ _ _ _ _ c.loop-at.invariant.1 _ _ _ c.draw_plain_lines-far.ensures.drew_to in traced_here)) _ _ _ c.draw_long-cut.ensures.drew_to in drew_here)))).0; draw_reaches = (rw c.drawn_at.ensures (reaches_on _ _ _ _ _ _ _ _ ((let went_here : Went c.args.s c.args.text.now c.args.table.now c.args.lines (plain_stand c.args.start.0 c.args.chars.0) c.draw_long-cut.new.table c.draw_long-cut.result.lines (plain_stand c.draw_long-cut.result.at c.draw_long-cut.result.before) = went_then _ _ _ _ _ _ _ _ ((let passed_here : Went c.args.s c.args.text.now c.args.table.now c.args.lines (plain_stand c.args.start.0 c.args.chars.0) c.draw_plain_lines-far.new.table c.draw_plain_lines-far.result.lines (plain_stand c.draw_plain_lines-far.result.at.0 c.draw_plain_lines-far.result.before.0) = went_then _ _ _ _ _ _ _ _ c.loop-at.invariant.0 _ _ _ c.draw_plain_lines-far.ensures.went in passed_here)) _ _ _ c.draw_long-cut.ensures.went in went_here)), draws-on _ _ _ _ _ _ _ _ ((let drew_here : DrewTo c.args.s c.args.text.now c.args.events.now c.args.drawn (plain_stand c.args.start.0 c.args.chars.0) c.draw_long-cut.new.events c.draw_long-cut.result.events (plain_stand c.draw_long-cut.result.at c.draw_long-cut.result.before) = drew-then _ _ _ _ _ _ _ _ ((let traced_here : DrewTo c.args.s c.args.text.now c.args.events.now c.args.drawn (plain_stand c.args.start.0 c.args.chars.0) c.draw_plain_lines-far.new.events c.draw_plain_lines-far.result.events (plain_stand c.draw_plain_lines-far.result.at.0 c.draw_plain_lines-far.result.before.0) = drew-then _ _ _ _ _ _ _ _ c.loop-at.invariant.1 _ _ _ c.draw_plain_lines-far.ensures.drew_to in traced_here)) _ _ _ c.draw_long-cut.ensures.drew_to in drew_here)))).1 }
+    record { reaches = rw c.drawn_at.ensures (reaches_on _ _ _ _ _ _ _ _ ((let went_here : Went c.args.s c.args.text.now c.args.table.now c.args.lines (plain_stand c.args.start.0 c.args.chars.0) c.draw_long-cut.new.table c.draw_long-cut.result.lines (plain_stand c.draw_long-cut.result.at c.draw_long-cut.result.before) = went_then _ _ _ _ _ _ _ _ ((let passed_here : Went c.args.s c.args.text.now c.args.table.now c.args.lines (plain_stand c.args.start.0 c.args.chars.0) c.draw_plain_lines-far.new.table c.draw_plain_lines-far.result.lines (plain_stand c.draw_plain_lines-far.result.at.0 c.draw_plain_lines-far.result.before.0) = went_then _ _ _ _ _ _ _ _ c.loop-at.invariant.0 _ _ _ c.draw_plain_lines-far.ensures.went in passed_here)) _ _ _ c.draw_long-cut.ensures.went in went_here))); draw_reaches = rw c.drawn_at.ensures (draws-on _ _ _ _ _ _ _ _ ((let drew_here : DrewTo c.args.s c.args.text.now c.args.events.now c.args.drawn (plain_stand c.args.start.0 c.args.chars.0) c.draw_long-cut.new.events c.draw_long-cut.result.events (plain_stand c.draw_long-cut.result.at c.draw_long-cut.result.before) = drew-then _ _ _ _ _ _ _ _ ((let traced_here : DrewTo c.args.s c.args.text.now c.args.events.now c.args.drawn (plain_stand c.args.start.0 c.args.chars.0) c.draw_plain_lines-far.new.events c.draw_plain_lines-far.result.events (plain_stand c.draw_plain_lines-far.result.at.0 c.draw_plain_lines-far.result.before.0) = drew-then _ _ _ _ _ _ _ _ c.loop-at.invariant.1 _ _ _ c.draw_plain_lines-far.ensures.drew_to in traced_here)) _ _ _ c.draw_long-cut.ensures.drew_to in drew_here))) }
 
 pub draw_told-k-requires : goal.draw_told-k-requires
 draw_told-k-requires c =
-    record { stand_ready = (((let went_here : Went c.args.s c.args.text.now c.args.table.now c.args.lines (plain_stand c.args.start.0 c.args.chars.0) c.draw_long-cut.new.table c.draw_long-cut.result.lines (plain_stand c.draw_long-cut.result.at c.draw_long-cut.result.before) = went_then _ _ _ _ _ _ _ _ ((let passed_here : Went c.args.s c.args.text.now c.args.table.now c.args.lines (plain_stand c.args.start.0 c.args.chars.0) c.draw_plain_lines-far.new.table c.draw_plain_lines-far.result.lines (plain_stand c.draw_plain_lines-far.result.at.0 c.draw_plain_lines-far.result.before.0) = went_then _ _ _ _ _ _ _ _ c.loop-at.invariant.0 _ _ _ c.draw_plain_lines-far.ensures.went in passed_here)) _ _ _ c.draw_long-cut.ensures.went in went_here)).ready, c.requires.stand_ready.1, (let found_here : RowIn c.args.text.now c.draw_long-cut.result.at (c.args.s.width.0 / c.args.s.glyph.0) c.told_row-row.result = c.told_row-row.ensures c.if-next-eq0.false in found_here)); entry_numbers_in_bounds = (went-room _ _ _ _ _ _ _ _ ((let went_here : Went c.args.s c.args.text.now c.args.table.now c.args.lines (plain_stand c.args.start.0 c.args.chars.0) c.draw_long-cut.new.table c.draw_long-cut.result.lines (plain_stand c.draw_long-cut.result.at c.draw_long-cut.result.before) = went_then _ _ _ _ _ _ _ _ ((let passed_here : Went c.args.s c.args.text.now c.args.table.now c.args.lines (plain_stand c.args.start.0 c.args.chars.0) c.draw_plain_lines-far.new.table c.draw_plain_lines-far.result.lines (plain_stand c.draw_plain_lines-far.result.at.0 c.draw_plain_lines-far.result.before.0) = went_then _ _ _ _ _ _ _ _ c.loop-at.invariant.0 _ _ _ c.draw_plain_lines-far.ensures.went in passed_here)) _ _ _ c.draw_long-cut.ensures.went in went_here)) c.requires.room_from.0, few-before _ _ _ _ _ _ _ _ ((let drew_here : DrewTo c.args.s c.args.text.now c.args.events.now c.args.drawn (plain_stand c.args.start.0 c.args.chars.0) c.draw_long-cut.new.events c.draw_long-cut.result.events (plain_stand c.draw_long-cut.result.at c.draw_long-cut.result.before) = drew-then _ _ _ _ _ _ _ _ ((let traced_here : DrewTo c.args.s c.args.text.now c.args.events.now c.args.drawn (plain_stand c.args.start.0 c.args.chars.0) c.draw_plain_lines-far.new.events c.draw_plain_lines-far.result.events (plain_stand c.draw_plain_lines-far.result.at.0 c.draw_plain_lines-far.result.before.0) = drew-then _ _ _ _ _ _ _ _ c.loop-at.invariant.1 _ _ _ c.draw_plain_lines-far.ensures.drew_to in traced_here)) _ _ _ c.draw_long-cut.ensures.drew_to in drew_here)) c.requires.room_from.1) }
+    record { stand_ready = (((let went_here : Went c.args.s c.args.text.now c.args.table.now c.args.lines (plain_stand c.args.start.0 c.args.chars.0) c.draw_long-cut.new.table c.draw_long-cut.result.lines (plain_stand c.draw_long-cut.result.at c.draw_long-cut.result.before) = went_then _ _ _ _ _ _ _ _ ((let passed_here : Went c.args.s c.args.text.now c.args.table.now c.args.lines (plain_stand c.args.start.0 c.args.chars.0) c.draw_plain_lines-far.new.table c.draw_plain_lines-far.result.lines (plain_stand c.draw_plain_lines-far.result.at.0 c.draw_plain_lines-far.result.before.0) = went_then _ _ _ _ _ _ _ _ c.loop-at.invariant.0 _ _ _ c.draw_plain_lines-far.ensures.went in passed_here)) _ _ _ c.draw_long-cut.ensures.went in went_here)).ready, c.requires.stand_ready.1, (let found_here : RowIn c.args.text.now c.draw_long-cut.result.at (c.args.s.width.0 / c.args.s.glyph.0) c.told_row-row.result = c.told_row-row.ensures c.if-next-eq0.false in found_here)); entry_numbers_in_bounds = (went-room _ _ _ _ _ _ _ _ ((let went_here : Went c.args.s c.args.text.now c.args.table.now c.args.lines (plain_stand c.args.start.0 c.args.chars.0) c.draw_long-cut.new.table c.draw_long-cut.result.lines (plain_stand c.draw_long-cut.result.at c.draw_long-cut.result.before) = went_then _ _ _ _ _ _ _ _ ((let passed_here : Went c.args.s c.args.text.now c.args.table.now c.args.lines (plain_stand c.args.start.0 c.args.chars.0) c.draw_plain_lines-far.new.table c.draw_plain_lines-far.result.lines (plain_stand c.draw_plain_lines-far.result.at.0 c.draw_plain_lines-far.result.before.0) = went_then _ _ _ _ _ _ _ _ c.loop-at.invariant.0 _ _ _ c.draw_plain_lines-far.ensures.went in passed_here)) _ _ _ c.draw_long-cut.ensures.went in went_here)) c.requires.room_from, few-before _ _ _ _ _ _ _ _ ((let drew_here : DrewTo c.args.s c.args.text.now c.args.events.now c.args.drawn (plain_stand c.args.start.0 c.args.chars.0) c.draw_long-cut.new.events c.draw_long-cut.result.events (plain_stand c.draw_long-cut.result.at c.draw_long-cut.result.before) = drew-then _ _ _ _ _ _ _ _ ((let traced_here : DrewTo c.args.s c.args.text.now c.args.events.now c.args.drawn (plain_stand c.args.start.0 c.args.chars.0) c.draw_plain_lines-far.new.events c.draw_plain_lines-far.result.events (plain_stand c.draw_plain_lines-far.result.at.0 c.draw_plain_lines-far.result.before.0) = drew-then _ _ _ _ _ _ _ _ c.loop-at.invariant.1 _ _ _ c.draw_plain_lines-far.ensures.drew_to in traced_here)) _ _ _ c.draw_long-cut.ensures.drew_to in drew_here)) c.requires.few_from) }
 
 pub overflow_add-n : goal.overflow_add-n
 overflow_add-n c =
-    record { fits = omega (arith, went-few _ _ _ _ _ _ _ _ ((let went_here : Went c.args.s c.args.text.now c.args.table.now c.args.lines (plain_stand c.args.start.0 c.args.chars.0) c.draw_long-cut.new.table c.draw_long-cut.result.lines (plain_stand c.draw_long-cut.result.at c.draw_long-cut.result.before) = went_then _ _ _ _ _ _ _ _ ((let passed_here : Went c.args.s c.args.text.now c.args.table.now c.args.lines (plain_stand c.args.start.0 c.args.chars.0) c.draw_plain_lines-far.new.table c.draw_plain_lines-far.result.lines (plain_stand c.draw_plain_lines-far.result.at.0 c.draw_plain_lines-far.result.before.0) = went_then _ _ _ _ _ _ _ _ c.loop-at.invariant.0 _ _ _ c.draw_plain_lines-far.ensures.went in passed_here)) _ _ _ c.draw_long-cut.ensures.went in went_here)) c.requires.room_from.0) }
+    record { fits = omega (arith, went-few _ _ _ _ _ _ _ _ ((let went_here : Went c.args.s c.args.text.now c.args.table.now c.args.lines (plain_stand c.args.start.0 c.args.chars.0) c.draw_long-cut.new.table c.draw_long-cut.result.lines (plain_stand c.draw_long-cut.result.at c.draw_long-cut.result.before) = went_then _ _ _ _ _ _ _ _ ((let passed_here : Went c.args.s c.args.text.now c.args.table.now c.args.lines (plain_stand c.args.start.0 c.args.chars.0) c.draw_plain_lines-far.new.table c.draw_plain_lines-far.result.lines (plain_stand c.draw_plain_lines-far.result.at.0 c.draw_plain_lines-far.result.before.0) = went_then _ _ _ _ _ _ _ _ c.loop-at.invariant.0 _ _ _ c.draw_plain_lines-far.ensures.went in passed_here)) _ _ _ c.draw_long-cut.ensures.went in went_here)) c.requires.room_from) }
 
 pub shape_of-table-then-is_last : goal.shape_of-table-then-is_last
 shape_of-table-then-is_last c =
@@ -61,22 +61,10 @@ shape_of-events-then-is_last c =
 
 pub returns-then-is_last : goal.returns-then-is_last
 returns-then-is_last c =
-    let ends = sym c.is_last.ensures ∙ c.if-is_last.true in record {
-      reaches = (rw c.drawn_at-then-is_last.ensures (
-        reaches_all _ _ _ _ _ _ _ _ (c.draw_told-k.auto.table ∙ ((let went_here : Went c.args.s c.args.text.now c.args.table.now c.args.lines (plain_stand c.args.start.0 c.args.chars.0) c.draw_long-cut.new.table c.draw_long-cut.result.lines (plain_stand c.draw_long-cut.result.at c.draw_long-cut.result.before) = went_then _ _ _ _ _ _ _ _ ((let passed_here : Went c.args.s c.args.text.now c.args.table.now c.args.lines (plain_stand c.args.start.0 c.args.chars.0) c.draw_plain_lines-far.new.table c.draw_plain_lines-far.result.lines (plain_stand c.draw_plain_lines-far.result.at.0 c.draw_plain_lines-far.result.before.0) = went_then _ _ _ _ _ _ _ _ c.loop-at.invariant.0 _ _ _ c.draw_plain_lines-far.ensures.went in passed_here)) _ _ _ c.draw_long-cut.ensures.went in went_here)).same)
-            (found-last _ _ _ _ _ _ _ _ _ ((let went_here : Went c.args.s c.args.text.now c.args.table.now c.args.lines (plain_stand c.args.start.0 c.args.chars.0) c.draw_long-cut.new.table c.draw_long-cut.result.lines (plain_stand c.draw_long-cut.result.at c.draw_long-cut.result.before) = went_then _ _ _ _ _ _ _ _ ((let passed_here : Went c.args.s c.args.text.now c.args.table.now c.args.lines (plain_stand c.args.start.0 c.args.chars.0) c.draw_plain_lines-far.new.table c.draw_plain_lines-far.result.lines (plain_stand c.draw_plain_lines-far.result.at.0 c.draw_plain_lines-far.result.before.0) = went_then _ _ _ _ _ _ _ _ c.loop-at.invariant.0 _ _ _ c.draw_plain_lines-far.ensures.went in passed_here)) _ _ _ c.draw_long-cut.ensures.went in went_here)) c.requires.room_from.0 _ refl c.requires.stand_ready.1 _ _ _ _ _ ((let found_here : RowIn c.args.text.now c.draw_long-cut.result.at (c.args.s.width.0 / c.args.s.glyph.0) c.told_row-row.result = c.told_row-row.ensures c.if-next-eq0.false in found_here)) _ refl _ c.draw_told-k.ensures.table_after c.draw_told-k.auto.table ends),
-        draws-all _ _ _ _ _ _ _ _ (c.draw_told-k.auto.events ∙ ((let drew_here : DrewTo c.args.s c.args.text.now c.args.events.now c.args.drawn (plain_stand c.args.start.0 c.args.chars.0) c.draw_long-cut.new.events c.draw_long-cut.result.events (plain_stand c.draw_long-cut.result.at c.draw_long-cut.result.before) = drew-then _ _ _ _ _ _ _ _ ((let traced_here : DrewTo c.args.s c.args.text.now c.args.events.now c.args.drawn (plain_stand c.args.start.0 c.args.chars.0) c.draw_plain_lines-far.new.events c.draw_plain_lines-far.result.events (plain_stand c.draw_plain_lines-far.result.at.0 c.draw_plain_lines-far.result.before.0) = drew-then _ _ _ _ _ _ _ _ c.loop-at.invariant.1 _ _ _ c.draw_plain_lines-far.ensures.drew_to in traced_here)) _ _ _ c.draw_long-cut.ensures.drew_to in drew_here)).same)
-            (found-drawn _ _ _ _ _ ((let went_here : Went c.args.s c.args.text.now c.args.table.now c.args.lines (plain_stand c.args.start.0 c.args.chars.0) c.draw_long-cut.new.table c.draw_long-cut.result.lines (plain_stand c.draw_long-cut.result.at c.draw_long-cut.result.before) = went_then _ _ _ _ _ _ _ _ ((let passed_here : Went c.args.s c.args.text.now c.args.table.now c.args.lines (plain_stand c.args.start.0 c.args.chars.0) c.draw_plain_lines-far.new.table c.draw_plain_lines-far.result.lines (plain_stand c.draw_plain_lines-far.result.at.0 c.draw_plain_lines-far.result.before.0) = went_then _ _ _ _ _ _ _ _ c.loop-at.invariant.0 _ _ _ c.draw_plain_lines-far.ensures.went in passed_here)) _ _ _ c.draw_long-cut.ensures.went in went_here)).ready refl c.requires.stand_ready.1 _ _ _ _ _ ((let found_here : RowIn c.args.text.now c.draw_long-cut.result.at (c.args.s.width.0 / c.args.s.glyph.0) c.told_row-row.result = c.told_row-row.ensures c.if-next-eq0.false in found_here)) _ refl _ _ _ _ _ ((let drew_here : DrewTo c.args.s c.args.text.now c.args.events.now c.args.drawn (plain_stand c.args.start.0 c.args.chars.0) c.draw_long-cut.new.events c.draw_long-cut.result.events (plain_stand c.draw_long-cut.result.at c.draw_long-cut.result.before) = drew-then _ _ _ _ _ _ _ _ ((let traced_here : DrewTo c.args.s c.args.text.now c.args.events.now c.args.drawn (plain_stand c.args.start.0 c.args.chars.0) c.draw_plain_lines-far.new.events c.draw_plain_lines-far.result.events (plain_stand c.draw_plain_lines-far.result.at.0 c.draw_plain_lines-far.result.before.0) = drew-then _ _ _ _ _ _ _ _ c.loop-at.invariant.1 _ _ _ c.draw_plain_lines-far.ensures.drew_to in traced_here)) _ _ _ c.draw_long-cut.ensures.drew_to in drew_here)) _ _ c.draw_told-k.ensures.events_after c.draw_told-k.ensures.value
-            c.draw_told-k.auto.events ends),
-      )).0;
-      draw_reaches = (rw c.drawn_at-then-is_last.ensures (
-        reaches_all _ _ _ _ _ _ _ _ (c.draw_told-k.auto.table ∙ ((let went_here : Went c.args.s c.args.text.now c.args.table.now c.args.lines (plain_stand c.args.start.0 c.args.chars.0) c.draw_long-cut.new.table c.draw_long-cut.result.lines (plain_stand c.draw_long-cut.result.at c.draw_long-cut.result.before) = went_then _ _ _ _ _ _ _ _ ((let passed_here : Went c.args.s c.args.text.now c.args.table.now c.args.lines (plain_stand c.args.start.0 c.args.chars.0) c.draw_plain_lines-far.new.table c.draw_plain_lines-far.result.lines (plain_stand c.draw_plain_lines-far.result.at.0 c.draw_plain_lines-far.result.before.0) = went_then _ _ _ _ _ _ _ _ c.loop-at.invariant.0 _ _ _ c.draw_plain_lines-far.ensures.went in passed_here)) _ _ _ c.draw_long-cut.ensures.went in went_here)).same)
-            (found-last _ _ _ _ _ _ _ _ _ ((let went_here : Went c.args.s c.args.text.now c.args.table.now c.args.lines (plain_stand c.args.start.0 c.args.chars.0) c.draw_long-cut.new.table c.draw_long-cut.result.lines (plain_stand c.draw_long-cut.result.at c.draw_long-cut.result.before) = went_then _ _ _ _ _ _ _ _ ((let passed_here : Went c.args.s c.args.text.now c.args.table.now c.args.lines (plain_stand c.args.start.0 c.args.chars.0) c.draw_plain_lines-far.new.table c.draw_plain_lines-far.result.lines (plain_stand c.draw_plain_lines-far.result.at.0 c.draw_plain_lines-far.result.before.0) = went_then _ _ _ _ _ _ _ _ c.loop-at.invariant.0 _ _ _ c.draw_plain_lines-far.ensures.went in passed_here)) _ _ _ c.draw_long-cut.ensures.went in went_here)) c.requires.room_from.0 _ refl c.requires.stand_ready.1 _ _ _ _ _ ((let found_here : RowIn c.args.text.now c.draw_long-cut.result.at (c.args.s.width.0 / c.args.s.glyph.0) c.told_row-row.result = c.told_row-row.ensures c.if-next-eq0.false in found_here)) _ refl _ c.draw_told-k.ensures.table_after c.draw_told-k.auto.table ends),
-        draws-all _ _ _ _ _ _ _ _ (c.draw_told-k.auto.events ∙ ((let drew_here : DrewTo c.args.s c.args.text.now c.args.events.now c.args.drawn (plain_stand c.args.start.0 c.args.chars.0) c.draw_long-cut.new.events c.draw_long-cut.result.events (plain_stand c.draw_long-cut.result.at c.draw_long-cut.result.before) = drew-then _ _ _ _ _ _ _ _ ((let traced_here : DrewTo c.args.s c.args.text.now c.args.events.now c.args.drawn (plain_stand c.args.start.0 c.args.chars.0) c.draw_plain_lines-far.new.events c.draw_plain_lines-far.result.events (plain_stand c.draw_plain_lines-far.result.at.0 c.draw_plain_lines-far.result.before.0) = drew-then _ _ _ _ _ _ _ _ c.loop-at.invariant.1 _ _ _ c.draw_plain_lines-far.ensures.drew_to in traced_here)) _ _ _ c.draw_long-cut.ensures.drew_to in drew_here)).same)
-            (found-drawn _ _ _ _ _ ((let went_here : Went c.args.s c.args.text.now c.args.table.now c.args.lines (plain_stand c.args.start.0 c.args.chars.0) c.draw_long-cut.new.table c.draw_long-cut.result.lines (plain_stand c.draw_long-cut.result.at c.draw_long-cut.result.before) = went_then _ _ _ _ _ _ _ _ ((let passed_here : Went c.args.s c.args.text.now c.args.table.now c.args.lines (plain_stand c.args.start.0 c.args.chars.0) c.draw_plain_lines-far.new.table c.draw_plain_lines-far.result.lines (plain_stand c.draw_plain_lines-far.result.at.0 c.draw_plain_lines-far.result.before.0) = went_then _ _ _ _ _ _ _ _ c.loop-at.invariant.0 _ _ _ c.draw_plain_lines-far.ensures.went in passed_here)) _ _ _ c.draw_long-cut.ensures.went in went_here)).ready refl c.requires.stand_ready.1 _ _ _ _ _ ((let found_here : RowIn c.args.text.now c.draw_long-cut.result.at (c.args.s.width.0 / c.args.s.glyph.0) c.told_row-row.result = c.told_row-row.ensures c.if-next-eq0.false in found_here)) _ refl _ _ _ _ _ ((let drew_here : DrewTo c.args.s c.args.text.now c.args.events.now c.args.drawn (plain_stand c.args.start.0 c.args.chars.0) c.draw_long-cut.new.events c.draw_long-cut.result.events (plain_stand c.draw_long-cut.result.at c.draw_long-cut.result.before) = drew-then _ _ _ _ _ _ _ _ ((let traced_here : DrewTo c.args.s c.args.text.now c.args.events.now c.args.drawn (plain_stand c.args.start.0 c.args.chars.0) c.draw_plain_lines-far.new.events c.draw_plain_lines-far.result.events (plain_stand c.draw_plain_lines-far.result.at.0 c.draw_plain_lines-far.result.before.0) = drew-then _ _ _ _ _ _ _ _ c.loop-at.invariant.1 _ _ _ c.draw_plain_lines-far.ensures.drew_to in traced_here)) _ _ _ c.draw_long-cut.ensures.drew_to in drew_here)) _ _ c.draw_told-k.ensures.events_after c.draw_told-k.ensures.value
-            c.draw_told-k.auto.events ends),
-      )).1;
-    }
+    let ends = sym c.is_last.ensures ∙ c.if-is_last.true in record { reaches = rw c.drawn_at-then-is_last.ensures (reaches_all _ _ _ _ _ _ _ _ (c.draw_told-k.auto.table ∙ ((let went_here : Went c.args.s c.args.text.now c.args.table.now c.args.lines (plain_stand c.args.start.0 c.args.chars.0) c.draw_long-cut.new.table c.draw_long-cut.result.lines (plain_stand c.draw_long-cut.result.at c.draw_long-cut.result.before) = went_then _ _ _ _ _ _ _ _ ((let passed_here : Went c.args.s c.args.text.now c.args.table.now c.args.lines (plain_stand c.args.start.0 c.args.chars.0) c.draw_plain_lines-far.new.table c.draw_plain_lines-far.result.lines (plain_stand c.draw_plain_lines-far.result.at.0 c.draw_plain_lines-far.result.before.0) = went_then _ _ _ _ _ _ _ _ c.loop-at.invariant.0 _ _ _ c.draw_plain_lines-far.ensures.went in passed_here)) _ _ _ c.draw_long-cut.ensures.went in went_here)).same)
+    (found-last _ _ _ _ _ _ _ _ _ ((let went_here : Went c.args.s c.args.text.now c.args.table.now c.args.lines (plain_stand c.args.start.0 c.args.chars.0) c.draw_long-cut.new.table c.draw_long-cut.result.lines (plain_stand c.draw_long-cut.result.at c.draw_long-cut.result.before) = went_then _ _ _ _ _ _ _ _ ((let passed_here : Went c.args.s c.args.text.now c.args.table.now c.args.lines (plain_stand c.args.start.0 c.args.chars.0) c.draw_plain_lines-far.new.table c.draw_plain_lines-far.result.lines (plain_stand c.draw_plain_lines-far.result.at.0 c.draw_plain_lines-far.result.before.0) = went_then _ _ _ _ _ _ _ _ c.loop-at.invariant.0 _ _ _ c.draw_plain_lines-far.ensures.went in passed_here)) _ _ _ c.draw_long-cut.ensures.went in went_here)) c.requires.room_from _ refl c.requires.stand_ready.1 _ _ _ _ _ ((let found_here : RowIn c.args.text.now c.draw_long-cut.result.at (c.args.s.width.0 / c.args.s.glyph.0) c.told_row-row.result = c.told_row-row.ensures c.if-next-eq0.false in found_here)) _ refl _ c.draw_told-k.ensures.table_after c.draw_told-k.auto.table ends)); draw_reaches = rw c.drawn_at-then-is_last.ensures (draws-all _ _ _ _ _ _ _ _ (c.draw_told-k.auto.events ∙ ((let drew_here : DrewTo c.args.s c.args.text.now c.args.events.now c.args.drawn (plain_stand c.args.start.0 c.args.chars.0) c.draw_long-cut.new.events c.draw_long-cut.result.events (plain_stand c.draw_long-cut.result.at c.draw_long-cut.result.before) = drew-then _ _ _ _ _ _ _ _ ((let traced_here : DrewTo c.args.s c.args.text.now c.args.events.now c.args.drawn (plain_stand c.args.start.0 c.args.chars.0) c.draw_plain_lines-far.new.events c.draw_plain_lines-far.result.events (plain_stand c.draw_plain_lines-far.result.at.0 c.draw_plain_lines-far.result.before.0) = drew-then _ _ _ _ _ _ _ _ c.loop-at.invariant.1 _ _ _ c.draw_plain_lines-far.ensures.drew_to in traced_here)) _ _ _ c.draw_long-cut.ensures.drew_to in drew_here)).same)
+    (found-drawn _ _ _ _ _ ((let went_here : Went c.args.s c.args.text.now c.args.table.now c.args.lines (plain_stand c.args.start.0 c.args.chars.0) c.draw_long-cut.new.table c.draw_long-cut.result.lines (plain_stand c.draw_long-cut.result.at c.draw_long-cut.result.before) = went_then _ _ _ _ _ _ _ _ ((let passed_here : Went c.args.s c.args.text.now c.args.table.now c.args.lines (plain_stand c.args.start.0 c.args.chars.0) c.draw_plain_lines-far.new.table c.draw_plain_lines-far.result.lines (plain_stand c.draw_plain_lines-far.result.at.0 c.draw_plain_lines-far.result.before.0) = went_then _ _ _ _ _ _ _ _ c.loop-at.invariant.0 _ _ _ c.draw_plain_lines-far.ensures.went in passed_here)) _ _ _ c.draw_long-cut.ensures.went in went_here)).ready refl c.requires.stand_ready.1 _ _ _ _ _ ((let found_here : RowIn c.args.text.now c.draw_long-cut.result.at (c.args.s.width.0 / c.args.s.glyph.0) c.told_row-row.result = c.told_row-row.ensures c.if-next-eq0.false in found_here)) _ refl _ _ _ _ _ ((let drew_here : DrewTo c.args.s c.args.text.now c.args.events.now c.args.drawn (plain_stand c.args.start.0 c.args.chars.0) c.draw_long-cut.new.events c.draw_long-cut.result.events (plain_stand c.draw_long-cut.result.at c.draw_long-cut.result.before) = drew-then _ _ _ _ _ _ _ _ ((let traced_here : DrewTo c.args.s c.args.text.now c.args.events.now c.args.drawn (plain_stand c.args.start.0 c.args.chars.0) c.draw_plain_lines-far.new.events c.draw_plain_lines-far.result.events (plain_stand c.draw_plain_lines-far.result.at.0 c.draw_plain_lines-far.result.before.0) = drew-then _ _ _ _ _ _ _ _ c.loop-at.invariant.1 _ _ _ c.draw_plain_lines-far.ensures.drew_to in traced_here)) _ _ _ c.draw_long-cut.ensures.drew_to in drew_here)) _ _ c.draw_told-k.ensures.events_after c.draw_told-k.ensures.value
+    c.draw_told-k.auto.events ends)) }
 
 pub overflow_add-before : goal.overflow_add-before
 overflow_add-before c =
@@ -95,7 +83,7 @@ pub loop-at-preserved : goal.loop-at-preserved
 loop-at-preserved c =
     let goes = sym c.is_last.ensures ∙ c.if-is_last.false in
     let row = found-more _ _ _ _ ((let found_here : RowIn c.args.text.now c.draw_long-cut.result.at (c.args.s.width.0 / c.args.s.glyph.0) c.told_row-row.result = c.told_row-row.ensures c.if-next-eq0.false in found_here)) goes in (
-      found-went _ _ _ _ _ _ _ _ _ ((let went_here : Went c.args.s c.args.text.now c.args.table.now c.args.lines (plain_stand c.args.start.0 c.args.chars.0) c.draw_long-cut.new.table c.draw_long-cut.result.lines (plain_stand c.draw_long-cut.result.at c.draw_long-cut.result.before) = went_then _ _ _ _ _ _ _ _ ((let passed_here : Went c.args.s c.args.text.now c.args.table.now c.args.lines (plain_stand c.args.start.0 c.args.chars.0) c.draw_plain_lines-far.new.table c.draw_plain_lines-far.result.lines (plain_stand c.draw_plain_lines-far.result.at.0 c.draw_plain_lines-far.result.before.0) = went_then _ _ _ _ _ _ _ _ c.loop-at.invariant.0 _ _ _ c.draw_plain_lines-far.ensures.went in passed_here)) _ _ _ c.draw_long-cut.ensures.went in went_here)) c.requires.room_from.0 _ refl c.requires.stand_ready.1 _ _ _ _ _ row _ refl _ c.draw_told-k.ensures.table_after c.draw_told-k.auto.table goes,
-      found-drew _ _ _ _ _ ((let went_here : Went c.args.s c.args.text.now c.args.table.now c.args.lines (plain_stand c.args.start.0 c.args.chars.0) c.draw_long-cut.new.table c.draw_long-cut.result.lines (plain_stand c.draw_long-cut.result.at c.draw_long-cut.result.before) = went_then _ _ _ _ _ _ _ _ ((let passed_here : Went c.args.s c.args.text.now c.args.table.now c.args.lines (plain_stand c.args.start.0 c.args.chars.0) c.draw_plain_lines-far.new.table c.draw_plain_lines-far.result.lines (plain_stand c.draw_plain_lines-far.result.at.0 c.draw_plain_lines-far.result.before.0) = went_then _ _ _ _ _ _ _ _ c.loop-at.invariant.0 _ _ _ c.draw_plain_lines-far.ensures.went in passed_here)) _ _ _ c.draw_long-cut.ensures.went in went_here)).ready refl c.requires.stand_ready.1 _ _ _ _ _ row _ refl _ _ _ _ _ ((let drew_here : DrewTo c.args.s c.args.text.now c.args.events.now c.args.drawn (plain_stand c.args.start.0 c.args.chars.0) c.draw_long-cut.new.events c.draw_long-cut.result.events (plain_stand c.draw_long-cut.result.at c.draw_long-cut.result.before) = drew-then _ _ _ _ _ _ _ _ ((let traced_here : DrewTo c.args.s c.args.text.now c.args.events.now c.args.drawn (plain_stand c.args.start.0 c.args.chars.0) c.draw_plain_lines-far.new.events c.draw_plain_lines-far.result.events (plain_stand c.draw_plain_lines-far.result.at.0 c.draw_plain_lines-far.result.before.0) = drew-then _ _ _ _ _ _ _ _ c.loop-at.invariant.1 _ _ _ c.draw_plain_lines-far.ensures.drew_to in traced_here)) _ _ _ c.draw_long-cut.ensures.drew_to in drew_here)) _ _ c.draw_told-k.ensures.events_after c.draw_told-k.ensures.value
-          c.draw_told-k.auto.events goes,
+    found-went _ _ _ _ _ _ _ _ _ ((let went_here : Went c.args.s c.args.text.now c.args.table.now c.args.lines (plain_stand c.args.start.0 c.args.chars.0) c.draw_long-cut.new.table c.draw_long-cut.result.lines (plain_stand c.draw_long-cut.result.at c.draw_long-cut.result.before) = went_then _ _ _ _ _ _ _ _ ((let passed_here : Went c.args.s c.args.text.now c.args.table.now c.args.lines (plain_stand c.args.start.0 c.args.chars.0) c.draw_plain_lines-far.new.table c.draw_plain_lines-far.result.lines (plain_stand c.draw_plain_lines-far.result.at.0 c.draw_plain_lines-far.result.before.0) = went_then _ _ _ _ _ _ _ _ c.loop-at.invariant.0 _ _ _ c.draw_plain_lines-far.ensures.went in passed_here)) _ _ _ c.draw_long-cut.ensures.went in went_here)) c.requires.room_from _ refl c.requires.stand_ready.1 _ _ _ _ _ row _ refl _ c.draw_told-k.ensures.table_after c.draw_told-k.auto.table goes,
+    found-drew _ _ _ _ _ ((let went_here : Went c.args.s c.args.text.now c.args.table.now c.args.lines (plain_stand c.args.start.0 c.args.chars.0) c.draw_long-cut.new.table c.draw_long-cut.result.lines (plain_stand c.draw_long-cut.result.at c.draw_long-cut.result.before) = went_then _ _ _ _ _ _ _ _ ((let passed_here : Went c.args.s c.args.text.now c.args.table.now c.args.lines (plain_stand c.args.start.0 c.args.chars.0) c.draw_plain_lines-far.new.table c.draw_plain_lines-far.result.lines (plain_stand c.draw_plain_lines-far.result.at.0 c.draw_plain_lines-far.result.before.0) = went_then _ _ _ _ _ _ _ _ c.loop-at.invariant.0 _ _ _ c.draw_plain_lines-far.ensures.went in passed_here)) _ _ _ c.draw_long-cut.ensures.went in went_here)).ready refl c.requires.stand_ready.1 _ _ _ _ _ row _ refl _ _ _ _ _ ((let drew_here : DrewTo c.args.s c.args.text.now c.args.events.now c.args.drawn (plain_stand c.args.start.0 c.args.chars.0) c.draw_long-cut.new.events c.draw_long-cut.result.events (plain_stand c.draw_long-cut.result.at c.draw_long-cut.result.before) = drew-then _ _ _ _ _ _ _ _ ((let traced_here : DrewTo c.args.s c.args.text.now c.args.events.now c.args.drawn (plain_stand c.args.start.0 c.args.chars.0) c.draw_plain_lines-far.new.events c.draw_plain_lines-far.result.events (plain_stand c.draw_plain_lines-far.result.at.0 c.draw_plain_lines-far.result.before.0) = drew-then _ _ _ _ _ _ _ _ c.loop-at.invariant.1 _ _ _ c.draw_plain_lines-far.ensures.drew_to in traced_here)) _ _ _ c.draw_long-cut.ensures.drew_to in drew_here)) _ _ c.draw_told-k.ensures.events_after c.draw_told-k.ensures.value
+    c.draw_told-k.auto.events goes,
     )

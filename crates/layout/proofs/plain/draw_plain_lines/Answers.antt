@@ -37,7 +37,7 @@ plain_entry-entry-requires c =
 
 pub write_entry-requires : goal.write_entry-requires
 write_entry-requires c =
-    went-room _ _ _ _ _ _ _ _ c.loop-s.invariant.0 c.requires.room_from.0
+    went-room _ _ _ _ _ _ _ _ c.loop-s.invariant.0 c.requires.room_from
 
 pub overflow_cast-end : goal.overflow_cast-end
 overflow_cast-end c =
@@ -45,13 +45,13 @@ overflow_cast-end c =
 
 pub draw_plain-k-requires : goal.draw_plain-k-requires
 draw_plain-k-requires c = (
-  placed-room _ _ _ _ _ c.loop-s.invariant.0.ready refl c.requires.stand_ready.1 _ _ _ _ ((let found_here : PlainRow c.args.text.now c.loop-s.at (c.args.s.width.0 / c.args.s.glyph.0) c.plain_row-line.result.end.0 c.plain_row-line.result.reach.0 = c.plain_row-line.ensures c.if-end-eq0.false in found_here)).row _ c.plain_entry-entry.ensures _ (few-before _ _ _ _ _ _ _ _ c.loop-s.invariant.1 c.requires.room_from.1),
+  placed-room _ _ _ _ _ c.loop-s.invariant.0.ready refl c.requires.stand_ready.1 _ _ _ _ ((let found_here : PlainRow c.args.text.now c.loop-s.at (c.args.s.width.0 / c.args.s.glyph.0) c.plain_row-line.result.end.0 c.plain_row-line.result.reach.0 = c.plain_row-line.ensures c.if-end-eq0.false in found_here)).row _ c.plain_entry-entry.ensures _ (few-before _ _ _ _ _ _ _ _ c.loop-s.invariant.1 c.requires.few_from),
   plain-to-draw _ _ _ _ _ c.loop-s.invariant.0.ready refl c.requires.stand_ready.1 _ _ ((let found_here : PlainRow c.args.text.now c.loop-s.at (c.args.s.width.0 / c.args.s.glyph.0) c.plain_row-line.result.end.0 c.plain_row-line.result.reach.0 = c.plain_row-line.ensures c.if-end-eq0.false in found_here)) _ c.plain_entry-entry.ensures,
 )
 
 pub overflow_add-n : goal.overflow_add-n
 overflow_add-n c =
-    record { fits = omega (arith, went-few _ _ _ _ _ _ _ _ c.loop-s.invariant.0 c.requires.room_from.0) }
+    record { fits = omega (arith, went-few _ _ _ _ _ _ _ _ c.loop-s.invariant.0 c.requires.room_from) }
 
 pub overflow_add-at : goal.overflow_add-at
 overflow_add-at c =
@@ -71,7 +71,7 @@ loop-s-smaller c =
 
 pub loop-s-preserved : goal.loop-s-preserved
 loop-s-preserved c = (
-  found-went _ _ _ _ _ _ _ _ _ c.loop-s.invariant.0 c.requires.room_from.0 _ refl c.requires.stand_ready.1 LineBreak _ _ _ _ ((let found_here : PlainRow c.args.text.now c.loop-s.at (c.args.s.width.0 / c.args.s.glyph.0) c.plain_row-line.result.end.0 c.plain_row-line.result.reach.0 = c.plain_row-line.ensures c.if-end-eq0.false in found_here)).row _ c.plain_entry-entry.ensures _
+  found-went _ _ _ _ _ _ _ _ _ c.loop-s.invariant.0 c.requires.room_from _ refl c.requires.stand_ready.1 LineBreak _ _ _ _ ((let found_here : PlainRow c.args.text.now c.loop-s.at (c.args.s.width.0 / c.args.s.glyph.0) c.plain_row-line.result.end.0 c.plain_row-line.result.reach.0 = c.plain_row-line.ensures c.if-end-eq0.false in found_here)).row _ c.plain_entry-entry.ensures _
       c.write_entry.ensures c.write_entry.auto.table refl,
   placed-drew _ _ _ _ _ c.loop-s.invariant.0.ready refl c.requires.stand_ready.1 _ _ _ _ ((let found_here : PlainRow c.args.text.now c.loop-s.at (c.args.s.width.0 / c.args.s.glyph.0) c.plain_row-line.result.end.0 c.plain_row-line.result.reach.0 = c.plain_row-line.ensures c.if-end-eq0.false in found_here)).row _ c.plain_entry-entry.ensures _ _ _ _ _ c.loop-s.invariant.1 _ _ c.draw_plain-k.ensures.events_after
       c.draw_plain-k.ensures.value c.draw_plain-k.auto.events,
