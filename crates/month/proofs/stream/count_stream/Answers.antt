@@ -12,8 +12,8 @@ read_more-requires g c =
 
 pub count_block-step-requires : goal.count_block-step-requires
 count_block-step-requires g c =
-    let came = subst (Came _ _) c.in-UpTo.is c.read_more.ensures.came in
-    (came.1, (omega (arith, c.read_more.auto.buffer, c.loop-reads.invariant.4), (c.loop-reads.invariant.0, (c.loop-reads.invariant.1, omega (arith, came.0)))))
+    let came = c.in-UpTo.ensures.came in
+    record { end_in_bounds = came.1; text_limit_in_bounds = omega (arith, c.read_more.auto.buffer, c.loop-reads.invariant.4); counts = c.loop-reads.invariant.0; clues_lt_most_clues = c.loop-reads.invariant.1; held_le_end = omega (arith, came.0) }
 
 pub shape_of-sums-then-step-ge-MOST_CLUES : goal.shape_of-sums-then-step-ge-MOST_CLUES
 shape_of-sums-then-step-ge-MOST_CLUES g c =
@@ -28,18 +28,17 @@ loop-reads-smaller g c =
     omega (arith, c.loop-reads-test.true)
 
 pub loop-reads-preserved : goal.loop-reads-preserved
-loop-reads-preserved g c =
-    (
-    c.count_block-step.ensures.stepped.counts,
-    c.if-step-ge-MOST_CLUES.false,
-    omega (arith, c.count_block-step.ensures.stepped.inside, c.count_block-step.auto.buffer, c.read_more.auto.buffer, c.loop-reads.invariant.4),
-    c.count_block-step.auto.sums ∙ c.loop-reads.invariant.3,
-    omega (arith, c.count_block-step.auto.buffer, c.read_more.auto.buffer, c.loop-reads.invariant.4),
-    )
+loop-reads-preserved g c = (
+  c.count_block-step.ensures.stepped.counts,
+  c.if-step-ge-MOST_CLUES.false,
+  omega (arith, c.count_block-step.ensures.stepped.inside, c.count_block-step.auto.buffer, c.read_more.auto.buffer, c.loop-reads.invariant.4),
+  c.count_block-step.auto.sums ∙ c.loop-reads.invariant.3,
+  omega (arith, c.count_block-step.auto.buffer, c.read_more.auto.buffer, c.loop-reads.invariant.4),
+)
 
 pub count_last-requires : goal.count_last-requires
 count_last-requires g c =
-    (omega (arith, c.loop-reads.invariant.2, c.read_more.auto.buffer, c.loop-reads.invariant.4), (c.loop-reads.invariant.0, c.loop-reads.invariant.1))
+    record { held_in_bounds = omega (arith, c.loop-reads.invariant.2, c.read_more.auto.buffer, c.loop-reads.invariant.4); counts = c.loop-reads.invariant.0; clues_lt_most_clues = c.loop-reads.invariant.1 }
 
 pub shape_of-sums-in-Nothing : goal.shape_of-sums-in-Nothing
 shape_of-sums-in-Nothing g c =
