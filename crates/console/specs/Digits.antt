@@ -1,6 +1,6 @@
 -- The number that a word of decimal digits writes.
 -- Assumes nothing.
-use Rattle.std.specs.Prelude.{ℕ, ◌+◌, ◌-◌, ◌*◌, ◌≤◌, Bool, ◌&&◌, List, [], ◌∷◌, leb}
+use Rattle.std.specs.Prelude.{ℕ, ◌+◌, ◌-◌, ◌*◌, ◌≤◌, Bool, List, [], ◌∷◌, leb}
 use Rattle.std.proofs.Common.{arith, leb-true}
 use Rattle.basis.specs.Choice.{pick, pick_cases}
 use Rattle.basis.specs.Order.{within}

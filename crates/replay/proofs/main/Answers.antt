@@ -35,6 +35,11 @@ overflow_add-held c =
 pub loop-lines-preserved : goal.loop-lines-preserved
 loop-lines-preserved c =
     let w = (let found_here : Within (length c.next_line.new.buffer) (Found c.in-Found.part) = subst (Within (length c.next_line.new.buffer)) c.in-Found.is c.next_line.ensures in found_here) in
-    let h = (let long_here : length c.next_line.new.buffer ≡ 65536 = c.next_line.auto.buffer ∙ c.loop-lines.invariant.2 in long_here) in
-    (omega (arith, w.1), omega (arith, w.2, h), h, (let sound_here : Sound (c.loop-lines.lines + 1) c.in-To.next = subst (SoundIf (c.loop-lines.lines + 1)) (sym c.count.ensures ∙ c.in-To.is)
-    (counted-sound c.loop-lines.lines c.loop-lines.t c.judge.result c.loop-lines.invariant.3) in sound_here), search rules)
+    let h = (let long_here : length c.next_line.new.buffer ≡ 65536 = c.next_line.auto.buffer ∙ c.loop-lines.invariant.2 in long_here) in (
+      omega (arith, w.1),
+      omega (arith, w.2, h),
+      h,
+      (let sound_here : Sound (c.loop-lines.lines + 1) c.in-To.next = subst (SoundIf (c.loop-lines.lines + 1)) (sym c.count.ensures ∙ c.in-To.is)
+          (counted-sound c.loop-lines.lines c.loop-lines.t c.judge.result c.loop-lines.invariant.3) in sound_here),
+      search rules,
+    )

@@ -4,8 +4,8 @@ use Rattle.month.proofs.block.keep.Goals as goal
 
 pub returns-then-end-at : goal.returns-then-end-at
 returns-then-end-at c =
-    kept-long _ _ _ _ c.requires.at_le_end c.requires.end_in_bounds.0 c.requires.end_in_bounds.1 c.if-end-at.true
+    kept-long _ _ _ _ c.requires.at_le_end c.requires.end_in_bounds c.requires.buffer_nonzero c.if-end-at.true
 
 pub returns : goal.returns
 returns c =
-    kept-held _ _ _ _ c.requires.at_le_end c.requires.end_in_bounds.0 c.if-end-at.false _ _ c.to_front-held.ensures.value c.to_front-held.ensures.buffer_after c.to_front-held.auto.buffer
+    kept-held _ _ _ _ c.requires.at_le_end c.requires.end_in_bounds c.if-end-at.false _ _ c.to_front-held.ensures.value c.to_front-held.ensures.buffer_after c.to_front-held.auto.buffer

@@ -26,8 +26,8 @@ returns-else-not-same c =
     λ e.
     layout_agreed c.args.s c.args.text.now _ _ _ _ c.args.lines.now c.args.events.now c.in-Lines.n c.in-Lines.e c.layout_with_events.result
     c.layout_with_events.ensures.value
-    c.layout_with_events.ensures.table_after.0
-    c.layout_with_events.ensures.table_after.1
+    c.layout_with_events.ensures.table_after
+    c.layout_with_events.ensures.events_after
     c.in-Lines.is
     (sym c.same_lines.ensures ∙ e)
     (sym c.same.ensures ∙ c.if-not-same.false)

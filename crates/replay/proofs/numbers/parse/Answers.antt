@@ -1,4 +1,5 @@
 use Rattle.std.proofs.Common.{sym, ◌∙◌}
+use Rattle.std.proofs.lemmas.Bool.{not-true, not-false}
 use Rattle.replay.proofs.ReadLaws.{reading_start, reading_grown, reading_ended, reading_full, reading_stopped}
 use Rattle.replay.proofs.ReadLaws.{reading_last, reading_unbegun, reading_no_room}
 use Rattle.replay.proofs.numbers.parse.Goals as goal
@@ -26,12 +27,12 @@ returns-in-Malformed c =
 
 pub returns-then-not-number : goal.returns-then-not-number
 returns-then-not-number c =
-    let a = reading_unbegun c.loop-i.invariant c.loop-i-test.false (c.if-not-number.true) in record { value = a.counted; numbers_after = a.stored }
+    let a = reading_unbegun c.loop-i.invariant c.loop-i-test.false (not-true _ c.if-not-number.true) in record { value = a.counted; numbers_after = a.stored }
 
 pub returns-then-numbers-count-2 : goal.returns-then-numbers-count-2
 returns-then-numbers-count-2 c =
-    let a = reading_no_room c.loop-i.invariant c.loop-i-test.false (c.if-not-number.false) c.if-numbers-count-2.true in record { value = a.counted; numbers_after = a.stored }
+    let a = reading_no_room c.loop-i.invariant c.loop-i-test.false (not-false _ c.if-not-number.false) c.if-numbers-count-2.true in record { value = a.counted; numbers_after = a.stored }
 
 pub returns : goal.returns
 returns c =
-    let a = reading_last c.loop-i.invariant c.loop-i-test.false (c.if-not-number.false) c.if-numbers-count-2.false in record { value = a.counted; numbers_after = a.stored }
+    let a = reading_last c.loop-i.invariant c.loop-i-test.false (not-false _ c.if-not-number.false) c.if-numbers-count-2.false in record { value = a.counted; numbers_after = a.stored }
