@@ -16,10 +16,14 @@ returns-then-word-eq0 c =
 
 pub draw_cuts-far-requires : goal.draw_cuts-far-requires
 draw_cuts-far-requires c =
-    record { stand_ready = (ready-here c.args.s c.args.text.now c.args.stand c.requires.stand_ready.0 c.requires.chars_value, c.requires.stand_ready.3, refl); room_from = (
-    room-here c.args.s c.args.text.now c.args.stand c.requires.stand_ready.0 c.requires.chars_value c.args.table.now c.args.lines c.requires.stand_ready.1,
-    c.long_known-word.ensures (omega (arith, c.if-word-eq0.false)),
-    ); few_from = few-here c.args.s c.args.text.now c.args.stand c.requires.stand_ready.0 c.requires.chars_value c.args.drawn c.requires.stand_ready.2 }
+    record {
+      stand_ready = (ready-here c.args.s c.args.text.now c.args.stand c.requires.stand_ready.0 c.requires.chars_value, c.requires.stand_ready.3, refl);
+      room_from = (
+        room-here c.args.s c.args.text.now c.args.stand c.requires.stand_ready.0 c.requires.chars_value c.args.table.now c.args.lines c.requires.stand_ready.1,
+        c.long_known-word.ensures (omega (arith, c.if-word-eq0.false)),
+      );
+      few_from = few-here c.args.s c.args.text.now c.args.stand c.requires.stand_ready.0 c.requires.chars_value c.args.drawn c.requires.stand_ready.2;
+    }
 
 pub shape_of-table : goal.shape_of-table
 shape_of-table c =

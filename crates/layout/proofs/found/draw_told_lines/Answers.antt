@@ -61,10 +61,13 @@ shape_of-events-then-is_last c =
 
 pub returns-then-is_last : goal.returns-then-is_last
 returns-then-is_last c =
-    let ends = sym c.is_last.ensures ∙ c.if-is_last.true in record { reaches = rw c.drawn_at-then-is_last.ensures (reaches_all _ _ _ _ _ _ _ _ (c.draw_told-k.auto.table ∙ ((let went_here : Went c.args.s c.args.text.now c.args.table.now c.args.lines (plain_stand c.args.start.0 c.args.chars.0) c.draw_long-cut.new.table c.draw_long-cut.result.lines (plain_stand c.draw_long-cut.result.at c.draw_long-cut.result.before) = went_then _ _ _ _ _ _ _ _ ((let passed_here : Went c.args.s c.args.text.now c.args.table.now c.args.lines (plain_stand c.args.start.0 c.args.chars.0) c.draw_plain_lines-far.new.table c.draw_plain_lines-far.result.lines (plain_stand c.draw_plain_lines-far.result.at.0 c.draw_plain_lines-far.result.before.0) = went_then _ _ _ _ _ _ _ _ c.loop-at.invariant.0 _ _ _ c.draw_plain_lines-far.ensures.went in passed_here)) _ _ _ c.draw_long-cut.ensures.went in went_here)).same)
-    (found-last _ _ _ _ _ _ _ _ _ ((let went_here : Went c.args.s c.args.text.now c.args.table.now c.args.lines (plain_stand c.args.start.0 c.args.chars.0) c.draw_long-cut.new.table c.draw_long-cut.result.lines (plain_stand c.draw_long-cut.result.at c.draw_long-cut.result.before) = went_then _ _ _ _ _ _ _ _ ((let passed_here : Went c.args.s c.args.text.now c.args.table.now c.args.lines (plain_stand c.args.start.0 c.args.chars.0) c.draw_plain_lines-far.new.table c.draw_plain_lines-far.result.lines (plain_stand c.draw_plain_lines-far.result.at.0 c.draw_plain_lines-far.result.before.0) = went_then _ _ _ _ _ _ _ _ c.loop-at.invariant.0 _ _ _ c.draw_plain_lines-far.ensures.went in passed_here)) _ _ _ c.draw_long-cut.ensures.went in went_here)) c.requires.room_from _ refl c.requires.stand_ready.1 _ _ _ _ _ ((let found_here : RowIn c.args.text.now c.draw_long-cut.result.at (c.args.s.width.0 / c.args.s.glyph.0) c.told_row-row.result = c.told_row-row.ensures c.if-next-eq0.false in found_here)) _ refl _ c.draw_told-k.ensures.table_after c.draw_told-k.auto.table ends)); draw_reaches = rw c.drawn_at-then-is_last.ensures (draws-all _ _ _ _ _ _ _ _ (c.draw_told-k.auto.events ∙ ((let drew_here : DrewTo c.args.s c.args.text.now c.args.events.now c.args.drawn (plain_stand c.args.start.0 c.args.chars.0) c.draw_long-cut.new.events c.draw_long-cut.result.events (plain_stand c.draw_long-cut.result.at c.draw_long-cut.result.before) = drew-then _ _ _ _ _ _ _ _ ((let traced_here : DrewTo c.args.s c.args.text.now c.args.events.now c.args.drawn (plain_stand c.args.start.0 c.args.chars.0) c.draw_plain_lines-far.new.events c.draw_plain_lines-far.result.events (plain_stand c.draw_plain_lines-far.result.at.0 c.draw_plain_lines-far.result.before.0) = drew-then _ _ _ _ _ _ _ _ c.loop-at.invariant.1 _ _ _ c.draw_plain_lines-far.ensures.drew_to in traced_here)) _ _ _ c.draw_long-cut.ensures.drew_to in drew_here)).same)
-    (found-drawn _ _ _ _ _ ((let went_here : Went c.args.s c.args.text.now c.args.table.now c.args.lines (plain_stand c.args.start.0 c.args.chars.0) c.draw_long-cut.new.table c.draw_long-cut.result.lines (plain_stand c.draw_long-cut.result.at c.draw_long-cut.result.before) = went_then _ _ _ _ _ _ _ _ ((let passed_here : Went c.args.s c.args.text.now c.args.table.now c.args.lines (plain_stand c.args.start.0 c.args.chars.0) c.draw_plain_lines-far.new.table c.draw_plain_lines-far.result.lines (plain_stand c.draw_plain_lines-far.result.at.0 c.draw_plain_lines-far.result.before.0) = went_then _ _ _ _ _ _ _ _ c.loop-at.invariant.0 _ _ _ c.draw_plain_lines-far.ensures.went in passed_here)) _ _ _ c.draw_long-cut.ensures.went in went_here)).ready refl c.requires.stand_ready.1 _ _ _ _ _ ((let found_here : RowIn c.args.text.now c.draw_long-cut.result.at (c.args.s.width.0 / c.args.s.glyph.0) c.told_row-row.result = c.told_row-row.ensures c.if-next-eq0.false in found_here)) _ refl _ _ _ _ _ ((let drew_here : DrewTo c.args.s c.args.text.now c.args.events.now c.args.drawn (plain_stand c.args.start.0 c.args.chars.0) c.draw_long-cut.new.events c.draw_long-cut.result.events (plain_stand c.draw_long-cut.result.at c.draw_long-cut.result.before) = drew-then _ _ _ _ _ _ _ _ ((let traced_here : DrewTo c.args.s c.args.text.now c.args.events.now c.args.drawn (plain_stand c.args.start.0 c.args.chars.0) c.draw_plain_lines-far.new.events c.draw_plain_lines-far.result.events (plain_stand c.draw_plain_lines-far.result.at.0 c.draw_plain_lines-far.result.before.0) = drew-then _ _ _ _ _ _ _ _ c.loop-at.invariant.1 _ _ _ c.draw_plain_lines-far.ensures.drew_to in traced_here)) _ _ _ c.draw_long-cut.ensures.drew_to in drew_here)) _ _ c.draw_told-k.ensures.events_after c.draw_told-k.ensures.value
-    c.draw_told-k.auto.events ends)) }
+    let ends = sym c.is_last.ensures ∙ c.if-is_last.true in record {
+      reaches = rw c.drawn_at-then-is_last.ensures (reaches_all _ _ _ _ _ _ _ _ (c.draw_told-k.auto.table ∙ ((let went_here : Went c.args.s c.args.text.now c.args.table.now c.args.lines (plain_stand c.args.start.0 c.args.chars.0) c.draw_long-cut.new.table c.draw_long-cut.result.lines (plain_stand c.draw_long-cut.result.at c.draw_long-cut.result.before) = went_then _ _ _ _ _ _ _ _ ((let passed_here : Went c.args.s c.args.text.now c.args.table.now c.args.lines (plain_stand c.args.start.0 c.args.chars.0) c.draw_plain_lines-far.new.table c.draw_plain_lines-far.result.lines (plain_stand c.draw_plain_lines-far.result.at.0 c.draw_plain_lines-far.result.before.0) = went_then _ _ _ _ _ _ _ _ c.loop-at.invariant.0 _ _ _ c.draw_plain_lines-far.ensures.went in passed_here)) _ _ _ c.draw_long-cut.ensures.went in went_here)).same)
+          (found-last _ _ _ _ _ _ _ _ _ ((let went_here : Went c.args.s c.args.text.now c.args.table.now c.args.lines (plain_stand c.args.start.0 c.args.chars.0) c.draw_long-cut.new.table c.draw_long-cut.result.lines (plain_stand c.draw_long-cut.result.at c.draw_long-cut.result.before) = went_then _ _ _ _ _ _ _ _ ((let passed_here : Went c.args.s c.args.text.now c.args.table.now c.args.lines (plain_stand c.args.start.0 c.args.chars.0) c.draw_plain_lines-far.new.table c.draw_plain_lines-far.result.lines (plain_stand c.draw_plain_lines-far.result.at.0 c.draw_plain_lines-far.result.before.0) = went_then _ _ _ _ _ _ _ _ c.loop-at.invariant.0 _ _ _ c.draw_plain_lines-far.ensures.went in passed_here)) _ _ _ c.draw_long-cut.ensures.went in went_here)) c.requires.room_from _ refl c.requires.stand_ready.1 _ _ _ _ _ ((let found_here : RowIn c.args.text.now c.draw_long-cut.result.at (c.args.s.width.0 / c.args.s.glyph.0) c.told_row-row.result = c.told_row-row.ensures c.if-next-eq0.false in found_here)) _ refl _ c.draw_told-k.ensures.table_after c.draw_told-k.auto.table ends));
+      draw_reaches = rw c.drawn_at-then-is_last.ensures (draws-all _ _ _ _ _ _ _ _ (c.draw_told-k.auto.events ∙ ((let drew_here : DrewTo c.args.s c.args.text.now c.args.events.now c.args.drawn (plain_stand c.args.start.0 c.args.chars.0) c.draw_long-cut.new.events c.draw_long-cut.result.events (plain_stand c.draw_long-cut.result.at c.draw_long-cut.result.before) = drew-then _ _ _ _ _ _ _ _ ((let traced_here : DrewTo c.args.s c.args.text.now c.args.events.now c.args.drawn (plain_stand c.args.start.0 c.args.chars.0) c.draw_plain_lines-far.new.events c.draw_plain_lines-far.result.events (plain_stand c.draw_plain_lines-far.result.at.0 c.draw_plain_lines-far.result.before.0) = drew-then _ _ _ _ _ _ _ _ c.loop-at.invariant.1 _ _ _ c.draw_plain_lines-far.ensures.drew_to in traced_here)) _ _ _ c.draw_long-cut.ensures.drew_to in drew_here)).same)
+          (found-drawn _ _ _ _ _ ((let went_here : Went c.args.s c.args.text.now c.args.table.now c.args.lines (plain_stand c.args.start.0 c.args.chars.0) c.draw_long-cut.new.table c.draw_long-cut.result.lines (plain_stand c.draw_long-cut.result.at c.draw_long-cut.result.before) = went_then _ _ _ _ _ _ _ _ ((let passed_here : Went c.args.s c.args.text.now c.args.table.now c.args.lines (plain_stand c.args.start.0 c.args.chars.0) c.draw_plain_lines-far.new.table c.draw_plain_lines-far.result.lines (plain_stand c.draw_plain_lines-far.result.at.0 c.draw_plain_lines-far.result.before.0) = went_then _ _ _ _ _ _ _ _ c.loop-at.invariant.0 _ _ _ c.draw_plain_lines-far.ensures.went in passed_here)) _ _ _ c.draw_long-cut.ensures.went in went_here)).ready refl c.requires.stand_ready.1 _ _ _ _ _ ((let found_here : RowIn c.args.text.now c.draw_long-cut.result.at (c.args.s.width.0 / c.args.s.glyph.0) c.told_row-row.result = c.told_row-row.ensures c.if-next-eq0.false in found_here)) _ refl _ _ _ _ _ ((let drew_here : DrewTo c.args.s c.args.text.now c.args.events.now c.args.drawn (plain_stand c.args.start.0 c.args.chars.0) c.draw_long-cut.new.events c.draw_long-cut.result.events (plain_stand c.draw_long-cut.result.at c.draw_long-cut.result.before) = drew-then _ _ _ _ _ _ _ _ ((let traced_here : DrewTo c.args.s c.args.text.now c.args.events.now c.args.drawn (plain_stand c.args.start.0 c.args.chars.0) c.draw_plain_lines-far.new.events c.draw_plain_lines-far.result.events (plain_stand c.draw_plain_lines-far.result.at.0 c.draw_plain_lines-far.result.before.0) = drew-then _ _ _ _ _ _ _ _ c.loop-at.invariant.1 _ _ _ c.draw_plain_lines-far.ensures.drew_to in traced_here)) _ _ _ c.draw_long-cut.ensures.drew_to in drew_here)) _ _ c.draw_told-k.ensures.events_after c.draw_told-k.ensures.value
+          c.draw_told-k.auto.events ends));
+    }
 
 pub overflow_add-before : goal.overflow_add-before
 overflow_add-before c =
@@ -83,7 +86,7 @@ pub loop-at-preserved : goal.loop-at-preserved
 loop-at-preserved c =
     let goes = sym c.is_last.ensures ∙ c.if-is_last.false in
     let row = found-more _ _ _ _ ((let found_here : RowIn c.args.text.now c.draw_long-cut.result.at (c.args.s.width.0 / c.args.s.glyph.0) c.told_row-row.result = c.told_row-row.ensures c.if-next-eq0.false in found_here)) goes in (
-    found-went _ _ _ _ _ _ _ _ _ ((let went_here : Went c.args.s c.args.text.now c.args.table.now c.args.lines (plain_stand c.args.start.0 c.args.chars.0) c.draw_long-cut.new.table c.draw_long-cut.result.lines (plain_stand c.draw_long-cut.result.at c.draw_long-cut.result.before) = went_then _ _ _ _ _ _ _ _ ((let passed_here : Went c.args.s c.args.text.now c.args.table.now c.args.lines (plain_stand c.args.start.0 c.args.chars.0) c.draw_plain_lines-far.new.table c.draw_plain_lines-far.result.lines (plain_stand c.draw_plain_lines-far.result.at.0 c.draw_plain_lines-far.result.before.0) = went_then _ _ _ _ _ _ _ _ c.loop-at.invariant.0 _ _ _ c.draw_plain_lines-far.ensures.went in passed_here)) _ _ _ c.draw_long-cut.ensures.went in went_here)) c.requires.room_from _ refl c.requires.stand_ready.1 _ _ _ _ _ row _ refl _ c.draw_told-k.ensures.table_after c.draw_told-k.auto.table goes,
-    found-drew _ _ _ _ _ ((let went_here : Went c.args.s c.args.text.now c.args.table.now c.args.lines (plain_stand c.args.start.0 c.args.chars.0) c.draw_long-cut.new.table c.draw_long-cut.result.lines (plain_stand c.draw_long-cut.result.at c.draw_long-cut.result.before) = went_then _ _ _ _ _ _ _ _ ((let passed_here : Went c.args.s c.args.text.now c.args.table.now c.args.lines (plain_stand c.args.start.0 c.args.chars.0) c.draw_plain_lines-far.new.table c.draw_plain_lines-far.result.lines (plain_stand c.draw_plain_lines-far.result.at.0 c.draw_plain_lines-far.result.before.0) = went_then _ _ _ _ _ _ _ _ c.loop-at.invariant.0 _ _ _ c.draw_plain_lines-far.ensures.went in passed_here)) _ _ _ c.draw_long-cut.ensures.went in went_here)).ready refl c.requires.stand_ready.1 _ _ _ _ _ row _ refl _ _ _ _ _ ((let drew_here : DrewTo c.args.s c.args.text.now c.args.events.now c.args.drawn (plain_stand c.args.start.0 c.args.chars.0) c.draw_long-cut.new.events c.draw_long-cut.result.events (plain_stand c.draw_long-cut.result.at c.draw_long-cut.result.before) = drew-then _ _ _ _ _ _ _ _ ((let traced_here : DrewTo c.args.s c.args.text.now c.args.events.now c.args.drawn (plain_stand c.args.start.0 c.args.chars.0) c.draw_plain_lines-far.new.events c.draw_plain_lines-far.result.events (plain_stand c.draw_plain_lines-far.result.at.0 c.draw_plain_lines-far.result.before.0) = drew-then _ _ _ _ _ _ _ _ c.loop-at.invariant.1 _ _ _ c.draw_plain_lines-far.ensures.drew_to in traced_here)) _ _ _ c.draw_long-cut.ensures.drew_to in drew_here)) _ _ c.draw_told-k.ensures.events_after c.draw_told-k.ensures.value
-    c.draw_told-k.auto.events goes,
+      found-went _ _ _ _ _ _ _ _ _ ((let went_here : Went c.args.s c.args.text.now c.args.table.now c.args.lines (plain_stand c.args.start.0 c.args.chars.0) c.draw_long-cut.new.table c.draw_long-cut.result.lines (plain_stand c.draw_long-cut.result.at c.draw_long-cut.result.before) = went_then _ _ _ _ _ _ _ _ ((let passed_here : Went c.args.s c.args.text.now c.args.table.now c.args.lines (plain_stand c.args.start.0 c.args.chars.0) c.draw_plain_lines-far.new.table c.draw_plain_lines-far.result.lines (plain_stand c.draw_plain_lines-far.result.at.0 c.draw_plain_lines-far.result.before.0) = went_then _ _ _ _ _ _ _ _ c.loop-at.invariant.0 _ _ _ c.draw_plain_lines-far.ensures.went in passed_here)) _ _ _ c.draw_long-cut.ensures.went in went_here)) c.requires.room_from _ refl c.requires.stand_ready.1 _ _ _ _ _ row _ refl _ c.draw_told-k.ensures.table_after c.draw_told-k.auto.table goes,
+      found-drew _ _ _ _ _ ((let went_here : Went c.args.s c.args.text.now c.args.table.now c.args.lines (plain_stand c.args.start.0 c.args.chars.0) c.draw_long-cut.new.table c.draw_long-cut.result.lines (plain_stand c.draw_long-cut.result.at c.draw_long-cut.result.before) = went_then _ _ _ _ _ _ _ _ ((let passed_here : Went c.args.s c.args.text.now c.args.table.now c.args.lines (plain_stand c.args.start.0 c.args.chars.0) c.draw_plain_lines-far.new.table c.draw_plain_lines-far.result.lines (plain_stand c.draw_plain_lines-far.result.at.0 c.draw_plain_lines-far.result.before.0) = went_then _ _ _ _ _ _ _ _ c.loop-at.invariant.0 _ _ _ c.draw_plain_lines-far.ensures.went in passed_here)) _ _ _ c.draw_long-cut.ensures.went in went_here)).ready refl c.requires.stand_ready.1 _ _ _ _ _ row _ refl _ _ _ _ _ ((let drew_here : DrewTo c.args.s c.args.text.now c.args.events.now c.args.drawn (plain_stand c.args.start.0 c.args.chars.0) c.draw_long-cut.new.events c.draw_long-cut.result.events (plain_stand c.draw_long-cut.result.at c.draw_long-cut.result.before) = drew-then _ _ _ _ _ _ _ _ ((let traced_here : DrewTo c.args.s c.args.text.now c.args.events.now c.args.drawn (plain_stand c.args.start.0 c.args.chars.0) c.draw_plain_lines-far.new.events c.draw_plain_lines-far.result.events (plain_stand c.draw_plain_lines-far.result.at.0 c.draw_plain_lines-far.result.before.0) = drew-then _ _ _ _ _ _ _ _ c.loop-at.invariant.1 _ _ _ c.draw_plain_lines-far.ensures.drew_to in traced_here)) _ _ _ c.draw_long-cut.ensures.drew_to in drew_here)) _ _ c.draw_told-k.ensures.events_after c.draw_told-k.ensures.value
+          c.draw_told-k.auto.events goes,
     )
