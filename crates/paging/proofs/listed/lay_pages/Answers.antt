@@ -29,7 +29,11 @@ page_count-count-requires c =
 
 pub returns : goal.returns
 returns c =
-    record { value = (paging-done _ _ _ _ _ ((let tested_here : check_paging c.args.s c.args.h c.args.text.now c.args.table.now c.args.pages.now ≡ Good = sym c.check_paging-checked.ensures ∙ c.in_default.is in tested_here)) _ c.write_lines-lines.ensures.value _ c.write_lines-lines.ensures.table_after c.write_lines-lines.auto.table _
-    c.page_count-count.ensures _ c.write_pages.ensures).0; table_after = (paging-done _ _ _ _ _ ((let tested_here : check_paging c.args.s c.args.h c.args.text.now c.args.table.now c.args.pages.now ≡ Good = sym c.check_paging-checked.ensures ∙ c.in_default.is in tested_here)) _ c.write_lines-lines.ensures.value _ c.write_lines-lines.ensures.table_after c.write_lines-lines.auto.table _
-    c.page_count-count.ensures _ c.write_pages.ensures).1.0; pages_after = (paging-done _ _ _ _ _ ((let tested_here : check_paging c.args.s c.args.h c.args.text.now c.args.table.now c.args.pages.now ≡ Good = sym c.check_paging-checked.ensures ∙ c.in_default.is in tested_here)) _ c.write_lines-lines.ensures.value _ c.write_lines-lines.ensures.table_after c.write_lines-lines.auto.table _
-    c.page_count-count.ensures _ c.write_pages.ensures).1.1 }
+    record {
+      value = (paging-done _ _ _ _ _ ((let tested_here : check_paging c.args.s c.args.h c.args.text.now c.args.table.now c.args.pages.now ≡ Good = sym c.check_paging-checked.ensures ∙ c.in_default.is in tested_here)) _ c.write_lines-lines.ensures.value _ c.write_lines-lines.ensures.table_after c.write_lines-lines.auto.table _
+          c.page_count-count.ensures _ c.write_pages.ensures).0;
+      table_after = (paging-done _ _ _ _ _ ((let tested_here : check_paging c.args.s c.args.h c.args.text.now c.args.table.now c.args.pages.now ≡ Good = sym c.check_paging-checked.ensures ∙ c.in_default.is in tested_here)) _ c.write_lines-lines.ensures.value _ c.write_lines-lines.ensures.table_after c.write_lines-lines.auto.table _
+          c.page_count-count.ensures _ c.write_pages.ensures).1.0;
+      pages_after = (paging-done _ _ _ _ _ ((let tested_here : check_paging c.args.s c.args.h c.args.text.now c.args.table.now c.args.pages.now ≡ Good = sym c.check_paging-checked.ensures ∙ c.in_default.is in tested_here)) _ c.write_lines-lines.ensures.value _ c.write_lines-lines.ensures.table_after c.write_lines-lines.auto.table _
+          c.page_count-count.ensures _ c.write_pages.ensures).1.1;
+    }

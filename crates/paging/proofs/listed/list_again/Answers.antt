@@ -7,7 +7,8 @@ use Rattle.paging.proofs.listed.list_again.Goals as goal
 
 pub returns-in-Refused : goal.returns-in-Refused
 returns-in-Refused c =
-    record { value = (again-refused _ _ _ _ _ _ (sym c.check_paging_again-checked.ensures ∙ c.in-Refused.is)).0; pages_after = (again-refused _ _ _ _ _ _ (sym c.check_paging_again-checked.ensures ∙ c.in-Refused.is)).1 }
+    let refused = again-refused _ _ _ _ c.args.first _ (sym c.check_paging_again-checked.ensures ∙ c.in-Refused.is) in
+    record { value = refused.0; pages_after = refused.1 }
 
 pub kept_pages-kept-requires : goal.kept_pages-kept-requires
 kept_pages-kept-requires c =
