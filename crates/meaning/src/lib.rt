@@ -1,5 +1,6 @@
 // The types that settings and answers are made of. Nothing here runs: specs/ says what each rule of the scope means.
 #![tactic(auto)]
+
 pub mod answers;
 pub mod counts;
 pub mod cursor;

@@ -20,24 +20,35 @@ returns-then-end-stop c =
 
 pub slice_bounds-add_clue-count : goal.slice_bounds-add_clue-count
 slice_bounds-add_clue-count c =
-    omega (arith, (let stops_here : (c.loop-n.at ≤ c.find_feed-stop.result) × (c.find_feed-stop.result ≤ c.args.end) = (
-    omega (arith, c.find_feed-stop.ensures),
-    omega (arith, stop-within _ _ _ _ _ _ _ _ _ c.loop-n.invariant _ c.find_feed-stop.ensures, (let long_here : length (take c.args.end c.args.buffer.now) ≡ c.args.end = length-take-le c.args.end c.args.buffer.now c.requires.end_in_bounds in long_here)),
-    ) in stops_here))
+    omega (
+      arith,
+      (let stops_here : (c.loop-n.at ≤ c.find_feed-stop.result) × (c.find_feed-stop.result ≤ c.args.end) = (
+        omega (arith, c.find_feed-stop.ensures),
+        omega (arith, stop-within _ _ _ _ _ _ _ _ _ c.loop-n.invariant _ c.find_feed-stop.ensures, (let long_here : length (take c.args.end c.args.buffer.now) ≡ c.args.end = length-take-le c.args.end c.args.buffer.now c.requires.end_in_bounds in long_here)),
+      ) in stops_here),
+    )
 
 pub slice_bounds-add_clue-start : goal.slice_bounds-add_clue-start
 slice_bounds-add_clue-start c =
-    omega (arith, (let stops_here : (c.loop-n.at ≤ c.find_feed-stop.result) × (c.find_feed-stop.result ≤ c.args.end) = (
-    omega (arith, c.find_feed-stop.ensures),
-    omega (arith, stop-within _ _ _ _ _ _ _ _ _ c.loop-n.invariant _ c.find_feed-stop.ensures, (let long_here : length (take c.args.end c.args.buffer.now) ≡ c.args.end = length-take-le c.args.end c.args.buffer.now c.requires.end_in_bounds in long_here)),
-    ) in stops_here), c.requires.end_in_bounds)
+    omega (
+      arith,
+      (let stops_here : (c.loop-n.at ≤ c.find_feed-stop.result) × (c.find_feed-stop.result ≤ c.args.end) = (
+        omega (arith, c.find_feed-stop.ensures),
+        omega (arith, stop-within _ _ _ _ _ _ _ _ _ c.loop-n.invariant _ c.find_feed-stop.ensures, (let long_here : length (take c.args.end c.args.buffer.now) ≡ c.args.end = length-take-le c.args.end c.args.buffer.now c.requires.end_in_bounds in long_here)),
+      ) in stops_here),
+      c.requires.end_in_bounds,
+    )
 
 pub slice_bounds-add_clue-end : goal.slice_bounds-add_clue-end
 slice_bounds-add_clue-end c =
-    omega (arith, (let stops_here : (c.loop-n.at ≤ c.find_feed-stop.result) × (c.find_feed-stop.result ≤ c.args.end) = (
-    omega (arith, c.find_feed-stop.ensures),
-    omega (arith, stop-within _ _ _ _ _ _ _ _ _ c.loop-n.invariant _ c.find_feed-stop.ensures, (let long_here : length (take c.args.end c.args.buffer.now) ≡ c.args.end = length-take-le c.args.end c.args.buffer.now c.requires.end_in_bounds in long_here)),
-    ) in stops_here), c.requires.end_in_bounds)
+    omega (
+      arith,
+      (let stops_here : (c.loop-n.at ≤ c.find_feed-stop.result) × (c.find_feed-stop.result ≤ c.args.end) = (
+        omega (arith, c.find_feed-stop.ensures),
+        omega (arith, stop-within _ _ _ _ _ _ _ _ _ c.loop-n.invariant _ c.find_feed-stop.ensures, (let long_here : length (take c.args.end c.args.buffer.now) ≡ c.args.end = length-take-le c.args.end c.args.buffer.now c.requires.end_in_bounds in long_here)),
+      ) in stops_here),
+      c.requires.end_in_bounds,
+    )
 
 pub add_clue-n-requires : goal.add_clue-n-requires
 add_clue-n-requires c =
@@ -45,24 +56,33 @@ add_clue-n-requires c =
 
 pub overflow_add-at : goal.overflow_add-at
 overflow_add-at c =
-    omega (arith, (let stops_here : (c.loop-n.at ≤ c.find_feed-stop.result) × (c.find_feed-stop.result ≤ c.args.end) = (
-    omega (arith, c.find_feed-stop.ensures),
-    omega (arith, stop-within _ _ _ _ _ _ _ _ _ c.loop-n.invariant _ c.find_feed-stop.ensures, (let long_here : length (take c.args.end c.args.buffer.now) ≡ c.args.end = length-take-le c.args.end c.args.buffer.now c.requires.end_in_bounds in long_here)),
-    ) in stops_here), c.ranges.end.fits, c.if-end-stop.false)
+    omega (
+      arith,
+      (let stops_here : (c.loop-n.at ≤ c.find_feed-stop.result) × (c.find_feed-stop.result ≤ c.args.end) = (
+        omega (arith, c.find_feed-stop.ensures),
+        omega (arith, stop-within _ _ _ _ _ _ _ _ _ c.loop-n.invariant _ c.find_feed-stop.ensures, (let long_here : length (take c.args.end c.args.buffer.now) ≡ c.args.end = length-take-le c.args.end c.args.buffer.now c.requires.end_in_bounds in long_here)),
+      ) in stops_here),
+      c.ranges.end.fits,
+      c.if-end-stop.false,
+    )
 
 pub loop-n-smaller : goal.loop-n-smaller
 loop-n-smaller c =
-    omega (arith, (let stops_here : (c.loop-n.at ≤ c.find_feed-stop.result) × (c.find_feed-stop.result ≤ c.args.end) = (
-    omega (arith, c.find_feed-stop.ensures),
-    omega (arith, stop-within _ _ _ _ _ _ _ _ _ c.loop-n.invariant _ c.find_feed-stop.ensures, (let long_here : length (take c.args.end c.args.buffer.now) ≡ c.args.end = length-take-le c.args.end c.args.buffer.now c.requires.end_in_bounds in long_here)),
-    ) in stops_here), c.if-end-stop.false)
+    omega (
+      arith,
+      (let stops_here : (c.loop-n.at ≤ c.find_feed-stop.result) × (c.find_feed-stop.result ≤ c.args.end) = (
+        omega (arith, c.find_feed-stop.ensures),
+        omega (arith, stop-within _ _ _ _ _ _ _ _ _ c.loop-n.invariant _ c.find_feed-stop.ensures, (let long_here : length (take c.args.end c.args.buffer.now) ≡ c.args.end = length-take-le c.args.end c.args.buffer.now c.requires.end_in_bounds in long_here)),
+      ) in stops_here),
+      c.if-end-stop.false,
+    )
 
 pub loop-n-preserved : goal.loop-n-preserved
 loop-n-preserved c =
     let next = passing-next _ _ _ _ _ _ _ _ _ c.loop-n.invariant _ c.find_feed-stop.ensures c.loop-n-test.true (omega (arith, (let long_here : length (take c.args.end c.args.buffer.now) ≡ c.args.end = length-take-le c.args.end c.args.buffer.now c.requires.end_in_bounds in long_here), c.if-end-stop.false)) _
     (same-part c.args.buffer.now c.loop-n.at c.find_feed-stop.result c.args.end ((let stops_here : (c.loop-n.at ≤ c.find_feed-stop.result) × (c.find_feed-stop.result ≤ c.args.end) = (
-    omega (arith, c.find_feed-stop.ensures),
-    omega (arith, stop-within _ _ _ _ _ _ _ _ _ c.loop-n.invariant _ c.find_feed-stop.ensures, (let long_here : length (take c.args.end c.args.buffer.now) ≡ c.args.end = length-take-le c.args.end c.args.buffer.now c.requires.end_in_bounds in long_here)),
+      omega (arith, c.find_feed-stop.ensures),
+      omega (arith, stop-within _ _ _ _ _ _ _ _ _ c.loop-n.invariant _ c.find_feed-stop.ensures, (let long_here : length (take c.args.end c.args.buffer.now) ≡ c.args.end = length-take-le c.args.end c.args.buffer.now c.requires.end_in_bounds in long_here)),
     ) in stops_here)).1) _ c.add_clue-n.auto.sums c.add_clue-n.ensures.sums_after
     in
     rw c.add_clue-n.ensures.value next
