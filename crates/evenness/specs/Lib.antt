@@ -1,6 +1,5 @@
 pub mod EvenExamples
 pub mod EvenLines
-pub mod JustifiedLines
 pub mod PassSteps
 pub mod PrintEnds
 pub mod PrintedWords

@@ -125,13 +125,13 @@ smooth-word : (g : ℕ) (sp : Spaces) (at : ℕ) (cs : List ℕ) → 1 ≤ sp.wi
 unfolding drawn_word
 smooth-word g sp at cs h = smooth-stretches g sp at (stretches cs) h
 
-smooth-none : (ds : List Drawn) → to_last_print ds ≡ [] → AllOf SmoothAt (to_last_print ds)
+pub smooth-none : (ds : List Drawn) → to_last_print ds ≡ [] → AllOf SmoothAt (to_last_print ds)
 smooth-none ds e = subst (AllOf SmoothAt) (sym e) tt
 
 -- ---- from a token on
 
 -- From any place where these tokens are next, unless spaces are skipped at the front, neither comes up to the last print.
-abbrev SmoothFrom : Settings → (at : ℕ) → List Tok → Type 0
+abbrev pub SmoothFrom : Settings → (at : ℕ) → List Tok → Type 0
 SmoothFrom s at ts =
     (p : Place) → (skips s p ≡ true → NoFront ts) → 1 ≤ p.spaces.width.0 → AllOf SmoothAt (to_last_print (process s p at ts).drawn)
 
@@ -147,7 +147,7 @@ module _ (s : Settings) (at : ℕ) (cs : List ℕ) (ts : List Tok) (e : ℕ) (si
     abbrev wide : ℕ
     wide = spaces_width p.spaces n
 
-    skipped-smooth : skips s p ≡ true → (n ≡ 0) × NoFront ts → AllOf SmoothAt (to_last_print all)
+    pub skipped-smooth : skips s p ≡ true → (n ≡ 0) × NoFront ts → AllOf SmoothAt (to_last_print all)
     unfolding spaces_after
     skipped-smooth t k =
         smooth-by all _ (space-skipped s p at cs ts e n t)
@@ -178,13 +178,8 @@ module _ (s : Settings) (at : ℕ) (cs : List ℕ) (ts : List Tok) (e : ℕ) (si
       unseen_smooth : seen ≡ false → AllOf SmoothAt (to_last_print (one ++ rest))
       unseen_smooth v = smooth-none (one ++ rest) (one-space at (at + size cs) n (when seen wide) rest (hidden-none s ts next (at + size cs) simple v))
 
-      fitting-smooth : AllOf SmoothAt (to_last_print all)
+      pub fitting-smooth : AllOf SmoothAt (to_last_print all)
       fitting-smooth = smooth-by all _ (space-goes s p at cs ts e n t u) (by_test seen seen-smooth unseen_smooth)
-
-    space-smooth : (skips s p ≡ true → (n ≡ 0) × NoFront ts) → AllOf SmoothAt (to_last_print all)
-    space-smooth k =
-        by_test (skips s p) (λ t. skipped-smooth t (k t))
-        (λ t. by_test (fits_in p.cursor wide) (fitting-smooth t) (λ u. smooth-none all (space-cut s p at cs ts e n t u)))
 
   abbrev printed : List Drawn
   printed = (process s p at (word cs e ∷ ts)).drawn
@@ -206,19 +201,8 @@ module _ (s : Settings) (at : ℕ) (cs : List ℕ) (ts : List Tok) (e : ℕ) (si
       by_test (eqb (room_of p.cursor / s.glyph.0) 0) (λ v. smooth-none printed (ap to_last_print (word-unfit s p at cs ts e t u v)))
       (λ v. smooth-by printed part (word_cut s p at cs ts e t u v) (all_first SmoothAt part (smooth-word _ p.spaces at _ w)))
 
-  printed-smooth : AllOf SmoothAt (to_last_print printed)
+  pub printed-smooth : AllOf SmoothAt (to_last_print printed)
   unfolding to_last_print
   printed-smooth =
       by_test (fits_in p.cursor (length cs * s.glyph.0)) fits-smooth
       (λ t. by_test p.empty (cut-smooth t) (λ u. smooth-none printed (ap to_last_print (word-waits s p at cs ts e t u))))
-
--- Of all tokens of a text with neither tabs nor soft hyphens.
-pub pass-smooth : (s : Settings) (ts : List Tok) (at : ℕ) → Simple ts → SmoothFrom s at ts
-unfolding process step to_last_print if_more
-pass-smooth s [] at h p k w = tt
-pass-smooth s (newLine ∷ ts) at h p k w = tt
-pass-smooth s (carriageReturn ∷ ts) at h p k w = tt
-pass-smooth s (tab ∷ ts) at h p k w = absurd h
-pass-smooth s (softHyphen ∷ ts) at h p k w = absurd h
-pass-smooth s (space cs n e ∷ ts) at h p k w = space-smooth s at cs ts e h (pass-smooth s ts (at + size cs) h) p w n k
-pass-smooth s (word cs e ∷ ts) at h p k w = printed-smooth s at cs ts e h (pass-smooth s ts (at + size cs) h) p w

@@ -29,7 +29,8 @@ use Rattle.laws.specs.LineWidths.{plain-spaces, line-width}
 use Rattle.laws.specs.EvenSpaces.{after_none, Justifies, shared_out, share_width}
 use Rattle.laws.specs.LastPrint.{to_last_print, AllOf, measured-width, measured-count, prints, printed_end}
 use Rattle.evenness.specs.SpacesAtEdge.{NoTab, NoneStands, drawing, spaces_counted, Smooth, placed-justified, line-at-edge}
-use Rattle.evenness.specs.SimplePasses.{either-false, either-neither, Simple, NoFront, SmoothAt, pass-smooth}
+use Rattle.evenness.specs.SimplePasses.{either-false, either-neither, Simple, NoFront, SmoothAt}
+use Rattle.evenness.proofs.PassSmooth.{pass-smooth}
 use Rattle.evenness.specs.SamePrints.{same-prints}
 
 -- No leading space is skipped: the setting is on, or no counted space stands before the line's first word.

@@ -1,0 +1,2 @@
+pub mod JustifiedLines
+pub mod PassSmooth
