@@ -15408,8 +15408,8 @@ start:
   %r5 = alloca ptr, align 8
   %r6 = alloca i8, align 1
   %r7 = mul i64 %a2, 1
-  %r8 = ptrtoaddr ptr %a1 to i64
-  %r9 = ptrtoaddr ptr %a0 to i64
+  %r8 = ptrtoint ptr %a1 to i64 ; ptrtoaddr
+  %r9 = ptrtoint ptr %a0 to i64 ; ptrtoaddr
   %r10 = sub i64 %r8, %r9
   %r11 = icmp ult i64 %r10, %r7
   br i1 %r11, label %inside.1, label %apart.2

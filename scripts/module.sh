@@ -55,13 +55,14 @@ link_all() { # FROM TO BUT..
 
 # The module that the stand-in has kept, as text in which neither a machine nor a path is named. Each call's answer is marked signext, as
 # C compilers do it on riscv64: there a number of 32 bits fills a register of 64. On the other machines the mark changes nothing.
-# A hint that LLVM knows by a new name since version 21 gets its old one, which all know.
+# A hint that LLVM knows by a new name since version 21 gets its old one, which all know. So does the address of a pointer as a number:
+# LLVM 19 has ptrtoint alone, which gives the same number. A comment on the line says so, by which rt's own module is had again.
 write_module() { # FILE
     [ -s "$stand_in/module.bc" ] || die "rt handed no module to clang: this kit is another than this script knows"
     quietly "$out/module.log" "$tools/bin/clang" --target=x86_64-unknown-linux-gnu -S -emit-llvm -O0 -Xclang -disable-llvm-passes \
         -x ir "$stand_in/module.bc" -o "$out/named.ll"
     sed -e '/^; ModuleID = /d' -e '/^target datalayout = /d' -e '/^target triple = /d' -e 's/ "target-cpu"="[^"]*"//' \
-        -e 's/captures(none)/nocapture/g' \
+        -e 's/captures(none)/nocapture/g' -e 's/ = ptrtoaddr \(ptr .*\)$/ = ptrtoint \1 ; ptrtoaddr/' \
         -e 's/^define noundef i32 @bisquemop_/define noundef signext i32 @bisquemop_/' "$out/named.ll" >"$1"
     ! grep -q 'captures(' "$1" || die "rt's module has a hint that LLVM 19 does not know: captures(..)"
 }
