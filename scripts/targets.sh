@@ -25,7 +25,7 @@ cortex-m4f | thumbv7em-none-eabihf | -mcpu=cortex-m4 | arm-none-eabi-gcc | gcc-a
 cortex-m0plus | thumbv6m-none-eabi | -mcpu=cortex-m0plus | arm-none-eabi-gcc | gcc-arm-none-eabi libnewlib-arm-none-eabi | qemu-system-arm | qemu-system-arm
 cortex-m33 | thumbv8m.main-none-eabi | -mcpu=cortex-m33+nodsp+nofp | arm-none-eabi-gcc | gcc-arm-none-eabi libnewlib-arm-none-eabi | qemu-system-arm | qemu-system-arm
 riscv32imc | riscv32-unknown-none-elf | -march=rv32imc -mabi=ilp32 | clang | clang lld libnewlib-dev | qemu-riscv32 | qemu-user
-wasm32 | wasm32-unknown-unknown | -O2 | clang | clang lld wasi-libc libclang-rt-dev-wasm32 | node | nodejs
+wasm32 | wasm32-unknown-unknown | -O2 -mllvm -inline-threshold=190 | clang | clang lld wasi-libc libclang-rt-dev-wasm32 | node | nodejs
 aarch64-android | aarch64-linux-android21 | -fPIC | clang | clang | none |
 arm64-ios | arm64-apple-ios13.0 | -fPIC | clang | clang | none |
 arm64-macos | arm64-apple-macos11.0 | -fPIC | clang | clang | none |

@@ -205,7 +205,7 @@ fn indexes(claims: &mut Claims, specs: &str) {
         let (text, y) = (values[1].text(), signed(&values[3]));
         let index: Vec<i32> = values[2].list().iter().map(signed).collect();
         let under = match values[4].applied() {
-            ("Line", line) => Some(line[0].number().into()),
+            ("Some", line) => Some(line[0].number().into()),
             _ => None,
         };
         let name = || format!("{} at {}", show::text(text), show::settings(&settings, true));

@@ -1,6 +1,7 @@
 -- The rest of the first affected line as the code finds it: its end in the part is a number that equals `rest_end`.
 -- Assumes nothing.
 use Prim.Native.Nat.{ℕ, ◌≤◌}
+use Rattle.std.specs.Prelude.{Ok}
 use native.Mathlib.Omega.{arith}
 use mathlib.Core.Path.{◌≡◌, ap, ◌∙◌}
 use mathlib.Core.Bool.{true, false}
@@ -13,7 +14,6 @@ use Rattle.meaning.specs.Checks.{check_utf8}
 use Rattle.meaning.specs.WellFormed.{no_rest}
 use Rattle.meaning.specs.Edit.{chars_in, rest_fits}
 use Rattle.meaning.specs.declared.line.Entry.{Entry}
-use Rattle.meaning.specs.declared.refusals.Checked.TheVariants.{Good}
 use Rattle.laws.specs.LinesTake.{chars-within}
 use Rattle.laws.specs.TokenLaws.{length-size}
 use Rattle.steps.specs.Unrolled.{nothing_resumed}
@@ -30,7 +30,7 @@ module _ (t : List ℕ) (e : Entry) where
   unfolding resumed_of pick
   resumed-none h r is = is ∙ rw h
 
-  module _ (u : check_utf8 t ≡ Good) (some : no_rest e ≡ false) (n : ℕ) (is : n ≡ rest_end e) where
+  module _ (u : check_utf8 t ≡ Ok tt) (some : no_rest e ≡ false) (n : ℕ) (is : n ≡ rest_end e) where
     pub ends_there : rest_fits e cs ≡ true → boundary cs n ≡ true
     ends_there h = rw is (fits-ends e cs some h)
 

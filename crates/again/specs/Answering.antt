@@ -1,6 +1,8 @@
 -- The answer and the table of laying again, by refusals 1 to 6 and the room that the table has.
 -- Assumes nothing.
-use Rattle.std.specs.Prelude.{ℕ, ◌≤◌, ◌<◌, ◌≡◌, refl, length}
+use Rattle.std.specs.Prelude.{ℕ, ◌≤◌, ◌<◌, ◌≡◌, refl, length, Err, Ok, Result}
+use Rattle.meaning.specs.Refusals.{Checked}
+use Rattle.meaning.specs.declared.answers.Relaid.{Relaid}
 use Rattle.std.proofs.Math.Path.{sym}
 use Rattle.std.proofs.Common.{◌∙◌}
 use mathlib.Core.List.{List, [], ◌∷◌, ◌++◌}
@@ -17,10 +19,6 @@ use Rattle.meaning.specs.declared.edit.Edit.{Edit}
 use Rattle.meaning.specs.declared.line.Entry.{Entry}
 use Rattle.meaning.specs.declared.refusals.Refusal.{Refusal}
 use Rattle.meaning.specs.declared.refusals.Refusal.TheVariants.{TooSmall}
-use Rattle.meaning.specs.declared.refusals.Checked.{Checked}
-use Rattle.meaning.specs.declared.refusals.Checked.TheVariants.{Good, Refused}
-use Rattle.meaning.specs.declared.answers.Relaid.{Relaid}
-use Rattle.meaning.specs.declared.answers.Relaid.TheVariants as relaid
 use Rattle.laws.specs.TestOrder.{first_alone}
 use Rattle.edits.specs.Checking.{check_first, check_lent, check_before}
 use Rattle.again.specs.GoodRelay.{all-good, goods}
@@ -29,16 +27,16 @@ use Rattle.again.specs.GoodRelay.{all-good, goods}
 first_append : (xs ys : List Checked) → first_of (first_of xs ∷ ys) ≡ first_of (xs ++ ys)
 unfolding first_of
 first_append [] ys = refl
-first_append (Good ∷ xs) ys = first_append xs ys
-first_append (Refused r ∷ xs) ys = refl
+first_append ((Ok tt) ∷ xs) ys = first_append xs ys
+first_append (Err r ∷ xs) ys = refl
 
 first_more : (c : Checked) (xs ys : List Checked) → first_of xs ≡ first_of ys → first_of (c ∷ xs) ≡ first_of (c ∷ ys)
 unfolding first_of
-first_more Good xs ys e = e
-first_more (Refused r) xs ys e = refl
+first_more (Ok tt) xs ys e = e
+first_more (Err r) xs ys e = refl
 
 -- What the call answers, and the table afterwards.
-abbrev pub Answers : Settings → (part table : List ℕ) → (lines : ℕ) → Edit → Relaid → List ℕ → Type 0
+abbrev pub Answers : Settings → (part table : List ℕ) → (lines : ℕ) → Edit → Result Relaid Refusal → List ℕ → Type 0
 Answers s part table lines ed answer after =
     (answer ≡ relay_answer s part table lines ed) × (after ≡ relay_table s part table lines ed)
 
@@ -74,31 +72,31 @@ module _ (s : Settings) (part table : List ℕ) (lines : ℕ) (ed : Edit) where
       (first_more w (u ∷ t ∷ f ∷ after) (u ∷ t ∷ r ∷ e ∷ after)
       (first_more u (t ∷ f ∷ after) (t ∷ r ∷ e ∷ after) (first_more t (f ∷ after) (r ∷ e ∷ after) (first_append (r ∷ e ∷ []) after))))))
 
-  refused : (r : Refusal) → check_relay s part table lines ed ≡ Refused r → Answers s part table lines ed (relaid.Refused r) table
+  refused : (r : Refusal) → check_relay s part table lines ed ≡ Err r → Answers s part table lines ed (Err r) table
   unfolding relay_answer relay_table
   refused r e = (rw e, rw e)
 
   -- Refusals 1 to 6.
-  pub refused-before : (r : Refusal) → check_before s part table lines ed ≡ Refused r → Answers s part table lines ed (relaid.Refused r) table
+  pub refused-before : (r : Refusal) → check_before s part table lines ed ≡ Err r → Answers s part table lines ed (Err r) table
   unfolding first_of
   refused-before r e = refused r (in_order_lem ∙ rw e)
 
-  module _ (good : check_before s part table lines ed ≡ Good) where
+  module _ (good : check_before s part table lines ed ≡ Ok tt) where
     room_decides : check_relay s part table lines ed ≡ room
     unfolding first_of
     room_decides = in_order_lem ∙ rw good (first_alone room)
 
     module _ (n : ℕ) (is : n ≡ length (lines_after s part table lines ed)) where
       -- Refusal 8.
-      pub too_small : capacity_of entry_numbers table < n → Answers s part table lines ed (relaid.Refused (TooSmall n)) table
+      pub too_small : capacity_of entry_numbers table < n → Answers s part table lines ed (Err (TooSmall n)) table
       unfolding check_room refuse_if pick
       too_small h = refused (TooSmall n) (room_decides ∙ rw (← is, lt-ltb _ _ h))
 
       -- The lines are written.
       pub laid-again : (laid : ℕ) → laid ≡ length (lines_laid s part table lines ed) → n ≤ capacity_of entry_numbers table
-          → Answers s part table lines ed (relaid.Lines n laid) (written table (of_all of_entry (lines_after s part table lines ed)))
+          → Answers s part table lines ed (Ok (record { lines = n; laid = laid })) (written table (of_all of_entry (lines_after s part table lines ed)))
       unfolding relay_answer relay_table check_room refuse_if pick
       laid-again laid l h =
-          let enough : room ≡ Good = rw (← is, le-ltb _ _ h) in
-          let all : check_relay s part table lines ed ≡ Good = room_decides ∙ enough in
+          let enough : room ≡ Ok tt = rw (← is, le-ltb _ _ h) in
+          let all : check_relay s part table lines ed ≡ Ok tt = room_decides ∙ enough in
           (rw (all, ← is, ← l), rw all)

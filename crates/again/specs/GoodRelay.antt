@@ -1,6 +1,7 @@
 -- What refusals 1 to 6 say where none of them is given: the first affected line and its rest, and that nothing wraps.
 -- Assumes nothing.
-use Rattle.std.specs.Prelude.{ℕ, ◌+◌, ◌-◌, ◌*◌, ◌≤◌, ◌<◌, ◌≡◌, refl, true, ◌&&◌, List, [], ◌∷◌, leb, ltb, length, drop}
+use Rattle.std.specs.Prelude.{ℕ, ◌+◌, ◌-◌, ◌*◌, ◌≤◌, ◌<◌, ◌≡◌, refl, true, ◌&&◌, List, [], ◌∷◌, leb, ltb, length, drop, Err, Ok}
+use Rattle.meaning.specs.Refusals.{Checked}
 use Rattle.std.proofs.Common.{arith, sym, subst, ◌∙◌}
 use Rattle.std.proofs.Math.Path.{ap}
 use borrow.Author.Tests.{leb-true, ltb-false}
@@ -19,8 +20,6 @@ use Rattle.meaning.specs.declared.edit.Edit.{Edit}
 use Rattle.meaning.specs.declared.line.Entry.{Entry}
 use Rattle.meaning.specs.declared.refusals.Refusal.{Refusal}
 use Rattle.meaning.specs.declared.refusals.Refusal.TheVariants.{TextTooLong}
-use Rattle.meaning.specs.declared.refusals.Checked.{Checked}
-use Rattle.meaning.specs.declared.refusals.Checked.TheVariants.{Good, Refused}
 use Rattle.laws.specs.GoodChecks.{refuse_good}
 use Rattle.parser.specs.Lexing.{chars_from}
 use Rattle.table.specs.LinesFrom.{lines_from, lines_more}
@@ -40,21 +39,21 @@ use Rattle.edits.specs.Checking.{check_first, check_lent, check_before, few-befo
 
 -- ---- each test by itself
 
-pub goods : (c : Checked) (cs : List Checked) → first_of (c ∷ cs) ≡ Good → (c ≡ Good) × (first_of cs ≡ Good)
+pub goods : (c : Checked) (cs : List Checked) → first_of (c ∷ cs) ≡ Ok tt → (c ≡ Ok tt) × (first_of cs ≡ Ok tt)
 unfolding first_of
-goods Good cs e = (refl, e)
-goods (Refused r) cs e = let z : ◌≡◌ {A = ℕ} 0 1 = cc in absurd (omega arith)
+goods (Ok tt) cs e = (refl, e)
+goods (Err r) cs e = let z : ◌≡◌ {A = ℕ} 0 1 = cc in absurd (omega arith)
 
 -- None refuses.
 pub record AllGood (s : Settings) (part table : List ℕ) (lines : ℕ) (ed : Edit) : Type 0 where
-  pub settings : check_settings s ≡ Good
-  pub short : check_length (length part) ≡ Good
-  pub whole : check_whole (check_table lines table) (entries_in lines table) ed ≡ Good
-  pub utf8 : check_utf8 part ≡ Good
-  pub table_is_lem : check_table lines table ≡ Good
-  pub first : check_first part table lines ed ≡ Good
+  pub settings : check_settings s ≡ Ok tt
+  pub short : check_length (length part) ≡ Ok tt
+  pub whole : check_whole (check_table lines table) (entries_in lines table) ed ≡ Ok tt
+  pub utf8 : check_utf8 part ≡ Ok tt
+  pub table_is_lem : check_table lines table ≡ Ok tt
+  pub first : check_first part table lines ed ≡ Ok tt
 
-pub all-good : (s : Settings) (part table : List ℕ) (lines : ℕ) (ed : Edit) → check_before s part table lines ed ≡ Good
+pub all-good : (s : Settings) (part table : List ℕ) (lines : ℕ) (ed : Edit) → check_before s part table lines ed ≡ Ok tt
     → AllGood s part table lines ed
 unfolding check_before check_lent
 all-good s part table lines ed h =
@@ -80,7 +79,7 @@ module _ (s : Settings) (part table : List ℕ) (lines : ℕ) (ed : Edit) (g : A
     abbrev cs : List ℕ
     cs = decode_all part
 
-    no_refusal : (r : Refusal) → Refused r ≡ check_first part table lines ed → ⊥
+    no_refusal : (r : Refusal) → Err r ≡ check_first part table lines ed → ⊥
     no_refusal r h = let z : ◌≡◌ {A = ℕ} 0 1 = cc g.first in omega arith
 
     -- There is one.

@@ -1,6 +1,6 @@
 -- The rest that the first affected line resumes, from its entry and the lent part.
 -- Assumes nothing.
-use Rattle.std.specs.Prelude.{ℕ, ◌≡◌, true, List, leb}
+use Rattle.std.specs.Prelude.{ℕ, ◌≡◌, true, List, leb, Ok}
 use Rattle.std.proofs.Common.{arith, leb-true}
 use Rattle.basis.specs.Choice.{pick, pick_true, pick-false, by_test, and_true}
 use Rattle.utf8.specs.Decoding.{decode_all}
@@ -9,7 +9,6 @@ use Rattle.meaning.specs.Checks.{check_utf8}
 use Rattle.meaning.specs.WellFormed.{no_rest}
 use Rattle.meaning.specs.Edit.{chars_in, rest_fits, held_of}
 use Rattle.meaning.specs.declared.line.Entry.{Entry}
-use Rattle.meaning.specs.declared.refusals.Checked.TheVariants.{Good}
 use Rattle.laws.specs.LinesTake.{chars-within}
 use Rattle.parser.specs.Lexing.{chars_from}
 use Rattle.steps.specs.Unrolled.{nothing_resumed}
@@ -31,7 +30,7 @@ unfolding resumed_of held_of pick
 resumed-held e cs = by_test (no_rest e) (λ t. rw t) (λ t. rw t)
 
 -- One that fits is the part's first characters.
-pub resumed-fits : (t : List ℕ) (e : Entry) → check_utf8 t ≡ Good → rest_fits e (decode_all t) ≡ true → RestFits t 0 (resumed_of e (decode_all t))
+pub resumed-fits : (t : List ℕ) (e : Entry) → check_utf8 t ≡ Ok tt → rest_fits e (decode_all t) ≡ true → RestFits t 0 (resumed_of e (decode_all t))
 unfolding chars_from resumed_of rest_fits
 resumed-fits t e u f =
     let cs = decode_all t in

@@ -1,6 +1,6 @@
 -- Laying again as it runs: what was found, the table's room, the lines moved and the lines written.
 -- Assumes nothing.
-use Rattle.std.specs.Prelude.{ℕ, ◌+◌, ◌-◌, ◌*◌, ◌/◌, ◌≤◌, ◌<◌, ◌≡◌, take, drop}
+use Rattle.std.specs.Prelude.{ℕ, ◌+◌, ◌-◌, ◌*◌, ◌/◌, ◌≤◌, ◌<◌, ◌≡◌, take, drop, Err, Ok}
 use Rattle.std.proofs.Common.{arith, sym, ◌∙◌, length-append}
 use Rattle.std.proofs.Math.Path.{ap, subst}
 use mathlib.Core.List.{List, ◌++◌, map}
@@ -15,8 +15,6 @@ use Rattle.meaning.specs.declared.settings.Settings.{Settings}
 use Rattle.meaning.specs.declared.edit.Edit.{Edit}
 use Rattle.meaning.specs.declared.line.Entry.{Entry}
 use Rattle.meaning.specs.declared.refusals.Refusal.TheVariants.{TooSmall}
-use Rattle.meaning.specs.declared.refusals.Checked.TheVariants.{Good}
-use Rattle.meaning.specs.declared.answers.Relaid.TheVariants as relaid
 use Rattle.meaning.specs.declared.counts.Chars.{Chars}
 use Rattle.laws.specs.Affected.{unaffected-old}
 use Rattle.again.specs.Relaid.{count_of}
@@ -45,7 +43,7 @@ use Rattle.again.specs.declared.stop.Found.{Found}
 -- The tests are passed, the first affected line is line k, with the entry e and laid from the stand p, and laying on from there finds
 -- so many lines.
 pub record Sought (s : Settings) (part table : List ℕ) (lines : ℕ) (ed : Edit) (k : ℕ) (e : Entry) (p : Stand) (found : Found) : Type 0 where
-  pub good : check_before s part table lines ed ≡ Good
+  pub good : check_before s part table lines ed ≡ Ok tt
   pub first : k ≡ length (unaffected ed.from.0 (entries_in lines table))
   pub entry : e ≡ entry_in (drop (entry_numbers * k) table)
   pub stand : StandsAt part text_front e.before.0 (resumed_of e (decode_all part)) p
@@ -120,7 +118,7 @@ module _ (s : Settings) (part table : List ℕ) (lines : ℕ) (ed : Edit) (k : �
     -- ---- refusal 8
 
     pub no_room : length table / entry_numbers < k + found.laid + (lines - found.kept)
-        → Answers s part table lines ed (relaid.Refused (TooSmall (k + found.laid + (lines - found.kept)))) table
+        → Answers s part table lines ed (Err (TooSmall (k + found.laid + (lines - found.kept)))) table
     unfolding capacity_of
     no_room h = too_small s part table lines ed q.good (k + found.laid + (lines - found.kept)) needed_is h
 
@@ -214,7 +212,7 @@ module _ (s : Settings) (part table : List ℕ) (lines : ℕ) (ed : Edit) (k : �
                 ∙ put_written table k (unaffected ed.from.0 old) first-lines (omega arith) (es ++ a.kept)
                 ∙ ap (λ (x : List Entry). written table (of_all of_entry x)) (sym after_is)
 
-            pub relaid_whole : Answers s part table lines ed (relaid.Lines (k + found.laid + (lines - found.kept)) found.laid) v
+            pub relaid_whole : Answers s part table lines ed (Ok (record { lines = k + found.laid + (lines - found.kept); laid = found.laid })) v
             unfolding capacity_of
             relaid_whole =
                 let b =

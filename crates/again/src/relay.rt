@@ -1,16 +1,15 @@
 // Laying a text again after an edit: a public call.
-ghost use Rattle.std.specs.Prelude.{◌≡◌, length};
+ghost use Rattle.std.specs.Prelude.{◌≡◌, length, Ok};
 ghost use Rattle.meaning.specs.Table.{entries_in};
 ghost use Rattle.meaning.specs.Edit.{unaffected};
 ghost use Rattle.meaning.specs.Calls.{relay_answer, relay_table};
-ghost use Rattle.meaning.specs.declared.refusals.Checked.TheVariants.{Good};
 ghost use Rattle.edits.specs.Checking.{check_before};
 
 use crate::rest::held_of;
 use crate::stop::{count_before, find_stop};
 use crate::writing::write_again;
 use edits::checking::check_before;
-use meaning::answers::{Affected, Relaid};
+use meaning::answers::Relaid;
 use meaning::edit::Edit;
 use meaning::refusals::Refusal;
 use meaning::settings::Settings;
@@ -29,8 +28,8 @@ fn lay_lines(
     lines: usize,
     edit: Edit,
     k: usize,
-) -> Relaid
-    requires { (check_before s part.now table.old lines edit ≡ Good) × (k ≡ length (unaffected edit.from.0 (entries_in lines table.old))) }
+) -> Result<Relaid, Refusal>
+    requires { (check_before s part.now table.old lines edit ≡ Ok tt) × (k ≡ length (unaffected edit.from.0 (entries_in lines table.old))) }
     ensures value { result ≡ relay_answer s part.now table.old lines edit }
     ensures table_after { table.new ≡ relay_table s part.now table.old lines edit }
 {
@@ -44,7 +43,7 @@ fn lay_lines(
     let to = k + found.laid;
     let after = to + left;
     if table.len() / ENTRY_NUMBERS < after {
-        return Relaid::Refused(Refusal::TooSmall(after as u64));
+        return Err(Refusal::TooSmall(after as u64));
     }
     let from = count_before(table, lines, kept);
     let now = found.before;
@@ -55,17 +54,24 @@ fn lay_lines(
     };
     move_lines(table, kept, to, left, shift);
     write_again(part, s, table, base, k, found.laid, front);
-    Relaid::Lines(after as u64, found.laid as u64)
+    Ok(Relaid {
+        lines: after as u64,
+        laid: found.laid as u64,
+    })
 }
 
 // Refusals 1 to 6 and 8 in this order (7 never arises), of which none writes anything; else the lines laid from the first affected
 // one on, and behind them the old lines that laying again meets, moved.
-pub fn lay_again(s: Settings, part: &[u8], table: &mut [u32], lines: usize, edit: Edit) -> Relaid
+pub fn lay_again(
+    s: Settings,
+    part: &[u8],
+    table: &mut [u32],
+    lines: usize,
+    edit: Edit,
+) -> Result<Relaid, Refusal>
     ensures value { result ≡ relay_answer s part.now table.old lines edit }
     ensures table_after { table.new ≡ relay_table s part.now table.old lines edit }
 {
-    match check_before(s, part, table, lines, edit) {
-        Affected::Line(k) => lay_lines(s, part, table, lines, edit, k as usize),
-        Affected::Refused(r) => Relaid::Refused(r),
-    }
+    let first = check_before(s, part, table, lines, edit)?;
+    lay_lines(s, part, table, lines, edit, first as usize)
 }

@@ -1,9 +1,8 @@
 // The rest that the first affected line resumes, which fits.
-ghost use Rattle.std.specs.Prelude.{◌≤◌, ◌≡◌, true, length};
+ghost use Rattle.std.specs.Prelude.{◌≤◌, ◌≡◌, true, length, Ok};
 ghost use Rattle.utf8.specs.Decoding.{decode_all};
 ghost use Rattle.meaning.specs.Checks.{text_limit, check_utf8};
 ghost use Rattle.meaning.specs.Edit.{rest_fits};
-ghost use Rattle.meaning.specs.declared.refusals.Checked.TheVariants.{Good};
 ghost use Rattle.again.specs.HeldRest.{resumed_of};
 
 use edits::fitting::{chars_before, rest_end};
@@ -15,7 +14,7 @@ use steps::step::Resumed;
 
 // The rest of an entry that fits.
 pub fn held_of(part: &[u8], e: Entry) -> Resumed
-    requires { (check_utf8 part.now ≡ Good) × (rest_fits e (decode_all part.now) ≡ true) × (length part.now ≤ text_limit) }
+    requires { (check_utf8 part.now ≡ Ok tt) × (rest_fits e (decode_all part.now) ≡ true) × (length part.now ≤ text_limit) }
     ensures { result ≡ resumed_of e (decode_all part.now) }
 {
     if has_no_rest(e) {
@@ -23,10 +22,9 @@ pub fn held_of(part: &[u8], e: Entry) -> Resumed
     }
     let end = rest_end(e);
     let chars = chars_before(part, end);
-    let count = e.rest.count;
     Resumed {
         end: Offset(end as u32),
         chars: Chars(chars as u32),
-        count,
+        count: e.rest.count,
     }
 }

@@ -46,8 +46,10 @@ fn rest_behind(base: Offset, r: Resumed) -> Rest
         };
     }
     let end = Offset(base.0 + r.end.0);
-    let count = r.count;
-    Rest { end, count }
+    Rest {
+        end,
+        count: r.count,
+    }
 }
 
 // The first old line, from line j on, that a line from a start on may meet.
@@ -55,14 +57,12 @@ fn skip_before(table: &[u32], lines: usize, j: usize, edit: Edit, start: Offset)
     requires { (entry_numbers * lines ≤ length table.now) × (j ≤ lines) }
     ensures { result ≡ j + passing edit start.0 (lines_from table.now lines j) }
 {
-    let mut i: usize = j;
-    while i < lines {
+    for i in j..lines {
         if !stands_before(edit, start, table[ENTRY_NUMBERS * i]) {
             return i;
         }
-        i += 1;
     }
-    i
+    lines
 }
 
 // Is old line j, if there is one, met by a line with this start and rest.
@@ -114,8 +114,7 @@ pub fn find_stop(
         let held = stand.rest;
         let rest = rest_behind(base, held);
         if meets_first(table, lines, j, edit, start, rest) {
-            let before = stand.before;
-            return found_at(n, j, before);
+            return found_at(n, j, stand.before);
         }
         let row = lay_row(part, s, stand);
         n += 1;

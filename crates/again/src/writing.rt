@@ -47,14 +47,11 @@ pub fn write_again(
     requires { WriteReady s part.now table.old base.0 k laid front }
     ensures { table.new ≡ lines_put table.old k (take laid (entries_from s part.now base.0 front)) }
 {
-    let mut n: usize = 0;
     let mut stand = front;
-    while n < laid {
+    for n in 0..laid {
         let row = lay_row(part, s, stand);
-        let entry = row.entry;
-        let whole = entry_behind(base, entry);
+        let whole = entry_behind(base, row.entry);
         write_entry(table, k + n, whole);
-        n += 1;
         stand = next_stand(part, stand, row);
     }
 }

@@ -1,4 +1,2 @@
-// What every crate shares: helpers on plain numbers, and laws of choosing and counting. Nothing here knows of text.
+// Laws of choosing and counting, which every crate shares. Nothing here runs, and nothing knows of text.
 #![tactic(auto)]
-
-pub mod numbers;

@@ -3,32 +3,26 @@
 
 ghost use Rattle.std.specs.Prelude.{◌≡◌};
 ghost use Rattle.meaning.specs.Settings.{settings_of};
-ghost use Rattle.meaning.specs.Refusals.{checked_number, checked_value};
+ghost use Rattle.meaning.specs.Refusals.{checked_value};
 ghost use Rattle.meaning.specs.Checks.{check_settings, check_text};
-ghost use Rattle.meaning.specs.Answers.{tokensNumber, tokensValue, layoutNumber, layoutValue, drawingNumber, drawingValue, drawingCount, openNumber, openValue, frameNumber, frameValue, frameRestEnd, frameRestCount, affectedNumber, affectedValue, relayNumber, relayValue, relayCount, heightNumber, heightValue, yNumber, yValue, yPlace, indexNumber, indexValue, findNumber, findValue, writingNumber, writingValue, readingNumber, readingValue, readingLength, choosingNumber, choosingValue, choosingWhich, choosingLeft, pagingNumber, pagingValue, pagingCount, pagingAgainNumber, pagingAgainValue, fittingNumber, fittingValue, planningNumber, planningValue};
+ghost use Rattle.meaning.specs.Answers.{answer_number, count_value, drawingValue, drawingCount, frameValue, frameRestEnd, frameRestCount, relayValue, relayCount, yValue, yPlace, found_value, readingValue, readingLength, choosingValue, choosingWhich, choosingLeft, pagingValue, pagingCount, fittingValue};
 ghost use Rattle.meaning.specs.Calls.{tokens_answer, tokens_buffer, layout_answer, layout_table, drawing_answer, drawing_table, drawing_events, open_answer, frame_answer, frame_entry, affected_answer, relay_answer, relay_table, height_answer, y_answer, index_answer, index_after, index_again_after, find_answer, writing_answer, writing_file, reading_answer, reading_settings, reading_table};
 ghost use Rattle.meaning.specs.PageCalls.{choosing_answer, paging_answer, paging_table, paging_list, paging_again_answer, paging_again_list};
 ghost use Rattle.meaning.specs.ColumnCalls.{fitting_answer, planning_answer};
 ghost use Rattle.bisquemop.specs.Edits.{edit_of, rest_from};
 
 use again::relay::lay_again;
-use c_files::{reading_length, reading_number, reading_value, writing_number, writing_value};
+use c_answers::drawn::{drawing_count, drawing_value};
+use c_answers::fitted::{
+    choosing_left, choosing_value, choosing_which, fitting_value, paging_count, paging_value,
+};
+use c_answers::placed::{
+    found_value, frame_rest_count, frame_rest_end, frame_value, put_y, y_value,
+};
+use c_answers::read::{reading_length, reading_value};
+use c_answers::relaid::{relay_count, relay_value};
 use c_given::settings_from;
-use c_lines::{
-    affected_number, affected_value, drawing_count, drawing_number, drawing_value, layout_number,
-    layout_value, relay_count, relay_number, relay_value, tokens_number, tokens_value,
-};
-use c_pages::{
-    choosing_left, choosing_number, choosing_value, choosing_which, fitting_number, fitting_value,
-    paging_again_number, paging_again_value, paging_count, paging_number, paging_value,
-    planning_number, planning_value,
-};
-use c_places::{
-    find_number, find_value, frame_number, frame_rest_count, frame_rest_end, frame_value,
-    height_number, height_value, index_number, index_value, open_number, open_value, put_y,
-    y_number, y_value,
-};
-use checks::refusals::{checked_number, checked_value};
+use checks::refusals::{answer_number, checked_value, count_value};
 use checks::settings::check_settings;
 use checks::text::check_text;
 use choosing::choosing::choose;
@@ -67,7 +61,7 @@ pub fn bisquemop_check_settings(
     wrap: u32,
     value: &mut u64,
 ) -> u32
-    ensures value { result ≡ checked_number (check_settings (settings_of glyph width tab spacing paragraph base height top alignment vertical leading trailing wrap)) }
+    ensures value { result ≡ answer_number (check_settings (settings_of glyph width tab spacing paragraph base height top alignment vertical leading trailing wrap)) }
     ensures value_after { value.new ≡ checked_value (check_settings (settings_of glyph width tab spacing paragraph base height top alignment vertical leading trailing wrap)) }
 {
     let s = settings_from(
@@ -76,26 +70,26 @@ pub fn bisquemop_check_settings(
     );
     let checked = check_settings(s);
     *value = checked_value(checked);
-    checked_number(checked)
+    answer_number(&checked)
 }
 
 pub fn bisquemop_check_text(text: &[u8], value: &mut u64) -> u32
-    ensures value { result ≡ checked_number (check_text text.now) }
+    ensures value { result ≡ answer_number (check_text text.now) }
     ensures value_after { value.new ≡ checked_value (check_text text.now) }
 {
     let checked = check_text(text);
     *value = checked_value(checked);
-    checked_number(checked)
+    answer_number(&checked)
 }
 
 pub fn bisquemop_tokens(text: &[u8], tokens: &mut [u32], value: &mut u64) -> u32
-    ensures value { result ≡ tokensNumber (tokens_answer text.now tokens.old) }
+    ensures value { result ≡ answer_number (tokens_answer text.now tokens.old) }
     ensures tokens_after { tokens.new ≡ tokens_buffer text.now tokens.old }
-    ensures value_after { value.new ≡ tokensValue (tokens_answer text.now tokens.old) }
+    ensures value_after { value.new ≡ count_value (tokens_answer text.now tokens.old) }
 {
     let answer = tokenize(text, tokens);
-    *value = tokens_value(answer);
-    tokens_number(answer)
+    *value = count_value(answer);
+    answer_number(&answer)
 }
 
 pub fn bisquemop_layout(
@@ -116,17 +110,17 @@ pub fn bisquemop_layout(
     table: &mut [u32],
     value: &mut u64,
 ) -> u32
-    ensures value { result ≡ layoutNumber (layout_answer (settings_of glyph width tab spacing paragraph base height top alignment vertical leading trailing wrap) text.now table.old) }
+    ensures value { result ≡ answer_number (layout_answer (settings_of glyph width tab spacing paragraph base height top alignment vertical leading trailing wrap) text.now table.old) }
     ensures table_after { table.new ≡ layout_table (settings_of glyph width tab spacing paragraph base height top alignment vertical leading trailing wrap) text.now table.old }
-    ensures value_after { value.new ≡ layoutValue (layout_answer (settings_of glyph width tab spacing paragraph base height top alignment vertical leading trailing wrap) text.now table.old) }
+    ensures value_after { value.new ≡ count_value (layout_answer (settings_of glyph width tab spacing paragraph base height top alignment vertical leading trailing wrap) text.now table.old) }
 {
     let s = settings_from(
         glyph, width, tab, spacing, paragraph, base, height, top, alignment, vertical, leading,
         trailing, wrap,
     );
     let answer = layout(s, text, table);
-    *value = layout_value(answer);
-    layout_number(answer)
+    *value = count_value(answer);
+    answer_number(&answer)
 }
 
 pub fn bisquemop_layout_events(
@@ -149,7 +143,7 @@ pub fn bisquemop_layout_events(
     value: &mut u64,
     count: &mut u64,
 ) -> u32
-    ensures value { result ≡ drawingNumber (drawing_answer (settings_of glyph width tab spacing paragraph base height top alignment vertical leading trailing wrap) text.now table.old events.old) }
+    ensures value { result ≡ answer_number (drawing_answer (settings_of glyph width tab spacing paragraph base height top alignment vertical leading trailing wrap) text.now table.old events.old) }
     ensures table_after { table.new ≡ drawing_table (settings_of glyph width tab spacing paragraph base height top alignment vertical leading trailing wrap) text.now table.old events.old }
     ensures events_after { events.new ≡ drawing_events (settings_of glyph width tab spacing paragraph base height top alignment vertical leading trailing wrap) text.now table.old events.old }
     ensures value_after { value.new ≡ drawingValue (drawing_answer (settings_of glyph width tab spacing paragraph base height top alignment vertical leading trailing wrap) text.now table.old events.old) }
@@ -162,7 +156,7 @@ pub fn bisquemop_layout_events(
     let answer = layout_with_events(s, text, table, events);
     *value = drawing_value(answer);
     *count = drawing_count(answer, *count);
-    drawing_number(answer)
+    answer_number(&answer)
 }
 
 pub fn bisquemop_open(
@@ -182,16 +176,16 @@ pub fn bisquemop_open(
     text: &[u8],
     value: &mut u64,
 ) -> u32
-    ensures value { result ≡ openNumber (open_answer (settings_of glyph width tab spacing paragraph base height top alignment vertical leading trailing wrap) text.now) }
-    ensures value_after { value.new ≡ openValue (open_answer (settings_of glyph width tab spacing paragraph base height top alignment vertical leading trailing wrap) text.now) }
+    ensures value { result ≡ answer_number (open_answer (settings_of glyph width tab spacing paragraph base height top alignment vertical leading trailing wrap) text.now) }
+    ensures value_after { value.new ≡ count_value (open_answer (settings_of glyph width tab spacing paragraph base height top alignment vertical leading trailing wrap) text.now) }
 {
     let s = settings_from(
         glyph, width, tab, spacing, paragraph, base, height, top, alignment, vertical, leading,
         trailing, wrap,
     );
     let answer = open_text(s, text);
-    *value = open_value(answer);
-    open_number(answer)
+    *value = count_value(answer);
+    answer_number(&answer)
 }
 
 pub fn bisquemop_one_line(
@@ -217,7 +211,7 @@ pub fn bisquemop_one_line(
     stops: &mut u32,
     counts: &mut u32,
 ) -> u32
-    ensures value { result ≡ frameNumber (frame_answer (settings_of glyph width tab spacing paragraph base height top alignment vertical leading trailing wrap) text.now start (rest_from end count) entry.old) }
+    ensures value { result ≡ answer_number (frame_answer (settings_of glyph width tab spacing paragraph base height top alignment vertical leading trailing wrap) text.now start (rest_from end count) entry.old) }
     ensures after { entry.new ≡ frame_entry (settings_of glyph width tab spacing paragraph base height top alignment vertical leading trailing wrap) text.now start (rest_from end count) entry.old }
     ensures value_after { value.new ≡ frameValue (frame_answer (settings_of glyph width tab spacing paragraph base height top alignment vertical leading trailing wrap) text.now start (rest_from end count) entry.old) }
     ensures stops_after { stops.new ≡ frameRestEnd (frame_answer (settings_of glyph width tab spacing paragraph base height top alignment vertical leading trailing wrap) text.now start (rest_from end count) entry.old) stops.old }
@@ -235,7 +229,7 @@ pub fn bisquemop_one_line(
     *value = frame_value(answer);
     *stops = frame_rest_end(answer, *stops);
     *counts = frame_rest_count(answer, *counts);
-    frame_number(answer)
+    answer_number(&answer)
 }
 
 pub fn bisquemop_first_affected(
@@ -246,8 +240,8 @@ pub fn bisquemop_first_affected(
     inserted: u32,
     value: &mut u64,
 ) -> u32
-    ensures value { result ≡ affectedNumber (affected_answer table.now lines (edit_of a b inserted)) }
-    ensures value_after { value.new ≡ affectedValue (affected_answer table.now lines (edit_of a b inserted)) }
+    ensures value { result ≡ answer_number (affected_answer table.now lines (edit_of a b inserted)) }
+    ensures value_after { value.new ≡ count_value (affected_answer table.now lines (edit_of a b inserted)) }
 {
     let edit = Edit {
         from: Offset(a),
@@ -255,8 +249,8 @@ pub fn bisquemop_first_affected(
         inserted: Offset(inserted),
     };
     let answer = first_affected(table, lines as usize, edit);
-    *value = affected_value(answer);
-    affected_number(answer)
+    *value = count_value(answer);
+    answer_number(&answer)
 }
 
 pub fn bisquemop_lay_again(
@@ -282,7 +276,7 @@ pub fn bisquemop_lay_again(
     value: &mut u64,
     laid: &mut u64,
 ) -> u32
-    ensures value { result ≡ relayNumber (relay_answer (settings_of glyph width tab spacing paragraph base height top alignment vertical leading trailing wrap) part.now table.old lines (edit_of a b inserted)) }
+    ensures value { result ≡ answer_number (relay_answer (settings_of glyph width tab spacing paragraph base height top alignment vertical leading trailing wrap) part.now table.old lines (edit_of a b inserted)) }
     ensures table_after { table.new ≡ relay_table (settings_of glyph width tab spacing paragraph base height top alignment vertical leading trailing wrap) part.now table.old lines (edit_of a b inserted) }
     ensures value_after { value.new ≡ relayValue (relay_answer (settings_of glyph width tab spacing paragraph base height top alignment vertical leading trailing wrap) part.now table.old lines (edit_of a b inserted)) }
     ensures laid_after { laid.new ≡ relayCount (relay_answer (settings_of glyph width tab spacing paragraph base height top alignment vertical leading trailing wrap) part.now table.old lines (edit_of a b inserted)) laid.old }
@@ -299,7 +293,7 @@ pub fn bisquemop_lay_again(
     let answer = lay_again(s, part, table, lines as usize, edit);
     *value = relay_value(answer);
     *laid = relay_count(answer, *laid);
-    relay_number(answer)
+    answer_number(&answer)
 }
 
 pub fn bisquemop_height(
@@ -320,16 +314,16 @@ pub fn bisquemop_height(
     lines: u64,
     value: &mut u64,
 ) -> u32
-    ensures value { result ≡ heightNumber (height_answer (settings_of glyph width tab spacing paragraph base height top alignment vertical leading trailing wrap) table.now lines) }
-    ensures value_after { value.new ≡ heightValue (height_answer (settings_of glyph width tab spacing paragraph base height top alignment vertical leading trailing wrap) table.now lines) }
+    ensures value { result ≡ answer_number (height_answer (settings_of glyph width tab spacing paragraph base height top alignment vertical leading trailing wrap) table.now lines) }
+    ensures value_after { value.new ≡ count_value (height_answer (settings_of glyph width tab spacing paragraph base height top alignment vertical leading trailing wrap) table.now lines) }
 {
     let s = settings_from(
         glyph, width, tab, spacing, paragraph, base, height, top, alignment, vertical, leading,
         trailing, wrap,
     );
     let answer = text_height(s, table, lines as usize);
-    *value = height_value(answer);
-    height_number(answer)
+    *value = count_value(answer);
+    answer_number(&answer)
 }
 
 pub fn bisquemop_line_y(
@@ -352,7 +346,7 @@ pub fn bisquemop_line_y(
     value: &mut u64,
     y: &mut i32,
 ) -> u32
-    ensures value { result ≡ yNumber (y_answer (settings_of glyph width tab spacing paragraph base height top alignment vertical leading trailing wrap) table.now lines line) }
+    ensures value { result ≡ answer_number (y_answer (settings_of glyph width tab spacing paragraph base height top alignment vertical leading trailing wrap) table.now lines line) }
     ensures value_after { value.new ≡ yValue (y_answer (settings_of glyph width tab spacing paragraph base height top alignment vertical leading trailing wrap) table.now lines line) }
     ensures y_after { y.new ≡ yPlace (y_answer (settings_of glyph width tab spacing paragraph base height top alignment vertical leading trailing wrap) table.now lines line) y.old }
 {
@@ -363,7 +357,7 @@ pub fn bisquemop_line_y(
     let answer = line_y(s, table, lines as usize, line as usize);
     *value = y_value(answer);
     put_y(answer, y);
-    y_number(answer)
+    answer_number(&answer)
 }
 
 pub fn bisquemop_index(
@@ -385,17 +379,17 @@ pub fn bisquemop_index(
     index: &mut [i32],
     value: &mut u64,
 ) -> u32
-    ensures value { result ≡ indexNumber (index_answer (settings_of glyph width tab spacing paragraph base height top alignment vertical leading trailing wrap) table.now lines index.old) }
+    ensures value { result ≡ answer_number (index_answer (settings_of glyph width tab spacing paragraph base height top alignment vertical leading trailing wrap) table.now lines index.old) }
     ensures index_after { index.new ≡ index_after (settings_of glyph width tab spacing paragraph base height top alignment vertical leading trailing wrap) table.now lines index.old }
-    ensures value_after { value.new ≡ indexValue (index_answer (settings_of glyph width tab spacing paragraph base height top alignment vertical leading trailing wrap) table.now lines index.old) }
+    ensures value_after { value.new ≡ count_value (index_answer (settings_of glyph width tab spacing paragraph base height top alignment vertical leading trailing wrap) table.now lines index.old) }
 {
     let s = settings_from(
         glyph, width, tab, spacing, paragraph, base, height, top, alignment, vertical, leading,
         trailing, wrap,
     );
     let answer = make_index(s, table, lines as usize, index);
-    *value = index_value(answer);
-    index_number(answer)
+    *value = count_value(answer);
+    answer_number(&answer)
 }
 
 pub fn bisquemop_index_again(
@@ -418,26 +412,26 @@ pub fn bisquemop_index_again(
     index: &mut [i32],
     value: &mut u64,
 ) -> u32
-    ensures value { result ≡ indexNumber (index_answer (settings_of glyph width tab spacing paragraph base height top alignment vertical leading trailing wrap) table.now lines index.old) }
+    ensures value { result ≡ answer_number (index_answer (settings_of glyph width tab spacing paragraph base height top alignment vertical leading trailing wrap) table.now lines index.old) }
     ensures index_after { index.new ≡ index_again_after (settings_of glyph width tab spacing paragraph base height top alignment vertical leading trailing wrap) table.now lines first index.old }
-    ensures value_after { value.new ≡ indexValue (index_answer (settings_of glyph width tab spacing paragraph base height top alignment vertical leading trailing wrap) table.now lines index.old) }
+    ensures value_after { value.new ≡ count_value (index_answer (settings_of glyph width tab spacing paragraph base height top alignment vertical leading trailing wrap) table.now lines index.old) }
 {
     let s = settings_from(
         glyph, width, tab, spacing, paragraph, base, height, top, alignment, vertical, leading,
         trailing, wrap,
     );
     let answer = make_index_again(s, table, lines as usize, first as usize, index);
-    *value = index_value(answer);
-    index_number(answer)
+    *value = count_value(answer);
+    answer_number(&answer)
 }
 
 pub fn bisquemop_find_line(table: &[u32], lines: u64, index: &[i32], y: i32, value: &mut u64) -> u32
-    ensures value { result ≡ findNumber (find_answer table.now lines index.now y) }
-    ensures value_after { value.new ≡ findValue (find_answer table.now lines index.now y) }
+    ensures value { result ≡ answer_number (find_answer table.now lines index.now y) }
+    ensures value_after { value.new ≡ found_value (find_answer table.now lines index.now y) }
 {
     let answer = find_line(table, lines as usize, index, y);
-    *value = find_value(answer);
-    find_number(answer)
+    *value = found_value(answer);
+    answer_number(&answer)
 }
 
 pub fn bisquemop_write_file(
@@ -459,17 +453,17 @@ pub fn bisquemop_write_file(
     file: &mut [u8],
     value: &mut u64,
 ) -> u32
-    ensures value { result ≡ writingNumber (writing_answer (settings_of glyph width tab spacing paragraph base height top alignment vertical leading trailing wrap) table.now lines file.old) }
+    ensures value { result ≡ answer_number (writing_answer (settings_of glyph width tab spacing paragraph base height top alignment vertical leading trailing wrap) table.now lines file.old) }
     ensures file_after { file.new ≡ writing_file (settings_of glyph width tab spacing paragraph base height top alignment vertical leading trailing wrap) table.now lines file.old }
-    ensures value_after { value.new ≡ writingValue (writing_answer (settings_of glyph width tab spacing paragraph base height top alignment vertical leading trailing wrap) table.now lines file.old) }
+    ensures value_after { value.new ≡ count_value (writing_answer (settings_of glyph width tab spacing paragraph base height top alignment vertical leading trailing wrap) table.now lines file.old) }
 {
     let s = settings_from(
         glyph, width, tab, spacing, paragraph, base, height, top, alignment, vertical, leading,
         trailing, wrap,
     );
     let answer = write_file(s, table, lines as usize, file);
-    *value = writing_value(answer);
-    writing_number(answer)
+    *value = count_value(answer);
+    answer_number(&answer)
 }
 
 pub fn bisquemop_read_file(
@@ -479,7 +473,7 @@ pub fn bisquemop_read_file(
     value: &mut u64,
     bytes: &mut u64,
 ) -> u32
-    ensures value { result ≡ readingNumber (reading_answer file.now settings.old table.old) }
+    ensures value { result ≡ answer_number (reading_answer file.now settings.old table.old) }
     ensures settings_after { settings.new ≡ reading_settings file.now settings.old table.old }
     ensures table_after { table.new ≡ reading_table file.now settings.old table.old }
     ensures value_after { value.new ≡ readingValue (reading_answer file.now settings.old table.old) }
@@ -488,7 +482,7 @@ pub fn bisquemop_read_file(
     let answer = read_file(file, settings, table);
     *value = reading_value(answer);
     *bytes = reading_length(answer, *bytes);
-    reading_number(answer)
+    answer_number(&answer)
 }
 
 pub fn bisquemop_choose<'a>(
@@ -512,7 +506,7 @@ pub fn bisquemop_choose<'a>(
     which: &mut u32,
     left: &mut u64,
 ) -> u32
-    ensures value { result ≡ choosingNumber (choosing_answer (settings_of glyph width tab spacing paragraph base height top alignment vertical leading trailing wrap) h long.now short.now) }
+    ensures value { result ≡ answer_number (choosing_answer (settings_of glyph width tab spacing paragraph base height top alignment vertical leading trailing wrap) h long.now short.now) }
     ensures value_after { value.new ≡ choosingValue (choosing_answer (settings_of glyph width tab spacing paragraph base height top alignment vertical leading trailing wrap) h long.now short.now) }
     ensures which_after { which.new ≡ choosingWhich (choosing_answer (settings_of glyph width tab spacing paragraph base height top alignment vertical leading trailing wrap) h long.now short.now) which.old }
     ensures left_after { left.new ≡ choosingLeft (choosing_answer (settings_of glyph width tab spacing paragraph base height top alignment vertical leading trailing wrap) h long.now short.now) left.old }
@@ -525,7 +519,7 @@ pub fn bisquemop_choose<'a>(
     *value = choosing_value(answer);
     *which = choosing_which(answer, *which);
     *left = choosing_left(answer, *left);
-    choosing_number(answer)
+    answer_number(&answer)
 }
 
 pub fn bisquemop_pages(
@@ -549,7 +543,7 @@ pub fn bisquemop_pages(
     value: &mut u64,
     count: &mut u64,
 ) -> u32
-    ensures value { result ≡ pagingNumber (paging_answer (settings_of glyph width tab spacing paragraph base height top alignment vertical leading trailing wrap) h text.now table.old pages.old) }
+    ensures value { result ≡ answer_number (paging_answer (settings_of glyph width tab spacing paragraph base height top alignment vertical leading trailing wrap) h text.now table.old pages.old) }
     ensures table_after { table.new ≡ paging_table (settings_of glyph width tab spacing paragraph base height top alignment vertical leading trailing wrap) h text.now table.old pages.old }
     ensures pages_after { pages.new ≡ paging_list (settings_of glyph width tab spacing paragraph base height top alignment vertical leading trailing wrap) h text.now table.old pages.old }
     ensures value_after { value.new ≡ pagingValue (paging_answer (settings_of glyph width tab spacing paragraph base height top alignment vertical leading trailing wrap) h text.now table.old pages.old) }
@@ -562,7 +556,7 @@ pub fn bisquemop_pages(
     let answer = lay_pages(s, text, h, table, pages);
     *value = paging_value(answer);
     *count = paging_count(answer, *count);
-    paging_number(answer)
+    answer_number(&answer)
 }
 
 pub fn bisquemop_pages_again(
@@ -573,13 +567,13 @@ pub fn bisquemop_pages_again(
     pages: &mut [u32],
     value: &mut u64,
 ) -> u32
-    ensures value { result ≡ pagingAgainNumber (paging_again_answer table.now lines h pages.old) }
+    ensures value { result ≡ answer_number (paging_again_answer table.now lines h pages.old) }
     ensures pages_after { pages.new ≡ paging_again_list table.now lines h first pages.old }
-    ensures value_after { value.new ≡ pagingAgainValue (paging_again_answer table.now lines h pages.old) }
+    ensures value_after { value.new ≡ count_value (paging_again_answer table.now lines h pages.old) }
 {
     let answer = list_again(table, lines as usize, h, first as usize, pages);
-    *value = paging_again_value(answer);
-    paging_again_number(answer)
+    *value = count_value(answer);
+    answer_number(&answer)
 }
 
 pub fn bisquemop_columns_fit(
@@ -600,7 +594,7 @@ pub fn bisquemop_columns_fit(
     h: u32,
     value: &mut u64,
 ) -> u32
-    ensures value { result ≡ fittingNumber (fitting_answer (settings_of glyph width tab spacing paragraph base height top alignment vertical leading trailing wrap) h text.now) }
+    ensures value { result ≡ answer_number (fitting_answer (settings_of glyph width tab spacing paragraph base height top alignment vertical leading trailing wrap) h text.now) }
     ensures value_after { value.new ≡ fittingValue (fitting_answer (settings_of glyph width tab spacing paragraph base height top alignment vertical leading trailing wrap) h text.now) }
 {
     let s = settings_from(
@@ -609,7 +603,7 @@ pub fn bisquemop_columns_fit(
     );
     let answer = columns_fit(s, text, h);
     *value = fitting_value(answer);
-    fitting_number(answer)
+    answer_number(&answer)
 }
 
 pub fn bisquemop_columns_plan(
@@ -630,14 +624,14 @@ pub fn bisquemop_columns_plan(
     h: u32,
     value: &mut u64,
 ) -> u32
-    ensures value { result ≡ planningNumber (planning_answer (settings_of glyph width tab spacing paragraph base height top alignment vertical leading trailing wrap) h text.now) }
-    ensures value_after { value.new ≡ planningValue (planning_answer (settings_of glyph width tab spacing paragraph base height top alignment vertical leading trailing wrap) h text.now) }
+    ensures value { result ≡ answer_number (planning_answer (settings_of glyph width tab spacing paragraph base height top alignment vertical leading trailing wrap) h text.now) }
+    ensures value_after { value.new ≡ found_value (planning_answer (settings_of glyph width tab spacing paragraph base height top alignment vertical leading trailing wrap) h text.now) }
 {
     let s = settings_from(
         glyph, width, tab, spacing, paragraph, base, height, top, alignment, vertical, leading,
         trailing, wrap,
     );
     let answer = plan_columns(s, text, h);
-    *value = planning_value(answer);
-    planning_number(answer)
+    *value = found_value(answer);
+    answer_number(&answer)
 }

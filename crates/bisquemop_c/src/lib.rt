@@ -3,9 +3,9 @@
 
 ghost use Rattle.std.specs.Prelude.{◌≡◌};
 ghost use Rattle.meaning.specs.Settings.{settings_of};
-ghost use Rattle.meaning.specs.Refusals.{checked_number, checked_value};
+ghost use Rattle.meaning.specs.Refusals.{checked_value};
 ghost use Rattle.meaning.specs.Checks.{check_settings, check_text};
-ghost use Rattle.meaning.specs.Answers.{tokensNumber, tokensValue, layoutNumber, layoutValue, drawingNumber, drawingValue, drawingCount, openNumber, openValue, frameNumber, frameValue, frameRestEnd, frameRestCount, affectedNumber, affectedValue, relayNumber, relayValue, relayCount, heightNumber, heightValue, yNumber, yValue, yPlace, indexNumber, indexValue, findNumber, findValue, writingNumber, writingValue, readingNumber, readingValue, readingLength, choosingNumber, choosingValue, choosingWhich, choosingLeft, pagingNumber, pagingValue, pagingCount, pagingAgainNumber, pagingAgainValue, fittingNumber, fittingValue, planningNumber, planningValue};
+ghost use Rattle.meaning.specs.Answers.{answer_number, count_value, drawingValue, drawingCount, frameValue, frameRestEnd, frameRestCount, relayValue, relayCount, yValue, yPlace, found_value, readingValue, readingLength, choosingValue, choosingWhich, choosingLeft, pagingValue, pagingCount, fittingValue};
 ghost use Rattle.meaning.specs.Calls.{tokens_answer, tokens_buffer, layout_answer, layout_table, drawing_answer, drawing_table, drawing_events, open_answer, frame_answer, frame_entry, affected_answer, relay_answer, relay_table, height_answer, y_answer, index_answer, index_after, index_again_after, find_answer, writing_answer, writing_file, reading_answer, reading_settings, reading_table};
 ghost use Rattle.meaning.specs.PageCalls.{choosing_answer, paging_answer, paging_table, paging_list, paging_again_answer, paging_again_list};
 ghost use Rattle.meaning.specs.ColumnCalls.{fitting_answer, planning_answer};
@@ -28,7 +28,7 @@ pub extern "C" fn bisquemop_check_settings(
     wrap: u32,
     value: &mut u64,
 ) -> u32
-    ensures value { result ≡ checked_number (check_settings (settings_of glyph width tab spacing paragraph base height top alignment vertical leading trailing wrap)) }
+    ensures value { result ≡ answer_number (check_settings (settings_of glyph width tab spacing paragraph base height top alignment vertical leading trailing wrap)) }
     ensures value_after { value.new ≡ checked_value (check_settings (settings_of glyph width tab spacing paragraph base height top alignment vertical leading trailing wrap)) }
 {
     bisquemop::bisquemop_check_settings(
@@ -39,7 +39,7 @@ pub extern "C" fn bisquemop_check_settings(
 
 #[unsafe(no_mangle)]
 pub extern "C" fn bisquemop_check_text(text: &[u8], value: &mut u64) -> u32
-    ensures value { result ≡ checked_number (check_text text.now) }
+    ensures value { result ≡ answer_number (check_text text.now) }
     ensures value_after { value.new ≡ checked_value (check_text text.now) }
 {
     bisquemop::bisquemop_check_text(text, value)
@@ -47,9 +47,9 @@ pub extern "C" fn bisquemop_check_text(text: &[u8], value: &mut u64) -> u32
 
 #[unsafe(no_mangle)]
 pub extern "C" fn bisquemop_tokens(text: &[u8], tokens: &mut [u32], value: &mut u64) -> u32
-    ensures value { result ≡ tokensNumber (tokens_answer text.now tokens.old) }
+    ensures value { result ≡ answer_number (tokens_answer text.now tokens.old) }
     ensures tokens_after { tokens.new ≡ tokens_buffer text.now tokens.old }
-    ensures value_after { value.new ≡ tokensValue (tokens_answer text.now tokens.old) }
+    ensures value_after { value.new ≡ count_value (tokens_answer text.now tokens.old) }
 {
     bisquemop::bisquemop_tokens(text, tokens, value)
 }
@@ -73,9 +73,9 @@ pub extern "C" fn bisquemop_layout(
     table: &mut [u32],
     value: &mut u64,
 ) -> u32
-    ensures value { result ≡ layoutNumber (layout_answer (settings_of glyph width tab spacing paragraph base height top alignment vertical leading trailing wrap) text.now table.old) }
+    ensures value { result ≡ answer_number (layout_answer (settings_of glyph width tab spacing paragraph base height top alignment vertical leading trailing wrap) text.now table.old) }
     ensures table_after { table.new ≡ layout_table (settings_of glyph width tab spacing paragraph base height top alignment vertical leading trailing wrap) text.now table.old }
-    ensures value_after { value.new ≡ layoutValue (layout_answer (settings_of glyph width tab spacing paragraph base height top alignment vertical leading trailing wrap) text.now table.old) }
+    ensures value_after { value.new ≡ count_value (layout_answer (settings_of glyph width tab spacing paragraph base height top alignment vertical leading trailing wrap) text.now table.old) }
 {
     bisquemop::bisquemop_layout(
         glyph, width, tab, spacing, paragraph, base, height, top, alignment, vertical, leading,
@@ -104,7 +104,7 @@ pub extern "C" fn bisquemop_layout_events(
     value: &mut u64,
     count: &mut u64,
 ) -> u32
-    ensures value { result ≡ drawingNumber (drawing_answer (settings_of glyph width tab spacing paragraph base height top alignment vertical leading trailing wrap) text.now table.old events.old) }
+    ensures value { result ≡ answer_number (drawing_answer (settings_of glyph width tab spacing paragraph base height top alignment vertical leading trailing wrap) text.now table.old events.old) }
     ensures table_after { table.new ≡ drawing_table (settings_of glyph width tab spacing paragraph base height top alignment vertical leading trailing wrap) text.now table.old events.old }
     ensures events_after { events.new ≡ drawing_events (settings_of glyph width tab spacing paragraph base height top alignment vertical leading trailing wrap) text.now table.old events.old }
     ensures value_after { value.new ≡ drawingValue (drawing_answer (settings_of glyph width tab spacing paragraph base height top alignment vertical leading trailing wrap) text.now table.old events.old) }
@@ -134,8 +134,8 @@ pub extern "C" fn bisquemop_open(
     text: &[u8],
     value: &mut u64,
 ) -> u32
-    ensures value { result ≡ openNumber (open_answer (settings_of glyph width tab spacing paragraph base height top alignment vertical leading trailing wrap) text.now) }
-    ensures value_after { value.new ≡ openValue (open_answer (settings_of glyph width tab spacing paragraph base height top alignment vertical leading trailing wrap) text.now) }
+    ensures value { result ≡ answer_number (open_answer (settings_of glyph width tab spacing paragraph base height top alignment vertical leading trailing wrap) text.now) }
+    ensures value_after { value.new ≡ count_value (open_answer (settings_of glyph width tab spacing paragraph base height top alignment vertical leading trailing wrap) text.now) }
 {
     bisquemop::bisquemop_open(
         glyph, width, tab, spacing, paragraph, base, height, top, alignment, vertical, leading,
@@ -167,7 +167,7 @@ pub extern "C" fn bisquemop_one_line(
     stops: &mut u32,
     counts: &mut u32,
 ) -> u32
-    ensures value { result ≡ frameNumber (frame_answer (settings_of glyph width tab spacing paragraph base height top alignment vertical leading trailing wrap) text.now start (rest_from end count) entry.old) }
+    ensures value { result ≡ answer_number (frame_answer (settings_of glyph width tab spacing paragraph base height top alignment vertical leading trailing wrap) text.now start (rest_from end count) entry.old) }
     ensures after { entry.new ≡ frame_entry (settings_of glyph width tab spacing paragraph base height top alignment vertical leading trailing wrap) text.now start (rest_from end count) entry.old }
     ensures value_after { value.new ≡ frameValue (frame_answer (settings_of glyph width tab spacing paragraph base height top alignment vertical leading trailing wrap) text.now start (rest_from end count) entry.old) }
     ensures stops_after { stops.new ≡ frameRestEnd (frame_answer (settings_of glyph width tab spacing paragraph base height top alignment vertical leading trailing wrap) text.now start (rest_from end count) entry.old) stops.old }
@@ -188,8 +188,8 @@ pub extern "C" fn bisquemop_first_affected(
     inserted: u32,
     value: &mut u64,
 ) -> u32
-    ensures value { result ≡ affectedNumber (affected_answer table.now lines (edit_of a b inserted)) }
-    ensures value_after { value.new ≡ affectedValue (affected_answer table.now lines (edit_of a b inserted)) }
+    ensures value { result ≡ answer_number (affected_answer table.now lines (edit_of a b inserted)) }
+    ensures value_after { value.new ≡ count_value (affected_answer table.now lines (edit_of a b inserted)) }
 {
     bisquemop::bisquemop_first_affected(table, lines, a, b, inserted, value)
 }
@@ -218,7 +218,7 @@ pub extern "C" fn bisquemop_lay_again(
     value: &mut u64,
     laid: &mut u64,
 ) -> u32
-    ensures value { result ≡ relayNumber (relay_answer (settings_of glyph width tab spacing paragraph base height top alignment vertical leading trailing wrap) part.now table.old lines (edit_of a b inserted)) }
+    ensures value { result ≡ answer_number (relay_answer (settings_of glyph width tab spacing paragraph base height top alignment vertical leading trailing wrap) part.now table.old lines (edit_of a b inserted)) }
     ensures table_after { table.new ≡ relay_table (settings_of glyph width tab spacing paragraph base height top alignment vertical leading trailing wrap) part.now table.old lines (edit_of a b inserted) }
     ensures value_after { value.new ≡ relayValue (relay_answer (settings_of glyph width tab spacing paragraph base height top alignment vertical leading trailing wrap) part.now table.old lines (edit_of a b inserted)) }
     ensures laid_after { laid.new ≡ relayCount (relay_answer (settings_of glyph width tab spacing paragraph base height top alignment vertical leading trailing wrap) part.now table.old lines (edit_of a b inserted)) laid.old }
@@ -248,8 +248,8 @@ pub extern "C" fn bisquemop_height(
     lines: u64,
     value: &mut u64,
 ) -> u32
-    ensures value { result ≡ heightNumber (height_answer (settings_of glyph width tab spacing paragraph base height top alignment vertical leading trailing wrap) table.now lines) }
-    ensures value_after { value.new ≡ heightValue (height_answer (settings_of glyph width tab spacing paragraph base height top alignment vertical leading trailing wrap) table.now lines) }
+    ensures value { result ≡ answer_number (height_answer (settings_of glyph width tab spacing paragraph base height top alignment vertical leading trailing wrap) table.now lines) }
+    ensures value_after { value.new ≡ count_value (height_answer (settings_of glyph width tab spacing paragraph base height top alignment vertical leading trailing wrap) table.now lines) }
 {
     bisquemop::bisquemop_height(
         glyph, width, tab, spacing, paragraph, base, height, top, alignment, vertical, leading,
@@ -278,7 +278,7 @@ pub extern "C" fn bisquemop_line_y(
     value: &mut u64,
     y: &mut i32,
 ) -> u32
-    ensures value { result ≡ yNumber (y_answer (settings_of glyph width tab spacing paragraph base height top alignment vertical leading trailing wrap) table.now lines line) }
+    ensures value { result ≡ answer_number (y_answer (settings_of glyph width tab spacing paragraph base height top alignment vertical leading trailing wrap) table.now lines line) }
     ensures value_after { value.new ≡ yValue (y_answer (settings_of glyph width tab spacing paragraph base height top alignment vertical leading trailing wrap) table.now lines line) }
     ensures y_after { y.new ≡ yPlace (y_answer (settings_of glyph width tab spacing paragraph base height top alignment vertical leading trailing wrap) table.now lines line) y.old }
 {
@@ -308,9 +308,9 @@ pub extern "C" fn bisquemop_index(
     index: &mut [i32],
     value: &mut u64,
 ) -> u32
-    ensures value { result ≡ indexNumber (index_answer (settings_of glyph width tab spacing paragraph base height top alignment vertical leading trailing wrap) table.now lines index.old) }
+    ensures value { result ≡ answer_number (index_answer (settings_of glyph width tab spacing paragraph base height top alignment vertical leading trailing wrap) table.now lines index.old) }
     ensures index_after { index.new ≡ index_after (settings_of glyph width tab spacing paragraph base height top alignment vertical leading trailing wrap) table.now lines index.old }
-    ensures value_after { value.new ≡ indexValue (index_answer (settings_of glyph width tab spacing paragraph base height top alignment vertical leading trailing wrap) table.now lines index.old) }
+    ensures value_after { value.new ≡ count_value (index_answer (settings_of glyph width tab spacing paragraph base height top alignment vertical leading trailing wrap) table.now lines index.old) }
 {
     bisquemop::bisquemop_index(
         glyph, width, tab, spacing, paragraph, base, height, top, alignment, vertical, leading,
@@ -339,9 +339,9 @@ pub extern "C" fn bisquemop_index_again(
     index: &mut [i32],
     value: &mut u64,
 ) -> u32
-    ensures value { result ≡ indexNumber (index_answer (settings_of glyph width tab spacing paragraph base height top alignment vertical leading trailing wrap) table.now lines index.old) }
+    ensures value { result ≡ answer_number (index_answer (settings_of glyph width tab spacing paragraph base height top alignment vertical leading trailing wrap) table.now lines index.old) }
     ensures index_after { index.new ≡ index_again_after (settings_of glyph width tab spacing paragraph base height top alignment vertical leading trailing wrap) table.now lines first index.old }
-    ensures value_after { value.new ≡ indexValue (index_answer (settings_of glyph width tab spacing paragraph base height top alignment vertical leading trailing wrap) table.now lines index.old) }
+    ensures value_after { value.new ≡ count_value (index_answer (settings_of glyph width tab spacing paragraph base height top alignment vertical leading trailing wrap) table.now lines index.old) }
 {
     bisquemop::bisquemop_index_again(
         glyph, width, tab, spacing, paragraph, base, height, top, alignment, vertical, leading,
@@ -357,8 +357,8 @@ pub extern "C" fn bisquemop_find_line(
     y: i32,
     value: &mut u64,
 ) -> u32
-    ensures value { result ≡ findNumber (find_answer table.now lines index.now y) }
-    ensures value_after { value.new ≡ findValue (find_answer table.now lines index.now y) }
+    ensures value { result ≡ answer_number (find_answer table.now lines index.now y) }
+    ensures value_after { value.new ≡ found_value (find_answer table.now lines index.now y) }
 {
     bisquemop::bisquemop_find_line(table, lines, index, y, value)
 }
@@ -383,9 +383,9 @@ pub extern "C" fn bisquemop_write_file(
     file: &mut [u8],
     value: &mut u64,
 ) -> u32
-    ensures value { result ≡ writingNumber (writing_answer (settings_of glyph width tab spacing paragraph base height top alignment vertical leading trailing wrap) table.now lines file.old) }
+    ensures value { result ≡ answer_number (writing_answer (settings_of glyph width tab spacing paragraph base height top alignment vertical leading trailing wrap) table.now lines file.old) }
     ensures file_after { file.new ≡ writing_file (settings_of glyph width tab spacing paragraph base height top alignment vertical leading trailing wrap) table.now lines file.old }
-    ensures value_after { value.new ≡ writingValue (writing_answer (settings_of glyph width tab spacing paragraph base height top alignment vertical leading trailing wrap) table.now lines file.old) }
+    ensures value_after { value.new ≡ count_value (writing_answer (settings_of glyph width tab spacing paragraph base height top alignment vertical leading trailing wrap) table.now lines file.old) }
 {
     bisquemop::bisquemop_write_file(
         glyph, width, tab, spacing, paragraph, base, height, top, alignment, vertical, leading,
@@ -401,7 +401,7 @@ pub extern "C" fn bisquemop_read_file(
     value: &mut u64,
     bytes: &mut u64,
 ) -> u32
-    ensures value { result ≡ readingNumber (reading_answer file.now settings.old table.old) }
+    ensures value { result ≡ answer_number (reading_answer file.now settings.old table.old) }
     ensures settings_after { settings.new ≡ reading_settings file.now settings.old table.old }
     ensures table_after { table.new ≡ reading_table file.now settings.old table.old }
     ensures value_after { value.new ≡ readingValue (reading_answer file.now settings.old table.old) }
@@ -432,7 +432,7 @@ pub extern "C" fn bisquemop_choose<'a>(
     which: &mut u32,
     left: &mut u64,
 ) -> u32
-    ensures value { result ≡ choosingNumber (choosing_answer (settings_of glyph width tab spacing paragraph base height top alignment vertical leading trailing wrap) h long.now short.now) }
+    ensures value { result ≡ answer_number (choosing_answer (settings_of glyph width tab spacing paragraph base height top alignment vertical leading trailing wrap) h long.now short.now) }
     ensures value_after { value.new ≡ choosingValue (choosing_answer (settings_of glyph width tab spacing paragraph base height top alignment vertical leading trailing wrap) h long.now short.now) }
     ensures which_after { which.new ≡ choosingWhich (choosing_answer (settings_of glyph width tab spacing paragraph base height top alignment vertical leading trailing wrap) h long.now short.now) which.old }
     ensures left_after { left.new ≡ choosingLeft (choosing_answer (settings_of glyph width tab spacing paragraph base height top alignment vertical leading trailing wrap) h long.now short.now) left.old }
@@ -465,7 +465,7 @@ pub extern "C" fn bisquemop_pages(
     value: &mut u64,
     count: &mut u64,
 ) -> u32
-    ensures value { result ≡ pagingNumber (paging_answer (settings_of glyph width tab spacing paragraph base height top alignment vertical leading trailing wrap) h text.now table.old pages.old) }
+    ensures value { result ≡ answer_number (paging_answer (settings_of glyph width tab spacing paragraph base height top alignment vertical leading trailing wrap) h text.now table.old pages.old) }
     ensures table_after { table.new ≡ paging_table (settings_of glyph width tab spacing paragraph base height top alignment vertical leading trailing wrap) h text.now table.old pages.old }
     ensures pages_after { pages.new ≡ paging_list (settings_of glyph width tab spacing paragraph base height top alignment vertical leading trailing wrap) h text.now table.old pages.old }
     ensures value_after { value.new ≡ pagingValue (paging_answer (settings_of glyph width tab spacing paragraph base height top alignment vertical leading trailing wrap) h text.now table.old pages.old) }
@@ -486,9 +486,9 @@ pub extern "C" fn bisquemop_pages_again(
     pages: &mut [u32],
     value: &mut u64,
 ) -> u32
-    ensures value { result ≡ pagingAgainNumber (paging_again_answer table.now lines h pages.old) }
+    ensures value { result ≡ answer_number (paging_again_answer table.now lines h pages.old) }
     ensures pages_after { pages.new ≡ paging_again_list table.now lines h first pages.old }
-    ensures value_after { value.new ≡ pagingAgainValue (paging_again_answer table.now lines h pages.old) }
+    ensures value_after { value.new ≡ count_value (paging_again_answer table.now lines h pages.old) }
 {
     bisquemop::bisquemop_pages_again(table, lines, h, first, pages, value)
 }
@@ -512,7 +512,7 @@ pub extern "C" fn bisquemop_columns_fit(
     h: u32,
     value: &mut u64,
 ) -> u32
-    ensures value { result ≡ fittingNumber (fitting_answer (settings_of glyph width tab spacing paragraph base height top alignment vertical leading trailing wrap) h text.now) }
+    ensures value { result ≡ answer_number (fitting_answer (settings_of glyph width tab spacing paragraph base height top alignment vertical leading trailing wrap) h text.now) }
     ensures value_after { value.new ≡ fittingValue (fitting_answer (settings_of glyph width tab spacing paragraph base height top alignment vertical leading trailing wrap) h text.now) }
 {
     bisquemop::bisquemop_columns_fit(
@@ -540,8 +540,8 @@ pub extern "C" fn bisquemop_columns_plan(
     h: u32,
     value: &mut u64,
 ) -> u32
-    ensures value { result ≡ planningNumber (planning_answer (settings_of glyph width tab spacing paragraph base height top alignment vertical leading trailing wrap) h text.now) }
-    ensures value_after { value.new ≡ planningValue (planning_answer (settings_of glyph width tab spacing paragraph base height top alignment vertical leading trailing wrap) h text.now) }
+    ensures value { result ≡ answer_number (planning_answer (settings_of glyph width tab spacing paragraph base height top alignment vertical leading trailing wrap) h text.now) }
+    ensures value_after { value.new ≡ found_value (planning_answer (settings_of glyph width tab spacing paragraph base height top alignment vertical leading trailing wrap) h text.now) }
 {
     bisquemop::bisquemop_columns_plan(
         glyph, width, tab, spacing, paragraph, base, height, top, alignment, vertical, leading,

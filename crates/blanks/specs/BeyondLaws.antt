@@ -1,6 +1,6 @@
 -- A look from after white space that stands in a text, and what is known of it.
 -- Assumes nothing.
-use Rattle.std.specs.Prelude.{ℕ, ◌+◌, ◌≤◌, ◌≡◌, true, false, List, ◌∷◌, length}
+use Rattle.std.specs.Prelude.{ℕ, ◌+◌, ◌≤◌, ◌≡◌, true, false, List, ◌∷◌, length, None, Option, Some}
 use Rattle.std.proofs.Common.{arith, sym, ◌∙◌}
 use Rattle.std.proofs.Math.Path.{refl, ap}
 use Rattle.meaning.specs.Tokens.{Tok, tokens, chars_of, size_of, kind_of, count_of}
@@ -28,8 +28,6 @@ use Rattle.steps.specs.Ready.{Standing, Ready, step_from}
 use Rattle.steps.specs.Ahead.{white_width}
 use Rattle.steps.specs.Foreseeing.{White, Foresees, ForeseesAt, wide_at, Beyond, ForeseesAfter, LookReady}
 use Rattle.steps.specs.declared.foreseen.Look.{Look}
-use Rattle.steps.specs.declared.foreseen.Foreseen.{Foreseen}
-use Rattle.steps.specs.declared.foreseen.Foreseen.TheVariants.{Nothing, Known}
 use Rattle.steps.specs.declared.step.Stepped.TheVariants.{Go}
 use Rattle.blanks.specs.LookLaws.{look_kept}
 use Rattle.blanks.specs.TabLaws.{tab_foresees, tab-went}
@@ -65,27 +63,27 @@ kept g c sp t at u n end e h q r w d f =
     ∙ ap (λ (k : ℕ). next_fits g (advance c w) (spaces_after sp n) k ts) (sym r)
 
 -- White space that fits, on a line that is not empty.
-module _ {s : Settings} {p : Place} {t : List ℕ} {at : ℕ} {x : Lexeme} {f : Foreseen} (h : LookReady s p t at x f)
+module _ {s : Settings} {p : Place} {t : List ℕ} {at : ℕ} {x : Lexeme} {f : Option Look} (h : LookReady s p t at x f)
     (white : White x.kind) (shown : p.empty ≡ false) (w : ℕ) (wide : w ≡ wide_at p x) (fits : fits_in p.cursor w ≡ true)
   where
     beyond : (l : Look)
         → l ≡ look_of (next_fits s.glyph.0 (advance p.cursor w) (spaces_after p.spaces x.count.0) x.end.0 (tokens (chars_from t x.end.0)))
-        → Beyond s p t x (Known l)
+        → Beyond s p t x (Some l)
     beyond l e = record { white = white; shown = shown; fits = rw (← wide) fits; sees = rw (← wide) e }
 
     -- What was seen from before it is seen from after it.
-    pub beyond-kept : (l : Look) → f ≡ Known l → Beyond s p t x (Known l)
+    pub beyond-kept : (l : Look) → f ≡ Some l → Beyond s p t x (Some l)
     beyond-kept l e =
         let st = h.stands in
         let g = s.glyph.0 in
-        let seen : ForeseesAt s p t at x (Known l) = rw e at h.sees in
+        let seen : ForeseesAt s p t at x (Some l) = rw e at h.sees in
         let k : White (kind_of (tok_of t at x)) = rw (← (stands-kind st)) white in
         let v : w ≡ white_width (kind_of (tok_of t at x)) (count_of (tok_of t at x)) p.cursor p.spaces = rw (← (stands-kind st), ← (stands-count st)) wide in
         beyond l (seen ∙ ap look_of (kept g p.cursor p.spaces t at (tok_of t at x) x.count.0 x.end.0 k st.sound (stands-count st) (stands-end st) w v fits))
 
     -- It is looked from after it.
     pub beyond-looked : (c : LineCursor) (sp : Spaces) (l : Look) → c ≡ advance p.cursor w → sp ≡ spaces_after p.spaces x.count.0
-        → l ≡ look_of (next_fits s.glyph.0 c sp x.end.0 (tokens (chars_from t x.end.0))) → Beyond s p t x (Known l)
+        → l ≡ look_of (next_fits s.glyph.0 c sp x.end.0 (tokens (chars_from t x.end.0))) → Beyond s p t x (Some l)
     beyond-looked c sp l a b e = beyond l (rw (a, b) at e)
 
     pub beyond_fine : (c : LineCursor) (sp : Spaces) → c ≡ advance p.cursor w → sp ≡ spaces_after p.spaces x.count.0 → FineCursor c × FineSpaces sp
@@ -100,20 +98,20 @@ stays s p e = rw e
 module _ {s : Settings} {p : Place} {t : List ℕ} {at : ℕ} {x : Lexeme} {m : Measure} (h : Ready s p t at x m) (q : Place) (n : Measure) (o : Offset)
     (is : step_from s p t at x m ≡ Go q n o)
   where
-    white-leads : (k : TokenKind) → x.kind ≡ k → (l : Look) → Beyond s p t x (Known l) → White k
-        → Foresees s.glyph.0 q.cursor q.spaces x.end.0 (tokens (chars_from t x.end.0)) (Known l)
+    white-leads : (k : TokenKind) → x.kind ≡ k → (l : Look) → Beyond s p t x (Some l) → White k
+        → Foresees s.glyph.0 q.cursor q.spaces x.end.0 (tokens (chars_from t x.end.0)) (Some l)
     unfolding white_width
     white-leads Tab k l b w =
-        tab_foresees s p h.stands k (Known l) b _ refl q (tab-went h k (stays s p b.shown) (rw k at b.fits) q n o is)
+        tab_foresees s p h.stands k (Some l) b _ refl q (tab-went h k (stays s p b.shown) (rw k at b.fits) q n o is)
     white-leads Whitespace k l b w =
-        rw (run-went h k (stays s p b.shown) (rw k at b.fits) q n o is) (run_foresees h k (Known l) b _ refl)
+        rw (run-went h k (stays s p b.shown) (rw k at b.fits) q n o is) (run_foresees h k (Some l) b _ refl)
     white-leads NewLine k l b w = absurd w
     white-leads CarriageReturn k l b w = absurd w
     white-leads Word k l b w = absurd w
     white-leads Break k l b w = absurd w
 
     -- What is known of the look from after a token is known from where its step leads.
-    pub step_foresees : (f : Foreseen) → ForeseesAfter s p t x f
+    pub step_foresees : (f : Option Look) → ForeseesAfter s p t x f
         → Foresees s.glyph.0 q.cursor q.spaces x.end.0 (tokens (chars_from t x.end.0)) f
-    step_foresees Nothing b = tt
-    step_foresees (Known l) b = white-leads x.kind refl l b b.white
+    step_foresees None b = tt
+    step_foresees (Some l) b = white-leads x.kind refl l b b.white

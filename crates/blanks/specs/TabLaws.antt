@@ -1,6 +1,6 @@
 -- A tab, in each of its cases.
 -- Assumes nothing.
-use Rattle.std.specs.Prelude.{ℕ, ◌+◌, ◌≡◌, refl, Bool, true, false, List}
+use Rattle.std.specs.Prelude.{ℕ, ◌+◌, ◌≡◌, refl, Bool, true, false, List, None, Option, Some}
 use Rattle.std.proofs.Common.{sym}
 use Rattle.std.proofs.Math.Path.{ap}
 use Rattle.basis.specs.Choice.{pick}
@@ -23,8 +23,6 @@ use Rattle.steps.specs.Ready.{Standing, Ready, step_from}
 use Rattle.steps.specs.Ahead.{white_width}
 use Rattle.steps.specs.Foreseeing.{Foresees, ForeseesAfter}
 use Rattle.steps.specs.declared.foreseen.Look.{Look}
-use Rattle.steps.specs.declared.foreseen.Foreseen.{Foreseen}
-use Rattle.steps.specs.declared.foreseen.Foreseen.TheVariants.{Nothing, Known}
 use Rattle.steps.specs.declared.step.Stepped.TheVariants.{Go}
 use Rattle.steps.specs.FitsLaws.{none_used}
 
@@ -51,13 +49,13 @@ module _ (t : List ℕ) (at : ℕ) (x : Lexeme) (k : x.kind ≡ Tab) (st : Stand
 
 -- What is known of the look from after a tab is what is known from where the line stands then.
 module _ (s : Settings) (p : Place) {t : List ℕ} {at : ℕ} {x : Lexeme} (st : Standing t at x) (k : x.kind ≡ Tab) where
-  tab-sees : (f : Foreseen) → ForeseesAfter s p t x f
+  tab-sees : (f : Option Look) → ForeseesAfter s p t x f
       → Foresees s.glyph.0 (advance p.cursor (tab_width p.cursor)) p.spaces x.end.0 (tokens (chars_from t x.end.0)) f
   unfolding white_width
-  tab-sees Nothing b = tt
-  tab-sees (Known l) b = rw (k, tab-count t at x k st, none_used p.spaces) at b.sees
+  tab-sees None b = tt
+  tab-sees (Some l) b = rw (k, tab-count t at x k st, none_used p.spaces) at b.sees
 
-  pub tab_foresees : (f : Foreseen) → ForeseesAfter s p t x f → (width : ℕ) → width ≡ tab_width p.cursor → (q : Place) → q ≡ moved_on p width
+  pub tab_foresees : (f : Option Look) → ForeseesAfter s p t x f → (width : ℕ) → width ≡ tab_width p.cursor → (q : Place) → q ≡ moved_on p width
       → Foresees s.glyph.0 q.cursor q.spaces x.end.0 (tokens (chars_from t x.end.0)) f
   tab_foresees f b width w q e = rw (e, w) (tab-sees f b)
 

@@ -9,8 +9,8 @@ ghost use Rattle.steps.specs.Stepping.{stepped_at};
 ghost use Rattle.steps.specs.Ready.{Small, Ready, step_from};
 
 use crate::line_iter::next_word_width;
-use meaning::counts::{Chars, Offset};
-use meaning::cursor::{NextWord, Place};
+use meaning::counts::{Chars, Offset, Pixels};
+use meaning::cursor::Place;
 use meaning::line::{LineEnd, Measure};
 use meaning::settings::Settings;
 use moves::cursor::fits;
@@ -26,8 +26,7 @@ fn hyphenated(s: Settings, p: Place, at: usize, m: Measure, reach: Offset) -> St
     ensures { result ≡ stepped_at m at softHyphen (meant.hyphenated s p at reach.0) }
 {
     let glyph = s.glyph;
-    let cursor = p.cursor;
-    if fits(cursor, glyph.0) {
+    if fits(p.cursor, glyph.0) {
         let after = noted_print(m, glyph);
         if p.empty {
             return Stepped::Go(moved_on(p, glyph.0), after, reach);
@@ -49,8 +48,7 @@ fn shows(p: Place, width: u32) -> bool
     if p.empty {
         return true;
     }
-    let cursor = p.cursor;
-    !fits(cursor, width)
+    !fits(p.cursor, width)
 }
 
 // A soft hyphen shows only if a word follows.
@@ -61,7 +59,7 @@ pub fn on_break(text: &[u8], s: Settings, p: Place, at: usize, x: Lexeme, m: Mea
     let ahead = next_word_width(text, x.end.0 as usize, s.glyph.0);
     let reach = ahead.reach;
     let next = ahead.width;
-    let NextWord::Width(w) = next else {
+    let Some(w) = next else {
         return Stepped::Go(p, m, reach);
     };
     if shows(p, w.0) {

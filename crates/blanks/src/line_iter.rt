@@ -1,53 +1,50 @@
 // The two looks ahead: the next word's width, and whether the next word fits (rule 8 and rule 12).
-ghost use Rattle.std.specs.Prelude.{◌+◌, ◌≤◌, ◌<◌, ◌≡◌, length};
+ghost use Rattle.std.specs.Prelude.{◌+◌, ◌≤◌, ◌<◌, ◌≡◌, length, None};
 ghost use Rattle.meaning.specs.Tokens.{tokens};
 ghost use Rattle.meaning.specs.Lookahead as meant;
-ghost use Rattle.meaning.specs.declared.cursor.NextWord.TheVariants.{Nothing};
 ghost use Rattle.parser.specs.Lexing.{chars_from};
 ghost use Rattle.moves.specs.Fine.{FineCursor, FineSpaces};
 ghost use Rattle.steps.specs.Stepping.{look_of, ahead_of};
 ghost use Rattle.steps.specs.Ahead.{known_of, look_at, white_width};
 
-use basis::numbers::greater;
 use meaning::counts::{Offset, Pixels};
-use meaning::cursor::{LineCursor, NextWord, Spaces};
+use meaning::cursor::{LineCursor, Spaces};
 use meaning::tokens::TokenKind;
 use moves::cursor::{advanced, fits, tab_width};
 use moves::space_config::{spaces_after, spaces_width};
-use parser::lexeme::Lexed;
+use parser::lexeme::Lexeme;
 use parser::lexer::token_at;
 use steps::foreseen::{Look, WidthAhead};
 
 // One width more.
-fn with_width(w: NextWord, by: u32) -> NextWord
+fn with_width(w: Option<Pixels>, by: u32) -> Option<Pixels>
     requires { known_of w + by < 4294967296 }
     ensures { result ≡ meant.added w by }
 {
     match w {
-        NextWord::Nothing => NextWord::Width(Pixels(by)),
-        NextWord::Width(v) => NextWord::Width(Pixels(v.0 + by)),
+        None => Some(Pixels(by)),
+        Some(v) => Some(Pixels(v.0 + by)),
     }
 }
 
 // The width of the words that follow, up to the white space after them: a soft hyphen adds its "-" and ends the looking.
 pub fn next_word_width(text: &[u8], at: usize, glyph: u32) -> WidthAhead
     requires { (length text.now ≤ 65535) × (glyph ≤ 64) × (at ≤ length text.now) }
-    ensures { result ≡ ahead_of (meant.next_width glyph Nothing at (tokens (chars_from text.now at))) }
+    ensures { result ≡ ahead_of (meant.next_width glyph None at (tokens (chars_from text.now at))) }
 {
     let mut pos = at;
-    let mut width = NextWord::Nothing;
-    let mut reach = 0;
+    let mut width = None;
+    let mut reach: u32 = 0;
     let found = loop {
         let token = token_at(text, pos);
-        let Lexed::Token(x) = token else {
+        let Some(x) = token else {
             break WidthAhead {
                 width,
-                reach: Offset(greater(reach, pos as u32 + 1)),
+                reach: Offset(reach.max(pos as u32 + 1)),
             };
         };
-        reach = greater(reach, x.reach.0);
-        let kind = x.kind;
-        match kind {
+        reach = reach.max(x.reach.0);
+        match x.kind {
             TokenKind::Word => {
                 width = with_width(width, x.chars.0 * glyph);
                 pos = x.end.0 as usize;
@@ -105,19 +102,18 @@ pub fn next_word_fits(
     let mut pos = at;
     let mut cur = cursor;
     let mut left = spaces;
-    let mut reach = 0;
+    let mut reach: u32 = 0;
     loop {
         let token = token_at(text, pos);
-        let Lexed::Token(x) = token else {
-            return look_at(false, greater(reach, pos as u32 + 1));
+        let Some(x) = token else {
+            return look_at(false, reach.max(pos as u32 + 1));
         };
-        reach = greater(reach, x.reach.0);
-        let kind = x.kind;
-        match kind {
+        reach = reach.max(x.reach.0);
+        match x.kind {
             TokenKind::Word => return look_at(fits(cur, x.chars.0 * glyph), reach),
             TokenKind::Break => return look_at(fits(cur, glyph), reach),
             TokenKind::Tab | TokenKind::Whitespace => {
-                let w = white_width(kind, x.count.0, cur, left);
+                let w = white_width(x.kind, x.count.0, cur, left);
                 if !fits(cur, w) {
                     return look_at(false, reach);
                 }

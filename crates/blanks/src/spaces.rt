@@ -11,7 +11,6 @@ ghost use Rattle.steps.specs.Foreseeing.{Foresees, ForeseesAfter};
 ghost use Rattle.steps.specs.Runs.{CutRun, cut_answer, WholeRun, whole_answer};
 
 use crate::line_iter::next_word_fits;
-use basis::numbers::lesser;
 use meaning::counts::{Chars, Offset, Pixels};
 use meaning::cursor::Place;
 use meaning::line::{LineEnd, Measure};
@@ -23,7 +22,7 @@ use moves::space_config::spaces_width;
 use parser::lexeme::Lexeme;
 use parser::part::part_of;
 use steps::ending::nothing_left;
-use steps::foreseen::{Foreseen, Look};
+use steps::foreseen::Look;
 use steps::step::{Ended, Resumed, Stepped};
 
 // What is held of a run of so many characters and counted spaces that ends at an offset, of which some are taken.
@@ -54,17 +53,13 @@ fn cut_run(
     requires { CutRun s p text.now at x width m }
     ensures { result ≡ cut_answer s p text.now at x width m }
 {
-    let cursor = p.cursor;
     let single = width / x.count.0;
-    let fitting = room(cursor) / single;
-    let taken = lesser(fitting + 1, x.count.0);
+    let fitting = room(p.cursor) / single;
+    let taken = (fitting + 1).min(x.count.0);
     let part = part_of(text, at, taken);
     let next = part.end;
-    let end = x.end;
-    let chars = x.chars;
-    let count = x.count;
     let measure = noted_space(m, Chars(fitting), Pixels(0));
-    let rest = held_rest(end, chars, count, taken);
+    let rest = held_rest(x.end, x.chars, x.count, taken);
     Stepped::Stop(Ended {
         ended: LineEnd::LineBreak,
         measure,
@@ -77,7 +72,7 @@ fn cut_run(
 
 // Whether white space is drawn that ends at an offset, after which the line stands at q: only the last test looks ahead, and only
 // where the look is not known.
-pub fn draws_space(text: &[u8], s: Settings, q: Place, at: usize, seen: Foreseen) -> Look
+pub fn draws_space(text: &[u8], s: Settings, q: Place, at: usize, seen: Option<Look>) -> Look
     requires { FineSettings s × FinePlace q × (length text.now ≤ 65535) × (at ≤ length text.now) × Foresees s.glyph.0 q.cursor q.spaces at (tokens (chars_from text.now at)) seen }
     ensures { result ≡ look_of (draws_space s q at (tokens (chars_from text.now at))) }
 {
@@ -87,12 +82,10 @@ pub fn draws_space(text: &[u8], s: Settings, q: Place, at: usize, seen: Foreseen
             reach: Offset(0),
         };
     }
-    if let Foreseen::Known(look) = seen {
+    if let Some(look) = seen {
         return look;
     }
-    let cursor = q.cursor;
-    let spaces = q.spaces;
-    next_word_fits(text, at, s.glyph.0, cursor, spaces)
+    next_word_fits(text, at, s.glyph.0, q.cursor, q.spaces)
 }
 
 // A run of so many spaces and such a width that fits, and after which the line stands at q.
@@ -103,18 +96,16 @@ fn whole_run(
     x: Lexeme,
     width: u32,
     m: Measure,
-    seen: Foreseen,
+    seen: Option<Look>,
 ) -> Stepped
     requires { WholeRun s q text.now x width m seen }
     ensures { result ≡ whole_answer s q text.now x width m }
 {
     let look = draws_space(text, s, q, x.end.0 as usize, seen);
-    let reach = look.reach;
-    let count = x.count;
     if look.fits {
-        return Stepped::Go(q, noted_space(m, count, Pixels(width)), reach);
+        return Stepped::Go(q, noted_space(m, x.count, Pixels(width)), look.reach);
     }
-    Stepped::Go(q, noted_space(m, count, Pixels(0)), reach)
+    Stepped::Go(q, noted_space(m, x.count, Pixels(0)), look.reach)
 }
 
 // A space run: skipped at the front of a line, drawn where it fits, else cut. Its spaces are used up whatever becomes of it.
@@ -125,20 +116,18 @@ pub fn on_space(
     at: usize,
     x: Lexeme,
     m: Measure,
-    seen: Foreseen,
+    seen: Option<Look>,
 ) -> Stepped
     requires { Ready s p text.now at x m × (x.kind ≡ Whitespace) × ForeseesAfter s p text.now x seen }
     ensures { result ≡ step_from s p text.now at x m }
 {
-    let cursor = p.cursor;
-    let spaces = p.spaces;
     let count = x.count;
     let used = used_up(p, count.0);
     if skips_space(s, p) {
         return Stepped::Go(used, noted_space(m, count, Pixels(0)), Offset(0));
     }
-    let width = spaces_width(spaces, count.0);
-    if fits(cursor, width) {
+    let width = spaces_width(p.spaces, count.0);
+    if fits(p.cursor, width) {
         return whole_run(text, s, moved_on(used, width), x, width, m, seen);
     }
     cut_run(text, s, p, at, x, width, m)

@@ -13,7 +13,7 @@ use moves::cursor::{fits, room, tab_width};
 use moves::measure::noted_space;
 use moves::place::{moved_on, skips_space};
 use parser::lexeme::Lexeme;
-use steps::foreseen::Foreseen;
+use steps::foreseen::Look;
 use steps::step::Stepped;
 
 // A tab: skipped at the front of a line. One that fits moves the cursor, drawn or not; else pen and cursor go to the edge, by the room.
@@ -24,7 +24,7 @@ pub fn on_tab(
     at: usize,
     x: Lexeme,
     m: Measure,
-    seen: Foreseen,
+    seen: Option<Look>,
 ) -> Stepped
     requires { Ready s p text.now at x m × (x.kind ≡ Tab) × ForeseesAfter s p text.now x seen }
     ensures { result ≡ step_from s p text.now at x m }
@@ -37,8 +37,7 @@ pub fn on_tab(
     if fits(cursor, width) {
         let q = moved_on(p, width);
         let look = draws_space(text, s, q, x.end.0 as usize, seen);
-        let reach = look.reach;
-        return Stepped::Go(q, noted_space(m, Chars(0), Pixels(width)), reach);
+        return Stepped::Go(q, noted_space(m, Chars(0), Pixels(width)), look.reach);
     }
     let left = room(cursor);
     let edge = moved_on(p, left);

@@ -13,7 +13,7 @@ use meaning::settings::Settings;
 use meaning::tokens::TokenKind;
 use parser::lexeme::Lexeme;
 use steps::ending::ends_before;
-use steps::foreseen::Foreseen;
+use steps::foreseen::Look;
 use steps::step::Stepped;
 use steps::words::on_word;
 
@@ -25,14 +25,13 @@ pub fn step_token(
     at: usize,
     x: Lexeme,
     m: Measure,
-    seen: Foreseen,
+    seen: Option<Look>,
 ) -> Stepped
     requires { Ready s p text.now at x m × ForeseesAfter s p text.now x seen }
     ensures { result ≡ step_from s p text.now at x m }
 {
-    let kind = x.kind;
     let next = x.end;
-    match kind {
+    match x.kind {
         TokenKind::Word => on_word(text, s, p, at, x, m),
         TokenKind::Whitespace => on_space(text, s, p, at, x, m, seen),
         TokenKind::Tab => on_tab(text, s, p, at, x, m, seen),

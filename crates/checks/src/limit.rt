@@ -2,14 +2,14 @@
 ghost use Rattle.std.specs.Prelude.{◌≡◌};
 ghost use Rattle.meaning.specs.Checks.{check_limit};
 
-use meaning::refusals::{Checked, Refusal};
+use meaning::refusals::Refusal;
 
 // A limit of so many lines.
-pub fn check_limit(h: u32) -> Checked
+pub fn check_limit(h: u32) -> Result<(), Refusal>
     ensures { result ≡ check_limit h }
 {
     if h == 0 {
-        return Checked::Refused(Refusal::SettingOutOfRange);
+        return Err(Refusal::SettingOutOfRange);
     }
-    Checked::Good
+    Ok(())
 }

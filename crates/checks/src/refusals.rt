@@ -1,26 +1,15 @@
-// Each refusal as a number, and the value that goes besides it.
+// Each refusal as a number, and the value that goes besides it; and what a caller from C gets of any answer.
 // Refusal 1, refusal 2, refusal 3, refusal 4, refusal 5, refusal 6, refusal 8, refusal 9, refusal 10, refusal 11, refusal 12.
 ghost use Rattle.std.specs.Prelude.{◌≡◌};
-ghost use Rattle.meaning.specs.Refusals.{number_of, besides, checked_number, checked_value};
+ghost use Rattle.meaning.specs.Refusals.{number_of, besides, checked_value};
+ghost use Rattle.meaning.specs.Answers.{answer_number, count_value};
 
-use meaning::refusals::{Checked, Refusal};
+use meaning::refusals::Refusal;
 
 pub fn number(r: Refusal) -> u32
     ensures { result ≡ number_of r }
 {
-    match r {
-        Refusal::SettingOutOfRange => 1,
-        Refusal::UnknownAlignment(_) => 2,
-        Refusal::TextTooLong(_) => 3,
-        Refusal::NotUtf8(_) => 4,
-        Refusal::BadLine(_) => 5,
-        Refusal::BadEdit => 6,
-        Refusal::TooSmall(_) => 8,
-        Refusal::BadField(_) => 9,
-        Refusal::BadIndex(_) => 10,
-        Refusal::OldEntry(_) => 11,
-        Refusal::RetiredSetting => 12,
-    }
+    u32::from(r)
 }
 
 pub fn value(r: Refusal) -> u64
@@ -41,22 +30,32 @@ pub fn value(r: Refusal) -> u64
     }
 }
 
-// The number of the refusal, and 0 where nothing is refused.
-pub fn checked_number(c: Checked) -> u32
-    ensures { result ≡ checked_number c }
+// The number of the refusal, and 0 where nothing is refused, whatever else a call answers.
+pub fn answer_number<T>(answer: &Result<T, Refusal>) -> u32
+    ensures { result ≡ answer_number answer.now }
 {
-    match c {
-        Checked::Good => 0,
-        Checked::Refused(r) => number(r),
+    match answer {
+        Ok(_) => 0,
+        Err(r) => number(*r),
     }
 }
 
-// What goes besides that number, and 0 where nothing is refused.
-pub fn checked_value(c: Checked) -> u64
-    ensures { result ≡ checked_value c }
+// What goes besides the number of a check, and 0 where nothing is refused.
+pub fn checked_value(checked: Result<(), Refusal>) -> u64
+    ensures { result ≡ checked_value checked }
 {
-    match c {
-        Checked::Good => 0,
-        Checked::Refused(r) => value(r),
+    match checked {
+        Ok(()) => 0,
+        Err(r) => value(r),
+    }
+}
+
+// What goes besides the number of a call that answers a count.
+pub fn count_value(answer: Result<u64, Refusal>) -> u64
+    ensures { result ≡ count_value answer }
+{
+    match answer {
+        Ok(count) => count,
+        Err(r) => value(r),
     }
 }

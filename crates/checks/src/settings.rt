@@ -3,7 +3,7 @@ ghost use Rattle.std.specs.Prelude.{◌≡◌};
 ghost use Rattle.meaning.specs.Settings.{top_in_range, sizes_in_range, in_range};
 ghost use Rattle.meaning.specs.Checks.{check_settings};
 
-use meaning::refusals::{Checked, Refusal};
+use meaning::refusals::Refusal;
 use meaning::settings::Settings;
 
 // Every test here is made, whatever the others say: `&` has no branch, and is what the definitions say.
@@ -31,8 +31,7 @@ fn sizes_in_range(
 fn top_in_range(s: Settings) -> bool
     ensures { result ≡ top_in_range s.top }
 {
-    let top = s.top;
-    (-4096 <= top) & (top <= 4096)
+    (-4096 <= s.top) & (s.top <= 4096)
 }
 
 // Every setting but the two alignments.
@@ -52,17 +51,17 @@ fn in_range(s: Settings) -> bool
 }
 
 // Refusal 1 and refusal 2.
-pub fn check_settings(s: Settings) -> Checked
+pub fn check_settings(s: Settings) -> Result<(), Refusal>
     ensures { result ≡ check_settings s }
 {
     if !in_range(s) {
-        return Checked::Refused(Refusal::SettingOutOfRange);
+        return Err(Refusal::SettingOutOfRange);
     }
     if 3 < s.alignment {
-        return Checked::Refused(Refusal::UnknownAlignment(s.alignment));
+        return Err(Refusal::UnknownAlignment(s.alignment));
     }
     if 2 < s.vertical {
-        return Checked::Refused(Refusal::UnknownAlignment(s.vertical));
+        return Err(Refusal::UnknownAlignment(s.vertical));
     }
-    Checked::Good
+    Ok(())
 }

@@ -3,30 +3,28 @@ ghost use Rattle.std.specs.Prelude.{◌≡◌};
 ghost use Rattle.meaning.specs.Checks.{check_length, check_text};
 
 use meaning::counts::Offset;
-use meaning::refusals::{Checked, Refusal};
+use meaning::refusals::Refusal;
 use meaning::sizes::TEXT_LIMIT;
 use utf8::text::valid_prefix;
 
 // Refusal 3, of a text of so many bytes.
-pub fn check_length(bytes: u64) -> Checked
+pub fn check_length(bytes: u64) -> Result<(), Refusal>
     ensures { result ≡ check_length bytes }
 {
     if (TEXT_LIMIT as u64) < bytes {
-        return Checked::Refused(Refusal::TextTooLong(bytes));
+        return Err(Refusal::TextTooLong(bytes));
     }
-    Checked::Good
+    Ok(())
 }
 
 // Refusal 3 and refusal 4. A text that is too long is not read at all.
-pub fn check_text(text: &[u8]) -> Checked
+pub fn check_text(text: &[u8]) -> Result<(), Refusal>
     ensures { result ≡ check_text text.now }
 {
-    if let Checked::Refused(r) = check_length(text.len() as u64) {
-        return Checked::Refused(r);
-    }
+    check_length(text.len() as u64)?;
     let prefix = valid_prefix(text);
     if prefix == text.len() {
-        return Checked::Good;
+        return Ok(());
     }
-    Checked::Refused(Refusal::NotUtf8(Offset(prefix as u32)))
+    Err(Refusal::NotUtf8(Offset(prefix as u32)))
 }

@@ -1,6 +1,6 @@
 -- The characters of a lent text from a boundary on, counted by bytes (rule 10).
 -- Assumes nothing.
-use Rattle.std.specs.Prelude.{ℕ, ◌+◌, ◌-◌, ◌≡◌, true, length, take}
+use Rattle.std.specs.Prelude.{ℕ, ◌+◌, ◌-◌, ◌≡◌, true, length, take, Ok}
 use Rattle.std.proofs.Common.{arith, ◌∙◌}
 use Rattle.std.proofs.Math.Path.{sym, ap, subst}
 use mathlib.Core.List.{List, [], ◌++◌, append-nil}
@@ -15,11 +15,10 @@ use Rattle.utf8.specs.Boundaries.{count-part}
 use Rattle.meaning.specs.Checks.{check_utf8}
 use Rattle.meaning.specs.Edit.{chars_in}
 use Rattle.meaning.specs.Frames.{onward}
-use Rattle.meaning.specs.declared.refusals.Checked.TheVariants.{Good}
 use Rattle.laws.specs.PartChars.{encoded, part-size, cut-size}
 use Rattle.laws.specs.Between.{chars-here}
 
-module _ (t : List ℕ) (good : check_utf8 t ≡ Good) (from : ℕ) (at : boundary (decode_all t) from ≡ true) where
+module _ (t : List ℕ) (good : check_utf8 t ≡ Ok tt) (from : ℕ) (at : boundary (decode_all t) from ≡ true) where
   abbrev cs : List ℕ
   cs = decode_all t
 

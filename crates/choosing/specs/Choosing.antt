@@ -1,7 +1,8 @@
 -- The tests of the call that chooses between two texts, in their order, and what each leaves; what is chosen.
 -- Rule 10, refusal 1, refusal 2, refusal 3, refusal 4.
 -- Assumes nothing.
-use Rattle.std.specs.Prelude.{ℕ, ◌≤◌, ◌≡◌, true, false}
+use Rattle.std.specs.Prelude.{ℕ, ◌≤◌, ◌≡◌, true, false, Err, Ok}
+use Rattle.meaning.specs.declared.answers.Chosen.TheVariants as chosen
 use Rattle.std.proofs.Math.Path.{sym, ap}
 use Rattle.std.proofs.Common.{subst, ◌∙◌}
 use mathlib.Core.List.{List, [], ◌∷◌}
@@ -16,8 +17,6 @@ use Rattle.meaning.specs.Pages.{within_lines, taken_bytes, left_out}
 use Rattle.meaning.specs.PageCalls.{check_choosing, chosen_part, chosen_of, choosing_answer}
 use Rattle.meaning.specs.declared.settings.Settings.{Settings}
 use Rattle.meaning.specs.declared.refusals.Refusal.{Refusal}
-use Rattle.meaning.specs.declared.refusals.Checked.TheVariants.{Good, Refused}
-use Rattle.meaning.specs.declared.answers.Chosen.TheVariants as chosen
 use Rattle.choosing.specs.ChosenPart.{taken-within}
 use Rattle.laws.specs.PageBoundaries.{taken-boundary}
 use Rattle.laws.specs.TestOrder.{first_alone, none_refuses, three-good}
@@ -37,40 +36,40 @@ whole_is s h t x e = ap (λ (y : Taken). y.whole) e
 module _ (s : Settings) (h : ℕ) (long short : List ℕ) where
   -- ---- the tests
 
-  pub limit-refused : (r : Refusal) → check_limit h ≡ Refused r → Refused r ≡ check_choosing s h long short
+  pub limit-refused : (r : Refusal) → check_limit h ≡ Err r → Err r ≡ check_choosing s h long short
   unfolding check_choosing first_of
   limit-refused r e = rw e
 
-  module _ (limit : check_limit h ≡ Good) where
-    pub settings-refused : (r : Refusal) → check_settings s ≡ Refused r → Refused r ≡ check_choosing s h long short
+  module _ (limit : check_limit h ≡ Ok tt) where
+    pub settings-refused : (r : Refusal) → check_settings s ≡ Err r → Err r ≡ check_choosing s h long short
     unfolding check_choosing first_of
     settings-refused r e = rw (limit, e)
 
-    module _ (settings : check_settings s ≡ Good) where
-      pub long-refused : (r : Refusal) → check_text long ≡ Refused r → Refused r ≡ check_choosing s h long short
+    module _ (settings : check_settings s ≡ Ok tt) where
+      pub long-refused : (r : Refusal) → check_text long ≡ Err r → Err r ≡ check_choosing s h long short
       unfolding check_choosing first_of
       long-refused r e = rw (limit, settings, e)
 
-      pub short_decides : check_text long ≡ Good → check_text short ≡ check_choosing s h long short
+      pub short_decides : check_text long ≡ Ok tt → check_text short ≡ check_choosing s h long short
       unfolding check_choosing first_of
       short_decides e = sym (rw (limit, settings, e) (first_alone (check_text short)))
 
-  pub choosing-refused : (r : Refusal) → check_choosing s h long short ≡ Refused r → chosen.Refused r ≡ choosing_answer s h long short
+  pub choosing-refused : (r : Refusal) → check_choosing s h long short ≡ Err r → Err r ≡ choosing_answer s h long short
   unfolding choosing_answer
   choosing-refused r e = rw e
 
   -- ---- where nothing is refused
 
-  module _ (good : check_choosing s h long short ≡ Good) where
+  module _ (good : check_choosing s h long short ≡ Ok tt) where
     some : 1 ≤ h
     unfolding check_choosing
     some = limit-some h (none_refuses (check_limit h) _ good).0
 
-    others-good : (check_settings s ≡ Good) × (check_text long ≡ Good) × (check_text short ≡ Good)
+    others-good : (check_settings s ≡ Ok tt) × (check_text long ≡ Ok tt) × (check_text short ≡ Ok tt)
     unfolding check_choosing
     others-good = three-good (check_settings s) (check_text long) (check_text short) (none_refuses (check_limit h) _ good).1
 
-    takeable : (t : List ℕ) → check_text t ≡ Good → Takeable s h t
+    takeable : (t : List ℕ) → check_text t ≡ Ok tt → Takeable s h t
     unfolding check_text
     takeable t e =
         record {
@@ -97,11 +96,11 @@ module _ (s : Settings) (h : ℕ) (long short : List ℕ) where
 
   -- ---- the answer
 
-  module _ (good : check_choosing s h long short ≡ Good) where
+  module _ (good : check_choosing s h long short ≡ Ok tt) where
     pub chosen-long : within_lines s h (decode_all long) ≡ true → (n : ℕ) → n ≡ length (chosen_part s h long short)
-        → chosen.Long n ≡ choosing_answer s h long short
+        → Ok (chosen.Long n) ≡ choosing_answer s h long short
     unfolding choosing_answer chosen_of chosen_part pick
-    chosen-long e n is = rw (good, e) (ap chosen.Long (rw e at is))
+    chosen-long e n is = rw (good, e) (ap (λ (k : ℕ). Ok (chosen.Long k)) (rw e at is))
 
     module _ (e : within_lines s h (decode_all long) ≡ false) (n : ℕ) (is : n ≡ length (chosen_part s h long short)) where
       pub bytes-are : n ≡ taken_bytes s h (decode_all short)
@@ -111,8 +110,8 @@ module _ (s : Settings) (h : ℕ) (long short : List ℕ) where
       pub bytes-end : boundary (decode_all short) n ≡ true
       bytes-end = subst (λ (k : ℕ). boundary (decode_all short) k ≡ true) (sym bytes-are) (taken-boundary s (decode_all short) h)
 
-      pub chosen-short : (m : ℕ) → m ≡ length (onward (decode_all short) n) → chosen.Short n m ≡ choosing_answer s h long short
+      pub chosen-short : (m : ℕ) → m ≡ length (onward (decode_all short) n) → Ok (chosen.Short n m) ≡ choosing_answer s h long short
       unfolding choosing_answer chosen_of left_out pick
       chosen-short m left =
           rw (good, e)
-          (λ i. chosen.Short (bytes-are i) ((left ∙ ap (λ (k : ℕ). length (onward (decode_all short) k)) bytes-are) i))
+          (λ i. Ok (chosen.Short (bytes-are i) ((left ∙ ap (λ (k : ℕ). length (onward (decode_all short) k)) bytes-are) i)))

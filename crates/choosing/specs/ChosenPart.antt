@@ -1,6 +1,9 @@
 -- The long text or the short one: which it is, and what is handed back of it and left out (rule 10).
 -- Assumes nothing.
-use Rattle.std.specs.Prelude.{ℕ, ◌≤◌, ◌<◌, ◌≡◌, true, List, ◌∷◌, ◌++◌, take, drop}
+use Rattle.std.specs.Prelude.{ℕ, ◌≤◌, ◌<◌, ◌≡◌, true, List, ◌∷◌, ◌++◌, take, drop, Err, Ok, Result}
+use Rattle.meaning.specs.declared.answers.Chosen.TheVariants as chosen
+use Rattle.meaning.specs.declared.answers.Chosen.{Chosen}
+use Rattle.meaning.specs.declared.refusals.Refusal.{Refusal}
 use Rattle.std.proofs.Math.Path.{sym}
 use Rattle.std.proofs.Common.{ap, ◌∙◌, arith, le-leb, take-append-drop, length-take-le}
 use Rattle.std.proofs.Math.Nat.{mul-one, zero-mul, zero-add}
@@ -17,9 +20,6 @@ use Rattle.meaning.specs.Frames.{onward}
 use Rattle.meaning.specs.Pages.{end_before, within_lines, taken_bytes, left_out, pages_of}
 use Rattle.meaning.specs.PageCalls.{chosen_part, chosen_of}
 use Rattle.meaning.specs.declared.settings.Settings.{Settings}
-use Rattle.meaning.specs.declared.answers.Chosen.{Chosen}
-use Rattle.meaning.specs.declared.answers.Chosen.TheVariants as chosen
-use Rattle.meaning.specs.declared.refusals.Checked.TheVariants.{Good}
 use Rattle.laws.specs.Between.{chars-here}
 use Rattle.laws.specs.PageBoundaries.{taken-boundary}
 use Rattle.laws.specs.PageLaws.{PageSaid}
@@ -66,7 +66,7 @@ module _ (s : Settings) (h : ℕ) (cs : List ℕ) where
       let all : layout s cs ≡ p.line ∷ p.more = rw zero-mul at p.lines in
       (rw p.start (rw all at (layout-starts s cs)), p.end ∙ rw (zero-mul, zero-add, layout-length s cs))
 
-module _ (s : Settings) (h : ℕ) (short : List ℕ) (good : check_utf8 short ≡ Good) where
+module _ (s : Settings) (h : ℕ) (short : List ℕ) (good : check_utf8 short ≡ Ok tt) where
   abbrev taken : ℕ
   taken = taken_bytes s h (decode_all short)
 
@@ -90,10 +90,9 @@ module _ (s : Settings) (h : ℕ) (short : List ℕ) (good : check_utf8 short �
 abbrev pub bytes_of : Chosen → ℕ
 bytes_of (chosen.Long n) = n
 bytes_of (chosen.Short n k) = n
-bytes_of (chosen.Refused r) = 0
 
 -- The part is so long.
-pub part_length : (s : Settings) (h : ℕ) (long short : List ℕ) → check_utf8 short ≡ Good
+pub part_length : (s : Settings) (h : ℕ) (long short : List ℕ) → check_utf8 short ≡ Ok tt
     → length (chosen_part s h long short) ≡ bytes_of (chosen_of s h long short)
 part_length s h long short good =
     by_le (length (layout s (decode_all long))) h

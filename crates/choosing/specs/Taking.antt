@@ -1,6 +1,6 @@
 -- A loop over lines that stops at a limit: the lines that it has passed, and where the first h lines of a text end.
 -- Assumes nothing.
-use Rattle.std.specs.Prelude.{ℕ, ◌+◌, ◌≤◌, ◌<◌, ◌≡◌, refl, true, false, List, [], ◌∷◌, map, drop}
+use Rattle.std.specs.Prelude.{ℕ, ◌+◌, ◌≤◌, ◌<◌, ◌≡◌, refl, true, false, List, [], ◌∷◌, map, drop, Ok}
 use Rattle.std.proofs.Common.{zero-add, arith, sym, ◌∙◌, drop-drop}
 use Rattle.std.proofs.Math.Path.{ap}
 use borrow.Author.Tests.{le-leb, lt-leb}
@@ -13,7 +13,6 @@ use Rattle.meaning.specs.Layout.{Row, row_at, entry_of_row, layout}
 use Rattle.meaning.specs.Pages.{end_before, within_lines, taken_bytes}
 use Rattle.meaning.specs.declared.settings.Settings.{Settings}
 use Rattle.meaning.specs.declared.line.Entry.{Entry}
-use Rattle.meaning.specs.declared.refusals.Checked.TheVariants.{Good}
 use Rattle.laws.specs.PartChars.{part-size}
 use Rattle.parser.specs.Lexing.{chars_from}
 use Rattle.steps.specs.Unrolled.{nothing_resumed}
@@ -34,7 +33,7 @@ taken s h t = record { end = record { 0 = taken_bytes s h (decode_all t) }; whol
 -- What the public call has checked.
 pub record Takeable (s : Settings) (h : ℕ) (t : List ℕ) : Type 0 where
   pub ready : TextReady s t
-  pub utf8 : check_utf8 t ≡ Good
+  pub utf8 : check_utf8 t ≡ Ok tt
   pub some : 1 ≤ h
 
 layout_is : (s : Settings) (t : List ℕ) → layout s (decode_all t) ≡ entries_of s t
@@ -89,7 +88,7 @@ module _ (s : Settings) (t : List ℕ) (n : ℕ) (p : Stand) (c : Passed s t n p
 
     -- What is taken where the loop stops.
     module _ (h : ℕ) where
-      pub take_whole : check_utf8 t ≡ Good → x.last ≡ true → n < h → record { end = record { 0 = length t }; whole = true } ≡ taken s h t
+      pub take_whole : check_utf8 t ≡ Ok tt → x.last ≡ true → n < h → record { end = record { 0 = length t }; whole = true } ≡ taken s h t
       unfolding taken taken_bytes within_lines end_before
       take_whole good e m =
           let es = entries_of s t in

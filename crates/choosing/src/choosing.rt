@@ -1,12 +1,11 @@
 // A long text or a short one, whichever so many lines have room for: a public call (rule 10, refusal 1, refusal 2, refusal 3, refusal 4).
-ghost use Rattle.std.specs.Prelude.{◌≡◌, true, length};
+ghost use Rattle.std.specs.Prelude.{◌≡◌, true, length, Ok};
 ghost use Rattle.utf8.specs.Decoding.{decode_all};
 ghost use Rattle.utf8.specs.Places.{boundary};
 ghost use Rattle.meaning.specs.Checks.{check_utf8};
 ghost use Rattle.meaning.specs.Frames.{onward};
 ghost use Rattle.meaning.specs.Pages.{within_lines};
 ghost use Rattle.meaning.specs.PageCalls.{check_choosing, chosen_part, choosing_answer};
-ghost use Rattle.meaning.specs.declared.refusals.Checked.TheVariants.{Good};
 ghost use Rattle.choosing.specs.Taking.{Takeable};
 
 use crate::taken::take_lines;
@@ -14,26 +13,17 @@ use checks::limit::check_limit;
 use checks::settings::check_settings;
 use checks::text::check_text;
 use meaning::answers::Chosen;
-use meaning::refusals::Checked;
+use meaning::refusals::Refusal;
 use meaning::settings::Settings;
 use utf8::text::count_long;
 
 // Refusals 1 and 2, then 3 and 4 of the long text, then of the short one.
-fn check_choosing<'a>(s: Settings, long: &'a [u8], short: &'a [u8], h: u32) -> Checked
+fn check_choosing<'a>(s: Settings, long: &'a [u8], short: &'a [u8], h: u32) -> Result<(), Refusal>
     ensures { result ≡ check_choosing s h long.now short.now }
 {
-    let limit = check_limit(h);
-    if let Checked::Refused(refusal) = limit {
-        return Checked::Refused(refusal);
-    }
-    let settings = check_settings(s);
-    if let Checked::Refused(refusal) = settings {
-        return Checked::Refused(refusal);
-    }
-    let whole = check_text(long);
-    if let Checked::Refused(refusal) = whole {
-        return Checked::Refused(refusal);
-    }
+    check_limit(h)?;
+    check_settings(s)?;
+    check_text(long)?;
     check_text(short)
 }
 
@@ -53,27 +43,24 @@ pub fn chosen_part<'a>(fits: bool, s: Settings, long: &'a [u8], short: &'a [u8],
 
 // How many characters a text has from a boundary on.
 fn chars_behind(text: &[u8], from: usize) -> usize
-    requires { (check_utf8 text.now ≡ Good) × (boundary (decode_all text.now) from ≡ true) }
+    requires { (check_utf8 text.now ≡ Ok tt) × (boundary (decode_all text.now) from ≡ true) }
     ensures { result ≡ length (onward (decode_all text.now) from) }
 {
     count_long(&text[from..])
 }
 
 // Which of the two is chosen, its bytes, and the characters left out; or a refusal.
-pub fn choose<'a>(s: Settings, long: &'a [u8], short: &'a [u8], h: u32) -> Chosen
+pub fn choose<'a>(s: Settings, long: &'a [u8], short: &'a [u8], h: u32) -> Result<Chosen, Refusal>
     ensures { result ≡ choosing_answer s h long.now short.now }
 {
-    let checked = check_choosing(s, long, short, h);
-    if let Checked::Refused(refusal) = checked {
-        return Chosen::Refused(refusal);
-    }
+    check_choosing(s, long, short, h)?;
     let first = take_lines(long, s, h);
     let fits = first.whole;
     let part = chosen_part(fits, s, long, short, h);
     let bytes = part.len();
     if fits {
-        return Chosen::Long(bytes as u64);
+        return Ok(Chosen::Long(bytes as u64));
     }
     let left_out = chars_behind(short, bytes);
-    Chosen::Short(bytes as u64, left_out as u64)
+    Ok(Chosen::Short(bytes as u64, left_out as u64))
 }

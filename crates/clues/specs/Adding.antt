@@ -1,6 +1,7 @@
 -- One turn of the loop that adds a text's figures to those of each width: the first j widths are done, and the others are to be done yet.
 -- Assumes nothing.
-use Rattle.std.specs.Prelude.{ℕ, suc, ◌+◌, ◌*◌, ◌≤◌, ◌<◌, ◌≡◌, refl, get_or, drop, set}
+use Rattle.std.specs.Prelude.{ℕ, suc, ◌+◌, ◌*◌, ◌≤◌, ◌<◌, ◌≡◌, refl, get_or, drop, set, Ok}
+use Rattle.meaning.specs.Refusals.{Checked}
 use Rattle.std.proofs.Math.Path.{sym, ap}
 use Rattle.std.proofs.Common.{◌∙◌, add-zero, add-one, arith, get_or-drop}
 use mathlib.Core.List.{List, [], ◌∷◌, ◌++◌, append_assoc, append-nil}
@@ -11,12 +12,10 @@ use Rattle.meaning.specs.Columns.{with_width}
 use Rattle.meaning.specs.Month.{most_clues, figures_by, together}
 use Rattle.meaning.specs.declared.settings.Settings.{Settings}
 use Rattle.meaning.specs.declared.figures.Figures.{Figures}
-use Rattle.meaning.specs.declared.refusals.Checked.{Checked}
-use Rattle.meaning.specs.declared.refusals.Checked.TheVariants.{Good, Refused}
 use Rattle.moves.specs.Fine.{FineSettings}
 use Rattle.rows.specs.RowsFrom.{TextReady, entries_of}
 use Rattle.columns.specs.OtherWidths.{ready_with}
-use Rattle.clues.specs.Summing.{Of, of_room, of_one, Narrow, EachOf, added_to, each-length, each_at, narrow_at}
+use Rattle.clues.specs.Summing.{of_room, of_one, Narrow, EachOf, added_to, each-length, each_at, narrow_at}
 use Rattle.month_figures.specs.Rooms.{Room}
 use Rattle.month_figures.specs.Sums.{sum_numbers, sum_at, put_sum, sums_of, sums-length, sums_at, sums-put}
 
@@ -24,7 +23,7 @@ use Rattle.month_figures.specs.Sums.{sum_numbers, sum_at, put_sum, sums_of, sums
 pub record AllReady (s : Settings) (t : List ℕ) (k : Checked) (ws : List ℕ) (fs : List Figures) : Type 0 where
   pub settings : FineSettings s
   pub widths : Narrow ws
-  pub short : k ≡ Good → length t ≤ text_limit
+  pub short : k ≡ Ok tt → length t ≤ text_limit
   pub count : ℕ
   pub few : count < most_clues
   pub each : EachOf count ws fs
@@ -85,7 +84,7 @@ module _ (s : Settings) (t : List ℕ) (k : Checked) (ws u₀ u : List ℕ) (j :
   added-within h = omega (arith, r.room, a.long)
 
   module _ (h : j < length ws) (s' : Settings) (is : s' ≡ with_width s (get_or ws j 0)) where
-    pub added-text : k ≡ Good → TextReady s' t
+    pub added-text : k ≡ Ok tt → TextReady s' t
     added-text e =
         let ready : TextReady s t = record { settings = r.all.settings; short = r.all.short e } in
         ready_with s (get_or ws j 0) (narrow_at ws j r.all.widths h) t ready s' is

@@ -1,17 +1,17 @@
 -- What is still to be counted of a stream: so many clues are counted, and these bytes and all that follow are to be counted yet.
 -- Assumes nothing.
 use Prim.Native.Nat.{ℕ, zero, suc, ◌+◌, ◌-◌, ◌*◌, ◌≤◌, ◌<◌}
+use Rattle.meaning.specs.Refusals.{Checked}
 use Rattle.std.specs.Prelude.{◌≡◌, refl, List, [], ◌∷◌, ◌++◌}
 use Rattle.std.proofs.Common.{sym, ◌∙◌, drop-drop, take-take}
 use Rattle.std.proofs.Math.Path.{ap}
 use native.Mathlib.Omega.{arith}
 use Rattle.std.proofs.Math.ListN.{length, take, drop, length-drop}
 use Rattle.std.proofs.Math.Seq.{take-nil}
-use Rattle.meaning.specs.Checks.{text_limit, check_text}
+use Rattle.meaning.specs.Checks.{check_text}
 use Rattle.meaning.specs.Month.{most_clues, stream_lines}
 use Rattle.meaning.specs.declared.settings.Settings.{Settings}
 use Rattle.meaning.specs.declared.figures.Figures.{Figures}
-use Rattle.meaning.specs.declared.refusals.Checked.{Checked}
 use Rattle.parser.specs.GoodText.{good_length}
 use Rattle.moves.specs.Fine.{FineSettings}
 use Rattle.clues.specs.Summing.{Narrow, EachOf, added_to, each_more}

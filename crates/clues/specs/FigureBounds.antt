@@ -6,7 +6,7 @@ use Rattle.basis.specs.Choice.{pick_cases}
 use Rattle.utf8.specs.Encoding.{size}
 use Rattle.meaning.specs.LineIter.{Held, nothing_held}
 use Rattle.meaning.specs.Line.{line_of, lay_line, line_tokens, entry_at}
-use Rattle.meaning.specs.Layout.{Row, row_at, rows_by, rows, entry_of_row}
+use Rattle.meaning.specs.Layout.{row_at, rows_by, rows, entry_of_row}
 use Rattle.meaning.specs.Month.{broken_in, dropped_in}
 use Rattle.meaning.specs.declared.settings.Settings.{Settings}
 use Rattle.meaning.specs.declared.line.Entry.{Entry}

@@ -4,11 +4,9 @@ use Rattle.std.specs.Prelude.{ℕ, ◌+◌, max, ◌≡◌, refl, List, [], ◌�
 use Rattle.std.proofs.Common.{sym, ap, ◌∙◌, arith}
 use Rattle.meaning.specs.Checks.{check_text}
 use Rattle.meaning.specs.Columns.{with_width}
-use Rattle.meaning.specs.Calls.{text_entries}
 use Rattle.meaning.specs.Month.{figures_by, figures_of, no_figures, together, figures_of_all, month_of}
 use Rattle.meaning.specs.declared.settings.Settings.{Settings}
 use Rattle.meaning.specs.declared.figures.Figures.{Figures}
-use Rattle.meaning.specs.declared.line.Entry.{Entry}
 use Rattle.rows.specs.RowsFrom.{entries_of, entries_are}
 use Rattle.clues.specs.Summing.{added_to}
 

@@ -1,19 +1,17 @@
 -- A text's figures added to those of each width. No sum wraps before as many texts are counted as a month may have.
 -- Assumes nothing.
-use Rattle.std.specs.Prelude.{ℕ, zero, suc, ◌+◌, ◌*◌, ◌^◌, ◌≤◌, ◌<◌, ◌≡◌, refl, List, [], ◌∷◌, ◌++◌, length, get_or, take, drop, set}
-use Rattle.std.proofs.Common.{sym, ap, ◌∙◌, append_assoc, add-zero, add-one, arith, length-set, drop-cons, drop-drop, take-suc-set, drop-set-lt, get_or-drop}
+use Rattle.std.specs.Prelude.{ℕ, zero, suc, ◌+◌, ◌*◌, ◌≤◌, ◌<◌, ◌≡◌, refl, List, [], ◌∷◌, length, get_or, Err, Ok}
+use Rattle.meaning.specs.Refusals.{Checked}
+use Rattle.std.proofs.Common.{sym, ap, ◌∙◌, arith}
 use Rattle.meaning.specs.Checks.{text_limit}
 use Rattle.meaning.specs.Columns.{with_width}
-use Rattle.meaning.specs.Month.{most_clues, broken_in, dropped_in, figures_by, together}
+use Rattle.meaning.specs.Month.{most_clues, figures_by, together}
 use Rattle.meaning.specs.Refusals.{number_of}
 use Rattle.meaning.specs.declared.settings.Settings.{Settings}
 use Rattle.meaning.specs.declared.figures.Figures.{Figures}
 use Rattle.meaning.specs.declared.line.Entry.{Entry}
 use Rattle.meaning.specs.declared.refusals.Refusal.{Refusal}
-use Rattle.meaning.specs.declared.refusals.Checked.{Checked}
-use Rattle.meaning.specs.declared.refusals.Checked.TheVariants.{Good, Refused}
-use Rattle.moves.specs.Fine.{FineSettings}
-use Rattle.rows.specs.RowsFrom.{TextReady, entries_of, few_entries}
+use Rattle.rows.specs.RowsFrom.{entries_of, few_entries}
 use Rattle.clues.specs.FigureBounds.{broken-few, dropped-few}
 use Rattle.month_figures.specs.Rooms.{Room}
 use Rattle.month_figures.specs.Tallies.{one-most}
@@ -53,9 +51,9 @@ of_more n f g a b =
     }
 
 -- The figures of one text.
-pub of_one : (k : Checked) (s : Settings) (t : List ℕ) → (k ≡ Good → length t ≤ text_limit) → Of 1 (figures_by k (entries_of s t))
+pub of_one : (k : Checked) (s : Settings) (t : List ℕ) → (k ≡ Ok tt → length t ≤ text_limit) → Of 1 (figures_by k (entries_of s t))
 unfolding figures_by
-of_one Good s t h =
+of_one (Ok tt) s t h =
     let short = h refl in
     record {
       texts = refl;
@@ -65,7 +63,7 @@ of_one Good s t h =
       long = omega arith;
       invalid = omega arith;
     }
-of_one (Refused r) s t h =
+of_one (Err r) s t h =
     record {
       texts = refl;
       lines = omega arith;
@@ -94,7 +92,7 @@ added_to s t k [] fs = fs
 added_to s t k (w ∷ ws) [] = []
 added_to s t k (w ∷ ws) (f ∷ fs) = together f (figures_by k (entries_of (with_width s w) t)) ∷ added_to s t k ws fs
 
-pub each_more : (s : Settings) (t : List ℕ) (k : Checked) (n : ℕ) (ws : List ℕ) (fs : List Figures) → (k ≡ Good → length t ≤ text_limit)
+pub each_more : (s : Settings) (t : List ℕ) (k : Checked) (n : ℕ) (ws : List ℕ) (fs : List Figures) → (k ≡ Ok tt → length t ≤ text_limit)
     → EachOf n ws fs → EachOf (suc n) ws (added_to s t k ws fs)
 unfolding added_to
 each_more s t k n [] [] h e = tt
@@ -124,6 +122,6 @@ narrow_at (w ∷ ws) (suc j) e h = narrow_at ws j e.1 (omega arith)
 pub by-checked : (k j : Checked) (es : List Entry) (g : Figures) → k ≡ j → g ≡ figures_by j es → g ≡ figures_by k es
 by-checked k j es g e f = f ∙ ap (λ (c : Checked). figures_by c es) (sym e)
 
-pub by-refused : (k : Checked) (r : Refusal) (es : List Entry) (g : Figures) → k ≡ Refused r → g ≡ figures_by (Refused r) [] → g ≡ figures_by k es
+pub by-refused : (k : Checked) (r : Refusal) (es : List Entry) (g : Figures) → k ≡ Err r → g ≡ figures_by (Err r) [] → g ≡ figures_by k es
 unfolding figures_by
 by-refused k r es g e f = f ∙ ap (λ (c : Checked). figures_by c es) (sym e)

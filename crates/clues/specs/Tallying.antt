@@ -1,6 +1,6 @@
 -- One turn of the loop that counts the lines of a text: what is counted, and what the lines that are left add, are the text's figures (rule 10).
 -- Assumes nothing.
-use Rattle.std.specs.Prelude.{ℕ, ◌+◌, ◌≤◌, ◌≡◌, refl, true, false, eqb}
+use Rattle.std.specs.Prelude.{ℕ, ◌+◌, ◌≤◌, ◌≡◌, true, false, eqb, Ok}
 use native.Mathlib.Omega.{arith}
 use Rattle.std.proofs.Common.{sym, ◌∙◌}
 use Rattle.std.proofs.Math.Path.{ap}
@@ -11,7 +11,6 @@ use Rattle.meaning.specs.Checks.{text_limit}
 use Rattle.meaning.specs.Month.{broken_in, dropped_in, figures_by}
 use Rattle.meaning.specs.declared.settings.Settings.{Settings}
 use Rattle.meaning.specs.declared.line.Entry.{Entry}
-use Rattle.meaning.specs.declared.refusals.Checked.TheVariants.{Good}
 use Rattle.steps.specs.Unrolled.{nothing_resumed}
 use Rattle.rows.specs.Standing.{laid_row}
 use Rattle.stands.specs.Stands.{StandsAt, text_front}
@@ -66,7 +65,7 @@ module _ (s : Settings) (t : List ℕ) (y : Tally) (p : Stand) (c : Tallied s t 
     unfolding with_line dropped_in
     dropped-is es = let e : z.dropped ≡ y.dropped + entry.dropped.0 = ap (λ (v : Tally). v.dropped) on in omega arith
 
-    pub tally_last : x.last ≡ true → tally_figures z ≡ figures_by Good (entries_of s t)
+    pub tally_last : x.last ≡ true → tally_figures z ≡ figures_by (Ok tt) (entries_of s t)
     unfolding tally_figures figures_by broken_in dropped_in
     tally_last h =
         let e = last_entry s t 0 p c.counted.ready x is entry (entry_here s t p c.counted.ready x is) h in

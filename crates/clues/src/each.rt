@@ -9,22 +9,26 @@ ghost use Rattle.clues.specs.Adding.{EachReady};
 use crate::one::figures_in;
 use columns::width::with_width;
 use meaning::figures::Figures;
-use meaning::refusals::Checked;
+use meaning::refusals::Refusal;
 use meaning::settings::Settings;
 use month_figures::adding::both;
 use month_figures::sums::{read_sum, write_sum};
 
 // A text that was checked once is laid in each width, and its figures are added to those of that width.
-pub fn add_text(text: &[u8], checked: Checked, s: Settings, widths: &[u32], sums: &mut [u64])
+pub fn add_text(
+    text: &[u8],
+    checked: Result<(), Refusal>,
+    s: Settings,
+    widths: &[u32],
+    sums: &mut [u64],
+)
     requires { EachReady s text.now checked widths.now sums.old }
     ensures { sums_of widths.now sums.new ≡ added_to s text.now checked widths.now (sums_of widths.now sums.old) }
 {
-    let mut k: usize = 0;
-    while k < widths.len() {
+    for k in 0..widths.len() {
         let more = figures_in(text, checked, with_width(s, widths[k]));
         let f = read_sum(sums, k);
         let sum = both(f, more);
         write_sum(sums, k, sum);
-        k += 1;
     }
 }

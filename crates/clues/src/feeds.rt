@@ -8,10 +8,8 @@ fn no_feed(s: &[u8], from: usize, to: usize) -> bool
     ensures { result ≡ true → Free s.now from to }
 {
     let mut none = true;
-    let mut i = from;
-    while i < to {
-        none = none & (s[i] != b'\n');
-        i += 1;
+    for i in from..to {
+        none &= s[i] != b'\n';
     }
     none
 }
@@ -38,12 +36,11 @@ pub fn find_feed(s: &[u8], from: usize, end: usize) -> usize
     ensures { result ≡ from + before_feed (drop from (take end s.now)) }
 {
     let large = skip_blocks(s, from, end, 32);
-    let mut i = skip_blocks(s, large, end, 8);
-    while i < end {
+    let small = skip_blocks(s, large, end, 8);
+    for i in small..end {
         if s[i] == b'\n' {
             return i;
         }
-        i += 1;
     }
-    i
+    end
 }

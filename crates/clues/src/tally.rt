@@ -1,8 +1,7 @@
 // The lines of a text, laid one by one and counted: no table is written (rule 10).
-ghost use Rattle.std.specs.Prelude.{◌+◌, ◌≤◌, ◌≡◌};
+ghost use Rattle.std.specs.Prelude.{◌+◌, ◌≤◌, ◌≡◌, Ok};
 ghost use Rattle.meaning.specs.Checks.{text_limit};
 ghost use Rattle.meaning.specs.Month.{figures_by};
-ghost use Rattle.meaning.specs.declared.refusals.Checked.TheVariants.{Good};
 ghost use Rattle.rows.specs.RowsFrom.{TextReady, entries_of};
 ghost use Rattle.month_figures.specs.Tallies.{no_lines, with_line, tally_figures};
 
@@ -15,7 +14,7 @@ use stands::stand::{at_start, next_stand};
 // The figures of a text that is good.
 pub fn laid_figures(text: &[u8], s: Settings) -> Figures
     requires { TextReady s text.now }
-    ensures { result ≡ figures_by Good (entries_of s text.now) }
+    ensures { result ≡ figures_by (Ok tt) (entries_of s text.now) }
 {
     let mut tally = no_lines();
     let mut stand = at_start(text);

@@ -1,12 +1,11 @@
 -- Where a search of widths may begin: in each narrower box the text fills as many lines as there may be, or more (rule 8, rule 10).
 -- Assumes nothing.
-use Rattle.std.specs.Prelude.{ℕ, suc, ◌+◌, ◌*◌, ◌/◌, ◌≤◌, ◌<◌, ◌≡◌, false, List}
+use Rattle.std.specs.Prelude.{ℕ, suc, ◌+◌, ◌*◌, ◌/◌, ◌≤◌, ◌<◌, ◌≡◌, false, List, Ok}
 use Rattle.std.proofs.Common.{ap, div-mul-le_self, mul-div_cancel, arith}
 use Rattle.utf8.specs.Decoding.{decode_all}
 use Rattle.meaning.specs.Checks.{check_utf8}
 use Rattle.meaning.specs.Columns.{fits_whole, with_width, widest_box}
 use Rattle.meaning.specs.declared.settings.Settings.{Settings}
-use Rattle.meaning.specs.declared.refusals.Checked.TheVariants.{Good}
 use Rattle.columns.specs.Filling.{empty_line, under_self, fill_under}
 use Rattle.columns.specs.LeadBytes.{leads, leads_fill}
 use Rattle.columns.specs.LinesFilled.{filled_none}
@@ -19,7 +18,7 @@ abbrev pub NoneBelow : Settings → (h : ℕ) → List ℕ → (w : ℕ) → Typ
 NoneBelow s h cs w = (v : ℕ) → v < w → fits_whole (with_width s v) h cs ≡ false
 
 -- A box in which the text fills h lines is too narrow, and so is each narrower one.
-pub filled-below : (s : Settings) (t : List ℕ) (h w : ℕ) → 1 ≤ s.glyph.0 → check_utf8 t ≡ Good → h ≤ lines_filled s.glyph.0 s.tab.0 w t
+pub filled-below : (s : Settings) (t : List ℕ) (h w : ℕ) → 1 ≤ s.glyph.0 → check_utf8 t ≡ Ok tt → h ≤ lines_filled s.glyph.0 s.tab.0 w t
     → NoneBelow s h (decode_all t) (w + 1)
 unfolding with_width
 filled-below s t h w some good many v less =

@@ -2,7 +2,7 @@
 -- the first byte alone, so those are left out whose sequence may be white space, U+00AD or U+200B (rule 2, Table 3-6).
 -- Assumes nothing.
 use Prim.Native.Nat.{ℕ, ◌+◌, ◌/◌, ◌%◌, ◌≤◌, ◌<◌}
-use Rattle.std.specs.Prelude.{◌≡◌, Bool, ◌&&◌, ltb, leb}
+use Rattle.std.specs.Prelude.{◌≡◌, Bool, ◌&&◌, ltb, leb, Ok}
 use Rattle.std.proofs.Math.Path.{refl, sym, ap, subst}
 use Rattle.std.proofs.Common.{◌∙◌, mod-lt, arith}
 use Rattle.std.proofs.Math.Bool.{true, false}
@@ -18,7 +18,6 @@ use Rattle.utf8.specs.WhiteSpace.{is_white, member, white_spaces}
 use Rattle.utf8.specs.Members.{above-all, between-spaces}
 use Rattle.meaning.specs.Characters.{glue, class_of, in_word}
 use Rattle.meaning.specs.Checks.{check_utf8}
-use Rattle.meaning.specs.declared.refusals.Checked.TheVariants.{Good}
 use Rattle.laws.specs.PartChars.{encoded}
 use Rattle.widths.specs.LineParts.{breaks, other_than, others_break}
 use Rattle.columns.specs.Filling.{empty_line, fill_word, fill_other, fill_blank, fill_by, fill_all, fill_append, Under, under_self, under-then, under_other, under-word, step-under}
@@ -188,7 +187,7 @@ module _ (g t w : ℕ) where
         subst (λ (z : Fill). Under w z (fill_all in_word g t w (fill_by in_word g t w y c) cs)) (sym (fill_append leads g t w x (encode c) (encode_all cs)))
         (encoded_fill cs _ _ (under-then w _ _ _ (char_fill c x) (step-under g t some w w (omega arith) in_word c x y u)))
 
-    pub leads_fill : (bytes : List ℕ) → check_utf8 bytes ≡ Good
+    pub leads_fill : (bytes : List ℕ) → check_utf8 bytes ≡ Ok tt
         → (fill_all leads g t w (empty_line 0) bytes).lines ≤ (fill_all in_word g t w (empty_line 0) (decode_all bytes)).lines
     leads_fill bytes good =
         subst (λ (bs : List ℕ). (fill_all leads g t w (empty_line 0) bs).lines ≤ (fill_all in_word g t w (empty_line 0) (decode_all bytes)).lines) (encoded bytes good)

@@ -1,6 +1,6 @@
 -- Which widths a search passes over once it has tried one (rule 8, rule 10).
 -- Assumes nothing.
-use Rattle.std.specs.Prelude.{ℕ, suc, ◌+◌, ◌-◌, ◌*◌, ◌/◌, ◌%◌, ◌≤◌, ◌<◌, ◌≡◌, true, false, List, eqb, leb, ltb}
+use Rattle.std.specs.Prelude.{ℕ, suc, ◌+◌, ◌*◌, ◌/◌, ◌%◌, ◌≤◌, ◌<◌, ◌≡◌, true, false, List, eqb, leb, ltb}
 use Rattle.std.proofs.Math.Path.{sym}
 use Rattle.std.proofs.Common.{ap, ◌∙◌, one-mul, add-mul, le-div_iff_mul-le, div-lt_iff_lt-mul, arith, eq-eqb, ne_eqb, le-leb}
 use Rattle.std.proofs.Math.Nat.{div_self, add-div_right}

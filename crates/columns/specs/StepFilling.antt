@@ -2,7 +2,8 @@
 -- does each space, and a tab moves it to the next stop or to the edge; and the cursor does not pass the box (rule 4, rule 8, rule 9).
 -- Assumes nothing.
 use Prim.Native.Nat.{ℕ, zero, suc, ◌+◌, ◌*◌, ◌/◌, ◌≤◌, min}
-use Rattle.std.specs.Prelude.{◌≡◌, Bool, true, false, ◌&&◌, ◌||◌, eqb, take, drop}
+use Rattle.meaning.specs.declared.counts.Pixels.{Pixels}
+use Rattle.std.specs.Prelude.{◌≡◌, Bool, true, false, ◌&&◌, ◌||◌, eqb, take, drop, None, Option, Some}
 use Rattle.std.proofs.Math.Path.{refl, sym, ap}
 use Rattle.std.proofs.Common.{subst, ◌∙◌, div-mul-le_self, mul-le-mul_right, arith, length-take, take-append-drop}
 use Rattle.std.proofs.Math.Bool.{not}
@@ -21,8 +22,6 @@ use Rattle.meaning.specs.LineIter.{Step, go, stop, held_after, leading_on, skips
 use Rattle.meaning.specs.declared.settings.Settings.{Settings}
 use Rattle.meaning.specs.declared.cursor.Spaces.{Spaces}
 use Rattle.meaning.specs.declared.cursor.Place.{Place}
-use Rattle.meaning.specs.declared.cursor.NextWord.{NextWord}
-use Rattle.meaning.specs.declared.cursor.NextWord.TheVariants.{Nothing, Width}
 use Rattle.laws.specs.Spell.{text_of, spell, SoundTok}
 use Rattle.laws.specs.Runs.{Pass, Stops}
 use Rattle.laws.specs.Steps.{too_wide, some-spaces}
@@ -240,10 +239,10 @@ module _ (s : Settings) (some : 1 ≤ s.glyph.0) (l : ℕ) (p : Place) (at : ℕ
       let is = hyphen_fills g s.tab.0 w x in
       ends hyphen rest 1 (ap (λ (z : Fill). z.part) is) (ap (λ (z : Fill). z.lines) is)
 
-  break_room : (rest : List ℕ) (v : NextWord) (r : ℕ) → Roomy s l p hyphen rest (on_break s p at v r)
+  break_room : (rest : List ℕ) (v : Option Pixels) (r : ℕ) → Roomy s l p hyphen rest (on_break s p at v r)
   unfolding on_break hyphenated advance fill_all
-  break_room rest Nothing r = stays rest
-  break_room rest (Width v) r =
+  break_room rest None r = stays rest
+  break_room rest (Some v) r =
       let P = Roomy s l p hyphen rest in
       pick_cases P (p.empty || not (fits_in p.cursor v.0))
       (λ _.

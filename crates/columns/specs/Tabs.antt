@@ -1,10 +1,10 @@
 -- A text whose bytes have no tab has none among its characters: a tab is a byte by itself (Table 3-6).
 -- Assumes nothing.
-use Rattle.std.specs.Prelude.{ℕ, ◌+◌, ◌≤◌, ◌<◌, ◌≡◌, refl, true, false, List, [], ◌∷◌, length, get_or, drop}
-use Rattle.std.proofs.Common.{sym, ap, subst, ◌∙◌, add-one, drop_of_length-le}
+use Rattle.std.specs.Prelude.{ℕ, ◌≡◌, refl, Bool, true, false, ◌||◌, ◌==◌, List, [], ◌∷◌, drop}
+use Rattle.std.specs.List.{list_any}
+use Rattle.std.proofs.Common.{sym, ap, subst, ◌∙◌}
 use Rattle.std.proofs.lemmas.Bool.{false≢true}
-use borrow.Author.Tests.{eq-eqb, ne_eqb}
-use Rattle.std.proofs.Math.Seq.{drop-cons}
+use borrow.Author.Tests.{ne_eqb}
 use Rattle.basis.specs.Choice.{pick}
 use Rattle.basis.specs.Order.{by_eq}
 use Rattle.utf8.specs.Encoding.{encode}
@@ -43,15 +43,12 @@ no_tab-read =
 
 -- ---- one look over the bytes
 
-module _ (t : List ℕ) (i : ℕ) where
-  pub tab-found : i < length t → get_or t i 0 ≡ 9 → has_tab (drop i t) ≡ true
-  unfolding has_tab pick
-  tab-found h e = rw (drop-cons t i 0 h, eq-eqb _ _ e)
+pub either : (b more : Bool) → b || more ≡ pick b true more
+unfolding pick
+either true more = refl
+either false more = refl
 
-  pub tab-further : i < length t → (get_or t i 0 ≡ 9 → ⊥) → has_tab (drop i t) ≡ has_tab (drop (i + 1) t)
-  unfolding has_tab pick
-  tab-further h d = rw (add-one, drop-cons t i 0 h, ne_eqb _ _ d)
-
-  pub tab_nowhere : length t ≤ i → has_tab (drop i t) ≡ false
-  unfolding has_tab
-  tab_nowhere h = rw (drop_of_length-le t h)
+pub any-tab : (t : List ℕ) → list_any (λ c. c == 9) t ≡ has_tab t
+unfolding has_tab
+any-tab [] = refl
+any-tab (c ∷ cs) = ap (λ (b : Bool). c == 9 || b) (any-tab cs) ∙ either (c == 9) (has_tab cs)

@@ -13,7 +13,7 @@ use borrow.Author.Tests.{le-leb, eqb-true, ne_eqb}
 use Rattle.std.proofs.Math.ListN.{length}
 use Rattle.basis.specs.Choice.{pick, pick_cases, pick_true, pick-false, pick_same}
 use Rattle.utf8.specs.WhiteSpace.{is_white, member, white_spaces}
-use Rattle.meaning.specs.Tokens.{space, word, counted}
+use Rattle.meaning.specs.Tokens.{counted}
 use Rattle.meaning.specs.Characters.{Class, lf, cr, ht, shy, zwsp, blank, letter, word_class, run_class, glue, class_of, in_word, in_run}
 use Rattle.laws.specs.Runs.{Pass}
 use Rattle.widths.specs.LineParts.{breaks, other_than, others_break}

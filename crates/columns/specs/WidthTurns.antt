@@ -1,7 +1,7 @@
 -- One turn of the loop that tries widths.
 -- Assumes nothing.
 use Prim.Native.Nat.{ℕ, suc, ◌+◌, ◌≤◌, ◌<◌}
-use Rattle.std.specs.Prelude.{◌≡◌, true, false, ◌⊎◌, List, leb, ltb}
+use Rattle.std.specs.Prelude.{◌≡◌, true, false, ◌⊎◌, List, leb, ltb, None, Some}
 use Rattle.std.proofs.Common.{sym, ◌∙◌, inl}
 use Rattle.std.proofs.Math.Path.{subst}
 use Rattle.std.proofs.Math.Logic.{inr}
@@ -11,7 +11,6 @@ use Rattle.basis.specs.Choice.{pick_cases}
 use Rattle.basis.specs.Order.{by_le, by_lt, by_eq}
 use Rattle.meaning.specs.Columns.{fits_whole, with_width, widest_box, narrowest}
 use Rattle.meaning.specs.declared.settings.Settings.{Settings}
-use Rattle.meaning.specs.declared.answers.Planned.TheVariants.{Width, NoWidth}
 use Rattle.widths.specs.NarrowestWidth.{smallest-answered, no_width-answered}
 use Rattle.columns.specs.Skipping.{next_width, Whole, one-whole, next-whole, same_whole}
 use Rattle.columns.specs.FairSkips.{SkipsFairly}
@@ -33,12 +32,12 @@ module _ (s : Settings) (h : ℕ) (cs : List ℕ) where
 
   module _ (k : Skips) (w : ℕ) (f : Sought k w) where
     -- All are tried.
-    pub sought_none : widest_box < w → NoWidth ≡ narrowest s h cs
+    pub sought_none : widest_box < w → None ≡ narrowest s h cs
     sought_none past = sym (no_width-answered s h cs (λ v low. f.none v (omega arith)))
 
     module _ (low : w ≤ widest_box) where
       -- It fits here.
-      pub sought_here : fits_whole (with_width s w) h cs ≡ true → Width w ≡ narrowest s h cs
+      pub sought_here : fits_whole (with_width s w) h cs ≡ true → Some w ≡ narrowest s h cs
       sought_here e = sym (smallest-answered s h cs w low e f.none)
 
       module _ (e : fits_whole (with_width s w) h cs ≡ false) where

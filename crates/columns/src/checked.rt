@@ -5,20 +5,14 @@ ghost use Rattle.meaning.specs.ColumnCalls.{check_columns};
 use checks::limit::check_limit;
 use checks::settings::check_settings;
 use checks::text::check_text;
-use meaning::refusals::Checked;
+use meaning::refusals::Refusal;
 use meaning::settings::Settings;
 
 // Refusal 1 of the limit, then refusals 1 to 4 of settings and text.
-pub fn check_columns(s: Settings, text: &[u8], h: u32) -> Checked
+pub fn check_columns(s: Settings, text: &[u8], h: u32) -> Result<(), Refusal>
     ensures { result ≡ check_columns s h text.now }
 {
-    let limit = check_limit(h);
-    if let Checked::Refused(refusal) = limit {
-        return Checked::Refused(refusal);
-    }
-    let settings = check_settings(s);
-    if let Checked::Refused(refusal) = settings {
-        return Checked::Refused(refusal);
-    }
+    check_limit(h)?;
+    check_settings(s)?;
     check_text(text)
 }

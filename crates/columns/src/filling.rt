@@ -8,8 +8,6 @@ ghost use Rattle.columns.specs.Filling.{fill_word, fill_to, fill_other, fill_bla
 ghost use Rattle.columns.specs.LeadBytes.{leads};
 ghost use Rattle.columns.specs.FillTurns.{FineFill, lines_filled};
 
-use basis::numbers::lesser;
-
 // So many lines are full, and the next one is filled up to a place; whether it has a character of a word; whether the word at hand moves to the
 // next line if it does not fit, and how much of it is in this one.
 #[derive(Clone, Copy)]
@@ -44,10 +42,7 @@ fn begins_word(b: u8) -> bool
 pub fn breaks_line(b: u8) -> bool
     ensures { result ≡ breaks b }
 {
-    if b == 10 {
-        return true;
-    }
-    b == 13
+    (b == b'\n') | (b == b'\r')
 }
 
 // What moves along of a word, with one character more.
@@ -69,17 +64,16 @@ fn fill_word(glyph: u32, tab: u32, w: u32, f: Fill) -> Fill
     let to = f.at + glyph;
     if to <= w {
         return Fill {
-            lines: f.lines,
             at: to,
             begun: true,
-            moves: f.moves,
             part: grown_part(glyph, tab, w, f),
+            ..f
         };
     }
     let along = f.part + glyph;
     Fill {
         lines: f.lines + 1,
-        at: lesser(along, w),
+        at: along.min(w),
         begun: true,
         moves: false,
         part: 0,
@@ -102,11 +96,10 @@ fn fill_to(w: u32, f: Fill, to: u32) -> Fill
     ensures { result ≡ fill_to w f to }
 {
     Fill {
-        lines: f.lines,
-        at: lesser(to, w),
-        begun: f.begun,
+        at: to.min(w),
         moves: f.begun,
         part: 0,
+        ..f
     }
 }
 
@@ -115,11 +108,9 @@ fn fill_other(f: Fill) -> Fill
     ensures { result ≡ fill_other f }
 {
     Fill {
-        lines: f.lines,
-        at: f.at,
-        begun: f.begun,
         moves: false,
         part: 0,
+        ..f
     }
 }
 
@@ -174,10 +165,8 @@ pub fn lines_filled(glyph: u32, tab: u32, w: u32, text: &[u8]) -> usize
         moves: false,
         part: 0,
     };
-    let mut i: usize = 0;
-    while i < text.len() {
-        f = fill_byte(glyph, tab, w, f, text[i]);
-        i += 1;
+    for b in text {
+        f = fill_byte(glyph, tab, w, f, *b);
     }
     f.lines
 }

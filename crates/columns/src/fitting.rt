@@ -6,8 +6,7 @@ ghost use Rattle.meaning.specs.ColumnCalls.{fitting_answer};
 ghost use Rattle.rows.specs.RowsFrom.{TextReady};
 
 use crate::checked::check_columns;
-use meaning::answers::Fitted;
-use meaning::refusals::Checked;
+use meaning::refusals::Refusal;
 use meaning::settings::Settings;
 use rows::stand::lay_row;
 use stands::stand::{at_start, next_stand};
@@ -37,15 +36,9 @@ pub fn fits_whole(text: &[u8], s: Settings, h: u32) -> bool
 }
 
 // Whether it does; or refusal 1, 2, 3 or 4.
-pub fn columns_fit(s: Settings, text: &[u8], h: u32) -> Fitted
+pub fn columns_fit(s: Settings, text: &[u8], h: u32) -> Result<bool, Refusal>
     ensures { result ≡ fitting_answer s h text.now }
 {
-    let checked = check_columns(s, text, h);
-    if let Checked::Refused(refusal) = checked {
-        return Fitted::Refused(refusal);
-    }
-    if fits_whole(text, s, h) {
-        return Fitted::Yes;
-    }
-    Fitted::No
+    check_columns(s, text, h)?;
+    Ok(fits_whole(text, s, h))
 }

@@ -6,7 +6,6 @@ ghost use Rattle.widths.specs.LineParts.{breaks};
 ghost use Rattle.widths.specs.WidestPart.{past_char, widest_part};
 
 use crate::filling::{breaks_line, next_stop};
-use basis::numbers::greater;
 
 // The place behind one more byte of a part: a tab goes to its stop, and no less than a glyph is counted for it.
 fn past_byte(glyph: u32, tab: u32, at: u32, b: u8) -> u32
@@ -16,7 +15,7 @@ fn past_byte(glyph: u32, tab: u32, at: u32, b: u8) -> u32
     let on = at + glyph;
     if b == 9 {
         let stop = next_stop(tab, at);
-        return greater(stop, on);
+        return stop.max(on);
     }
     on
 }
@@ -39,11 +38,9 @@ pub fn widest_part(glyph: u32, tab: u32, text: &[u8]) -> u32
 {
     let mut widest: u32 = 0;
     let mut at: u32 = 0;
-    let mut i: usize = 0;
-    while i < text.len() {
-        at = place_after(glyph, tab, at, text[i]);
-        widest = greater(widest, at);
-        i += 1;
+    for b in text {
+        at = place_after(glyph, tab, at, *b);
+        widest = widest.max(at);
     }
     widest
 }

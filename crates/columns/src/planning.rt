@@ -1,9 +1,8 @@
 // The smallest box width in which a text fits so many lines and loses no character: a public call (rule 10, refusal 1, refusal 2,
 // refusal 3, refusal 4).
-ghost use Rattle.std.specs.Prelude.{◌≤◌, ◌≡◌};
+ghost use Rattle.std.specs.Prelude.{◌≤◌, ◌≡◌, Ok};
 ghost use Rattle.utf8.specs.Decoding.{decode_all};
 ghost use Rattle.meaning.specs.Checks.{check_utf8};
-ghost use Rattle.meaning.specs.declared.refusals.Checked.TheVariants.{Good};
 ghost use Rattle.meaning.specs.Columns.{narrowest};
 ghost use Rattle.meaning.specs.ColumnCalls.{planning_answer};
 ghost use Rattle.rows.specs.RowsFrom.{TextReady};
@@ -13,13 +12,12 @@ use crate::fitting::fits_whole;
 use crate::skipping::{next_width, skips_of};
 use crate::starting::first_width;
 use crate::width::{WIDEST_BOX, with_width};
-use meaning::answers::Planned;
-use meaning::refusals::Checked;
+use meaning::refusals::Refusal;
 use meaning::settings::Settings;
 
 // The smallest width of all. Those are passed over in which it fills too many lines, or that lay it as one does in which it did not fit.
-fn narrowest_width(s: Settings, text: &[u8], h: u32) -> Planned
-    requires { TextReady s text.now × (1 ≤ h) × (check_utf8 text.now ≡ Good) }
+fn narrowest_width(s: Settings, text: &[u8], h: u32) -> Option<u64>
+    requires { TextReady s text.now × (1 ≤ h) × (check_utf8 text.now ≡ Ok tt) }
     ensures { result ≡ narrowest s h (decode_all text.now) }
 {
     let skips = skips_of(s, text);
@@ -27,20 +25,17 @@ fn narrowest_width(s: Settings, text: &[u8], h: u32) -> Planned
     while w <= WIDEST_BOX {
         let tried = with_width(s, w);
         if fits_whole(text, tried, h) {
-            return Planned::Width(w as u64);
+            return Some(w as u64);
         }
         w = next_width(skips, w);
     }
-    Planned::NoWidth
+    None
 }
 
 // That width, or that there is none; or refusal 1, 2, 3 or 4.
-pub fn plan_columns(s: Settings, text: &[u8], h: u32) -> Planned
+pub fn plan_columns(s: Settings, text: &[u8], h: u32) -> Result<Option<u64>, Refusal>
     ensures { result ≡ planning_answer s h text.now }
 {
-    let checked = check_columns(s, text, h);
-    if let Checked::Refused(refusal) = checked {
-        return Planned::Refused(refusal);
-    }
-    narrowest_width(s, text, h)
+    check_columns(s, text, h)?;
+    Ok(narrowest_width(s, text, h))
 }

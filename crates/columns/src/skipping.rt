@@ -22,14 +22,7 @@ pub struct Skips {
 fn has_tab(text: &[u8]) -> bool
     ensures { result ≡ has_tab text.now }
 {
-    let mut i: usize = 0;
-    while i < text.len() {
-        if text[i] == 9 {
-            return true;
-        }
-        i += 1;
-    }
-    false
+    text.contains(&9)
 }
 
 // How much room a box must have to be wide enough for lines of so much: twice as much where they are centred.

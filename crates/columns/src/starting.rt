@@ -1,8 +1,7 @@
 // The width that a search begins with: in each narrower box the text fills too many lines (rule 8, rule 10).
-ghost use Rattle.std.specs.Prelude.{◌≤◌, ◌≡◌};
+ghost use Rattle.std.specs.Prelude.{◌≤◌, ◌≡◌, Ok};
 ghost use Rattle.utf8.specs.Decoding.{decode_all};
 ghost use Rattle.meaning.specs.Checks.{check_utf8};
-ghost use Rattle.meaning.specs.declared.refusals.Checked.TheVariants.{Good};
 ghost use Rattle.rows.specs.RowsFrom.{TextReady};
 ghost use Rattle.columns.specs.Skipping.{SmallSkips};
 ghost use Rattle.columns.specs.FirstWidth.{NoneBelow, Begins};
@@ -14,7 +13,7 @@ use meaning::settings::Settings;
 
 // The first width in which it fills fewer than h lines, by halving; past all widths if there is none.
 fn room_width(s: Settings, text: &[u8], h: u32) -> u32
-    requires { TextReady s text.now × (check_utf8 text.now ≡ Good) }
+    requires { TextReady s text.now × (check_utf8 text.now ≡ Ok tt) }
     ensures { (result ≤ 4097) × NoneBelow s h (decode_all text.now) result }
 {
     let lines = h as usize;
@@ -34,13 +33,12 @@ fn room_width(s: Settings, text: &[u8], h: u32) -> u32
 
 // Whole steps of that, or past all widths.
 pub fn first_width(s: Settings, text: &[u8], h: u32, skips: Skips) -> u32
-    requires { TextReady s text.now × (check_utf8 text.now ≡ Good) × SmallSkips skips }
+    requires { TextReady s text.now × (check_utf8 text.now ≡ Ok tt) × SmallSkips skips }
     ensures { Begins s h (decode_all text.now) skips result }
 {
     let least = room_width(s, text, h);
     if WIDEST_BOX < least {
         return least;
     }
-    let step = skips.step;
-    least / step * step
+    least / skips.step * skips.step
 }

@@ -9,11 +9,6 @@ pub fn to_front(buffer: &mut [u8], at: usize, end: usize) -> usize
     ensures value { result ≡ end - at }
     ensures buffer_after { buffer.new ≡ paste buffer.old 0 (drop at buffer.old) (end - at) }
 {
-    let n = end - at;
-    let mut i: usize = 0;
-    while i < n {
-        buffer[i] = buffer[at + i];
-        i += 1;
-    }
-    n
+    buffer.copy_within(at..end, 0);
+    end - at
 }

@@ -1,6 +1,8 @@
 -- The drawing of a line goes on over words: what is drawn from there on makes the same sheet.
 -- Assumes nothing.
 use Prim.Native.Nat.{ℕ, ◌+◌, ◌-◌, ◌*◌, ◌≤◌}
+use Rattle.std.specs.Prelude.{Option, Some}
+use Rattle.steps.specs.declared.foreseen.Look.{Look}
 use mathlib.Core.Path.{◌≡◌, refl, sym, ap, subst, ◌∙◌}
 use mathlib.Core.Bool.{true, false}
 use mathlib.Core.List.{List, [], ◌∷◌, ◌++◌}
@@ -19,14 +21,12 @@ use Rattle.meaning.specs.declared.tokens.TokenKind.TheVariants.{Word}
 use Rattle.parser.specs.Lexing.{chars_from, lexed_at}
 use Rattle.pairs.specs.Pairs.{one_space, PairAt}
 use Rattle.parser.specs.declared.lexeme.Lexeme.{Lexeme}
-use Rattle.parser.specs.declared.lexeme.Lexed.TheVariants.{Token}
 use Rattle.moves.specs.FineLaws.{fits-room}
 use Rattle.steps.specs.Unrolled.{nothing_resumed}
 use Rattle.steps.specs.Running.{PassReady}
 use Rattle.steps.specs.Stopping.{word_place}
 use Rattle.strides.specs.Strides.{waiting_at, Waits}
 use Rattle.steps.specs.Foreseeing.{ForeseesFrom}
-use Rattle.steps.specs.declared.foreseen.Foreseen.{Foreseen}
 use Rattle.steps.specs.declared.step.Resumed.{Resumed}
 use Rattle.strides.specs.declared.going.Waiting.{Waiting}
 use Rattle.steps.specs.WordLaws.{word_at}
@@ -56,7 +56,7 @@ module _ (q : Place) (to : ℕ) (v : Pen) {g : Inked} (is : g ≡ inked_at q to 
   strode_full e = ap (λ (g : Inked). g.place.empty) is ∙ e
 
 -- What is known of a look stays known there.
-pub stays_foreseen : (s : Settings) (p : Place) (t : List ℕ) (at : ℕ) (r : Resumed) (f : Foreseen) (o : Pen) (g : Inked) → g ≡ inked_at p at o
+pub stays_foreseen : (s : Settings) (p : Place) (t : List ℕ) (at : ℕ) (r : Resumed) (f : Option Look) (o : Pen) (g : Inked) → g ≡ inked_at p at o
     → ForeseesFrom s p t at r f → ForeseesFrom s g.place t g.at r f
 unfolding inked_at
 stays_foreseen s p t at r f o g is h = rw is h
@@ -99,7 +99,7 @@ module _ {s : Settings} {p : Place} {t : List ℕ} {at : ℕ} {o : Pen} (h : Pen
       }
 
   -- A word that fits.
-  pub drew-letters : (x : Lexeme) → lexed_at at (tokens (chars_from t at)) ≡ Token x → x.kind ≡ Word → fits_in p.cursor (x.chars.0 * s.glyph.0) ≡ true
+  pub drew-letters : (x : Lexeme) → lexed_at at (tokens (chars_from t at)) ≡ Some x → x.kind ≡ Word → fits_in p.cursor (x.chars.0 * s.glyph.0) ≡ true
       → sheet u v ≡ drawn_on (sheet ev o) (drawn_word s.glyph.0 p.spaces at (word_at t at x))
       → Drew s t nothing_resumed ev p at o u (word_place s.glyph.0 p x.chars.0 x.glues.0) x.end.0 v
   drew-letters x d k f g =

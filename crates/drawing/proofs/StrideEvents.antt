@@ -1,6 +1,7 @@
 -- What a pass draws of words that it takes at once, each behind one space, and of one that waits.
 -- Assumes nothing.
 use Prim.Native.Nat.{ℕ, ◌+◌, ◌-◌, ◌*◌, ◌/◌, ◌≤◌, ◌<◌}
+use Rattle.std.specs.Prelude.{Some}
 use mathlib.Core.Path.{◌≡◌, refl, sym, ap, subst, ◌∙◌}
 use mathlib.Core.Bool.{true, false}
 use mathlib.Core.List.{List, [], ◌∷◌, ◌++◌}
@@ -25,7 +26,6 @@ use Rattle.meaning.specs.declared.line.Measure.{Measure}
 use Rattle.parser.specs.Lexing.{chars_from, lexed_at}
 use Rattle.pairs.specs.Pairs.{one_space, PairAt}
 use Rattle.parser.specs.declared.lexeme.Lexeme.{Lexeme}
-use Rattle.parser.specs.declared.lexeme.Lexed.TheVariants.{Token}
 use Rattle.steps.specs.Ahead.{look_at}
 use Rattle.steps.specs.Stepping.{stepped_at}
 use Rattle.steps.specs.Unrolled.{nothing_resumed}
@@ -69,7 +69,7 @@ pub one_word : (t : List ℕ) (at : ℕ) (x : Lexeme) → WordAt t at x → (g :
 one_word t at x w g sp e = one_print g sp at (word_at t at x) (sym w.glues ∙ e) ∙ rw (← w.end, ← w.chars)
 
 module _ {s : Settings} {p : Place} {t : List ℕ} {at : ℕ} {m : Measure} (r : PassReady s p t at nothing_resumed m)
-    (x : Lexeme) (d : lexed_at at (tokens (chars_from t at)) ≡ Token x) (k : x.kind ≡ Word)
+    (x : Lexeme) (d : lexed_at at (tokens (chars_from t at)) ≡ Some x) (k : x.kind ≡ Word)
   where
     abbrev pub here : WordAt t at x
     here = word-at t at x (read-pending t at x d).stands k

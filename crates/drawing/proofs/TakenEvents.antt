@@ -1,6 +1,7 @@
 -- One space and the word behind it, drawn one after the other as they were taken.
 -- Assumes nothing.
 use Prim.Native.Nat.{ℕ, ◌+◌, ◌*◌, ◌≤◌, ◌<◌}
+use Rattle.std.specs.Prelude.{Some}
 use mathlib.Core.Path.{◌≡◌, refl, sym, subst}
 use mathlib.Core.Bool.{false}
 use mathlib.Core.List.{List, [], ◌∷◌}
@@ -17,7 +18,6 @@ use Rattle.meaning.specs.declared.cursor.Place.{Place}
 use Rattle.meaning.specs.declared.line.EventKind.TheVariants.{Space, Printed}
 use Rattle.parser.specs.Lexing.{chars_from, lexed_at}
 use Rattle.parser.specs.Scanning.{word_of}
-use Rattle.parser.specs.declared.lexeme.Lexed.TheVariants.{Token}
 use Rattle.parser.specs.declared.scan.Scanned.{Scanned}
 use Rattle.steps.specs.Ready.{Standing}
 use Rattle.steps.specs.Unrolled.{nothing_resumed}
@@ -37,7 +37,7 @@ use Rattle.drawing.proofs.OnwardEvents.{drew-on, drew-letters, drew-space}
 
 -- ---- the word
 
-module _ (t : List ℕ) (from : ℕ) (w : Scanned) (d : lexed_at from (tokens (chars_from t from)) ≡ Token (word_of w)) where
+module _ (t : List ℕ) (from : ℕ) (w : Scanned) (d : lexed_at from (tokens (chars_from t from)) ≡ Some (word_of w)) where
   abbrev stands : Standing t from (word_of w)
   stands = (read-pending t from (word_of w) d).stands
 
@@ -63,8 +63,8 @@ module _ {s : Settings} {p : Place} {t : List ℕ} {at : ℕ} {o : Pen} (h : Pen
       subst (λ (z : Taken). (o.next ≤ 1000000000) × (o.x.0 + z.space.0 < 4294967296) × (at ≤ 65535) × (z.from.0 ≤ 65535)) (sym k.is)
       (omega (arith, h.few, h.narrow, r.inside, r.short, r.place.1, n))
 
-  pub taken_word : lexed_at x.from.0 (tokens (chars_from t x.from.0)) ≡ Token (word_of x.word)
-  taken_word = subst (λ (z : Taken). lexed_at z.from.0 (tokens (chars_from t z.from.0)) ≡ Token (word_of z.word)) (sym k.is) k.read.word
+  pub taken_word : lexed_at x.from.0 (tokens (chars_from t x.from.0)) ≡ Some (word_of x.word)
+  taken_word = subst (λ (z : Taken). lexed_at z.from.0 (tokens (chars_from t z.from.0)) ≡ Some (word_of z.word)) (sym k.is) k.read.word
 
   module _ (ev u : List ℕ) (v : Pen) where
     abbrev Spaced : Taken → Type 0

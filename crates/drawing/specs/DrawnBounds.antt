@@ -1,8 +1,9 @@
 -- How much is drawn at most: no more things than the line takes bytes.
 -- Assumes nothing.
 use Prim.Native.Nat.{ℕ, ◌+◌, ◌*◌, ◌/◌, ◌≤◌, min}
+use Rattle.meaning.specs.declared.counts.Pixels.{Pixels}
 use Rattle.std.proofs.Common.{subst, length-append}
-use Rattle.std.specs.Prelude.{◌&&◌, ◌||◌, eqb, take}
+use Rattle.std.specs.Prelude.{◌&&◌, ◌||◌, eqb, take, None, Option, Some}
 use Rattle.std.proofs.Math.Bool.{not}
 use mathlib.Core.List.{List, [], ◌∷◌, ◌++◌}
 use native.Mathlib.Omega.{arith}
@@ -20,8 +21,6 @@ use Rattle.meaning.specs.LineIter.{Held, Step, go, stop, skips, cut_run, on_spac
 use Rattle.meaning.specs.Line.{line_tokens, placing, measuring, start_place, line_of, lay_line}
 use Rattle.meaning.specs.declared.settings.Settings.{Settings}
 use Rattle.meaning.specs.declared.cursor.Place.{Place}
-use Rattle.meaning.specs.declared.cursor.NextWord.{NextWord}
-use Rattle.meaning.specs.declared.cursor.NextWord.TheVariants.{Nothing, Width}
 use Rattle.laws.specs.Spell.{text_of, spell, SoundTok, Sound}
 use Rattle.laws.specs.TokenLaws.{chars-text, length-size, size-text}
 use Rattle.laws.specs.LineTokens.{line-tokens_cover, line-tokens-sound}
@@ -83,10 +82,10 @@ module _ (s : Settings) (p : Place) (at : ℕ) where
         (λ _. pick_cases (Few (c ∷ [])) p.empty (λ _. omega (arith, one)) (λ _. omega (arith, one)))
         (λ _. pick_cases (Few (c ∷ [])) p.empty (λ _. omega arith) (λ _. omega arith))
 
-    break_few : (w : NextWord) (r : ℕ) → Few (c ∷ []) (on_break s p at w r)
+    break_few : (w : Option Pixels) (r : ℕ) → Few (c ∷ []) (on_break s p at w r)
     unfolding on_break
-    break_few Nothing r = omega arith
-    break_few (Width w) r = pick_cases (Few (c ∷ [])) (p.empty || not (fits_in p.cursor w.0)) (λ _. hyphen-few r) (λ _. omega arith)
+    break_few None r = omega arith
+    break_few (Some w) r = pick_cases (Few (c ∷ [])) (p.empty || not (fits_in p.cursor w.0)) (λ _. hyphen-few r) (λ _. omega arith)
 
   on-word-few : (cs : List ℕ) → 1 ≤ length cs → Few cs (on_word s p at cs)
   unfolding on_word cut_word unfit_word

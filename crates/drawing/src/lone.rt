@@ -14,21 +14,8 @@ use meaning::line::EventKind;
 use meaning::settings::Settings;
 use moves::cursor::room;
 use parser::letters::first_len;
+use parser::marks::hyphen_at;
 use steps::step::Resumed;
-
-// Whether a soft hyphen stands at a position.
-fn hyphen_at(text: &[u8], at: usize) -> bool
-    requires { at ≤ length text.now }
-    ensures { result ≡ true → Mark text.now at 2 }
-{
-    if text.len() - at < 2 {
-        return false;
-    }
-    if text[at] != 0xC2 {
-        return false;
-    }
-    text[at + 1] == 0xAD
-}
 
 // Whether the line that stands at an offset is such a one. It is not told where the word begins with a gluing character.
 pub fn is_lone(text: &[u8], s: Settings, p: Place, at: usize, rest: Resumed) -> bool
@@ -44,8 +31,7 @@ pub fn is_lone(text: &[u8], s: Settings, p: Place, at: usize, rest: Resumed) -> 
     if !hyphen_at(text, at) {
         return false;
     }
-    let cursor = p.cursor;
-    let left = room(cursor);
+    let left = room(p.cursor);
     let glyph = s.glyph.0;
     if left < glyph {
         return false;
@@ -53,10 +39,7 @@ pub fn is_lone(text: &[u8], s: Settings, p: Place, at: usize, rest: Resumed) -> 
     if glyph + glyph <= left {
         return false;
     }
-    if first_len(text, at + 2) == 0 {
-        return false;
-    }
-    true
+    first_len(text, at + 2).is_some()
 }
 
 // Its "-".

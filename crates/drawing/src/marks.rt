@@ -13,10 +13,10 @@ use ink::pen::{Pen, put_one};
 use meaning::cursor::Place;
 use meaning::line::EventKind;
 use meaning::settings::Settings;
-use parser::marks::mark_len;
-use steps::foreseen::Foreseen;
+use parser::marks::{MarkChar, mark_at};
+use steps::foreseen::Look;
 use steps::step::Resumed;
-use strides::marks::{Joined, next_joined, two_zeros};
+use strides::marks::{next_joined, two_zeros};
 
 // The first of two zero width spaces.
 fn draw_zero(text: &[u8], s: Settings, p: Place, at: usize, pen: Pen, events: &mut [u32]) -> Pen
@@ -66,14 +66,14 @@ fn draw_marks(
     let mut pen = first;
     loop {
         match next_joined(text, s, p, at) {
-            Joined::None => {
+            None => {
                 return draw_zeros(text, s, p, at, pen, events);
             }
-            Joined::Word(word, place) => {
+            Some(joined) => {
                 let spaces = p.spaces;
-                pen = draw_scanned(text, at + 2, word, s.glyph.0, spaces, pen, events);
-                at = word.end.0 as usize;
-                p = place;
+                pen = draw_scanned(text, at + 2, joined.word, s.glyph.0, spaces, pen, events);
+                at = joined.word.end.0 as usize;
+                p = joined.place;
             }
         }
     }
@@ -87,20 +87,20 @@ pub fn draw_past(
     at: usize,
     rest: Resumed,
     pen: Pen,
-    seen: Foreseen,
+    seen: Option<Look>,
     events: &mut [u32],
 ) -> Inked
     requires { PenReady s p text.now at rest pen × ForeseesFrom s p text.now at rest seen }
     ensures strode { Strode s text.now rest events.old p at pen events.new result }
     ensures foresees_from { ForeseesFrom s result.place text.now result.at rest seen }
 {
-    if let Foreseen::Known(_) = seen {
+    if let Some(_) = seen {
         return inked_at(p, at, pen);
     }
     if p.empty {
         return inked_at(p, at, pen);
     }
-    if mark_len(text, at) < 2 {
+    if let None | Some(MarkChar::Tab) = mark_at(text, at) {
         return inked_at(p, at, pen);
     }
     if rest.chars.0 != 0 {

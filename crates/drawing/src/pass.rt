@@ -16,10 +16,10 @@ use ink::pen::Pen;
 use meaning::counts::Pixels;
 use meaning::cursor::Place;
 use meaning::settings::Settings;
-use parser::lexeme::Lexed;
+use parser::lexeme::Lexeme;
 use steps::ending::nothing_left;
 use steps::first::{Known, first_token};
-use steps::foreseen::Foreseen;
+use steps::foreseen::Look;
 use steps::step::Resumed;
 
 // What a pass draws from a place and an offset on, token by token or in strides: see `draw_pass`.
@@ -45,7 +45,7 @@ fn draw_tokens(
         next: k,
         x: Pixels(x),
     };
-    let mut seen = Foreseen::Nothing;
+    let mut seen = None;
     loop {
         let g = draw_unless(text, s, p, at, held, pen, seen, events);
         if g.waits.next.0 != 0 {
@@ -67,7 +67,7 @@ fn draw_tokens(
             continue;
         }
         let token = first_token(text, to, held, known);
-        let Lexed::Token(t) = token else {
+        let Some(t) = token else {
             return drawn.next;
         };
         let ahead = look_after(text, s, here, to, t, seen);

@@ -18,7 +18,7 @@ use moves::measure::nothing_measured;
 use parser::lexeme::Lexeme;
 use prints::tokens::draw_token;
 use prints::words::{draw_cut, draw_whole};
-use steps::foreseen::Foreseen;
+use steps::foreseen::Look;
 use steps::step::Stepped;
 use steps::words::word_place;
 
@@ -44,13 +44,9 @@ fn past_word(
     ensures pen_after { sheet events.new result.pen ≡ drawn_on (sheet events.old pen) (tok_drawn s p text.now at x) }
     ensures went { Went s p text.now at x result.goes result.place }
 {
-    let glyph = s.glyph;
-    let chars = x.chars;
-    let glues = x.glues;
-    let cursor = p.cursor;
-    if fits(cursor, chars.0 * glyph.0) {
+    if fits(p.cursor, x.chars.0 * s.glyph.0) {
         let whole = draw_whole(text, s, p, at, x, pen, events);
-        let place = word_place(glyph, p, chars, glues);
+        let place = word_place(s.glyph, p, x.chars, x.glues);
         return Past {
             goes: true,
             place,
@@ -72,7 +68,7 @@ fn past_step(
     p: Place,
     at: usize,
     x: Lexeme,
-    ahead: Foreseen,
+    ahead: Option<Look>,
     pen: Pen,
     events: &mut [u32],
 ) -> Past
@@ -104,7 +100,7 @@ pub fn past_token(
     p: Place,
     at: usize,
     x: Lexeme,
-    ahead: Foreseen,
+    ahead: Option<Look>,
     pen: Pen,
     events: &mut [u32],
 ) -> Past
@@ -112,8 +108,7 @@ pub fn past_token(
     ensures pen_after { sheet events.new result.pen ≡ drawn_on (sheet events.old pen) (tok_drawn s p text.now at x) }
     ensures went { Went s p text.now at x result.goes result.place }
 {
-    let kind = x.kind;
-    match kind {
+    match x.kind {
         TokenKind::Word => past_word(text, s, p, at, x, pen, events),
         _ => past_step(text, s, p, at, x, ahead, pen, events),
     }

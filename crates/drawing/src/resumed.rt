@@ -21,8 +21,7 @@ pub fn is_cut_rest(s: Settings, p: Place, at: usize, rest: Resumed) -> bool
     if rest.chars.0 == 0 {
         return false;
     }
-    let cursor = p.cursor;
-    if rest.count.0 * p.spaces.width.0 <= room(cursor) {
+    if rest.count.0 * p.spaces.width.0 <= room(p.cursor) {
         return false;
     }
     if s.leading != 1 {
@@ -48,8 +47,7 @@ pub fn draw_rest(
     requires { PenReady s p text.now at rest pen × CutRest s p at rest }
     ensures { sheet events.new result ≡ drawn_on (sheet events.old pen) (drawn_from s p text.now at rest.chars.0 rest.count.0) }
 {
-    let cursor = p.cursor;
-    let n = room(cursor) / p.spaces.width.0;
+    let n = room(p.cursor) / p.spaces.width.0;
     if n == 0 {
         return pen;
     }

@@ -13,9 +13,9 @@ use meaning::cursor::Place;
 use meaning::line::EventKind;
 use meaning::settings::Settings;
 use pairs::pair::pair_at;
-use steps::foreseen::Foreseen;
+use steps::foreseen::Look;
 use steps::step::Resumed;
-use strides::first::{First, first_taken};
+use strides::first::{Begun, first_taken};
 use strides::next::{Next, next_pair, next_stride};
 
 // As many plain words as fit, in a line that is not empty.
@@ -62,13 +62,12 @@ fn draw_first(text: &[u8], s: Settings, p: Place, at: usize, pen: Pen, events: &
     ensures { Strode s text.now nothing_resumed events.old p at pen events.new result }
 {
     match first_taken(text, s, p, at) {
-        First::None => inked_at(p, at, pen),
-        First::Word(b) => {
-            let place = b.place;
+        None => inked_at(p, at, pen),
+        Some(b) => {
             let end = b.end.0 as usize;
             let wide = b.chars.0 * s.glyph.0;
             let printed = put_one(events, pen, EventKind::Printed, at, end, 0, wide);
-            inked_at(place, end, printed)
+            inked_at(b.place, end, printed)
         }
     }
 }
@@ -107,9 +106,8 @@ fn draw_words(text: &[u8], s: Settings, p: Place, at: usize, pen: Pen, events: &
                 };
             }
             Next::Fits(t) => {
-                let place = t.place;
                 let after = draw_taken(text, s, there, to, t, before, events);
-                g = inked_at(place, t.word.end.0 as usize, after);
+                g = inked_at(t.place, t.word.end.0 as usize, after);
             }
         }
     }
@@ -142,14 +140,14 @@ pub fn draw_unless(
     at: usize,
     rest: Resumed,
     pen: Pen,
-    seen: Foreseen,
+    seen: Option<Look>,
     events: &mut [u32],
 ) -> Inked
     requires { PenReady s p text.now at rest pen × ForeseesFrom s p text.now at rest seen }
     ensures strode { Strode s text.now rest events.old p at pen events.new result }
     ensures foresees_from { ForeseesFrom s result.place text.now result.at rest seen }
 {
-    if let Foreseen::Known(_) = seen {
+    if let Some(_) = seen {
         return inked_at(p, at, pen);
     }
     draw_on(text, s, p, at, rest, pen, events)

@@ -1,10 +1,9 @@
 // One space and the word behind it, drawn as they were taken (rule 8, rule 13).
-ghost use Rattle.std.specs.Prelude.{◌≡◌, take};
+ghost use Rattle.std.specs.Prelude.{◌≡◌, take, Some};
 ghost use Rattle.meaning.specs.Tokens.{tokens};
 ghost use Rattle.meaning.specs.Words.{drawn_word};
 ghost use Rattle.parser.specs.Lexing.{chars_from, lexed_at};
 ghost use Rattle.parser.specs.Scanning.{word_of};
-ghost use Rattle.parser.specs.declared.lexeme.Lexed.TheVariants.{Token};
 ghost use Rattle.steps.specs.Unrolled.{nothing_resumed};
 ghost use Rattle.ink.specs.Sheet.{sheet, drawn_on};
 ghost use Rattle.ink.specs.Stretching.{WordRoom};
@@ -29,7 +28,7 @@ pub fn draw_scanned(
     pen: Pen,
     events: &mut [u32],
 ) -> Pen
-    requires { WordRoom text.now from word.chars.0 glyph spaces pen × (lexed_at from (tokens (chars_from text.now from)) ≡ Token (word_of word)) }
+    requires { WordRoom text.now from word.chars.0 glyph spaces pen × (lexed_at from (tokens (chars_from text.now from)) ≡ Some (word_of word)) }
     ensures { sheet events.new result ≡ drawn_on (sheet events.old pen) (drawn_word glyph spaces from (take word.chars.0 (chars_from text.now from))) }
 {
     let n = word.chars.0;
@@ -60,9 +59,7 @@ pub fn draw_taken(
     requires { PenReady s p text.now at nothing_resumed pen × Taking s p text.now at t }
     ensures { Drew s text.now nothing_resumed events.old p at pen events.new t.place t.word.end.0 result }
 {
-    let word = t.word;
-    let left = t.left;
     let from = t.from.0 as usize;
     let spaced = put_one(events, pen, EventKind::Space, at, from, 1, t.space.0);
-    draw_scanned(text, from, word, s.glyph.0, left, spaced, events)
+    draw_scanned(text, from, t.word, s.glyph.0, t.left, spaced, events)
 }

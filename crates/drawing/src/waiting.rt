@@ -19,10 +19,9 @@ pub fn draw_waiting(text: &[u8], s: Settings, g: Inked, events: &mut [u32]) -> P
     ensures { sheet events.new result ≡ drawn_on (sheet events.old g.pen) (drawn_from s g.place text.now g.at 0 0) }
 {
     let p = g.place;
-    let pen = g.pen;
     let next = g.waits.next.0 as usize;
     if !space_fits(p) {
-        return pen;
+        return g.pen;
     }
-    put_one(events, pen, EventKind::Space, g.at, next, 1, 0)
+    put_one(events, g.pen, EventKind::Space, g.at, next, 1, 0)
 }

@@ -1,6 +1,7 @@
 -- Whether a rest fits, as the code finds it: its end in the part is a number that equals `rest_end`.
 -- Assumes nothing.
 use Prim.Native.Nat.{ℕ}
+use Rattle.std.specs.Prelude.{Ok}
 use mathlib.Core.Path.{◌≡◌, sym, ap, ◌∙◌}
 use mathlib.Core.Bool.{true, false}
 use mathlib.Core.List.{List}
@@ -11,7 +12,6 @@ use Rattle.meaning.specs.Checks.{check_utf8}
 use Rattle.meaning.specs.WellFormed.{no_rest}
 use Rattle.meaning.specs.Edit.{chars_in, rest_fits}
 use Rattle.meaning.specs.declared.line.Entry.{Entry}
-use Rattle.meaning.specs.declared.refusals.Checked.TheVariants.{Good}
 use Rattle.laws.specs.PartChars.{part-boundary}
 use Rattle.edits.specs.RestFits.{rest_end, fits_not, fits_by}
 
@@ -19,7 +19,7 @@ module _ (t : List ℕ) (e : Entry) where
   abbrev cs : List ℕ
   cs = decode_all t
 
-  module _ (u : check_utf8 t ≡ Good) (some : no_rest e ≡ false) (n : ℕ) (is : n ≡ rest_end e) where
+  module _ (u : check_utf8 t ≡ Ok tt) (some : no_rest e ≡ false) (n : ℕ) (is : n ≡ rest_end e) where
     pub no_boundary : boundary_at t n ≡ false → false ≡ rest_fits e cs
     no_boundary h = fits_not e cs some (sym (part-boundary t u (rest_end e)) ∙ rw (← is) h)
 

@@ -1,6 +1,6 @@
 -- The lines of a well formed table: they rise, and those before the first affected one start before b.
 -- Assumes nothing.
-use Rattle.std.specs.Prelude.{ℕ, suc, ◌≤◌, ◌<◌, ◌≡◌, false, leb, length, drop}
+use Rattle.std.specs.Prelude.{ℕ, suc, ◌≤◌, ◌<◌, ◌≡◌, false, leb, length, drop, Ok}
 use Rattle.std.proofs.Common.{arith, sym, ap, ◌∙◌}
 use Rattle.std.proofs.Math.Path.{refl}
 use mathlib.Core.List.{List, [], ◌∷◌}
@@ -13,7 +13,6 @@ use Rattle.meaning.specs.Edit.{unaffected, affected, meets, kept_from}
 use Rattle.meaning.specs.declared.edit.Edit.{Edit}
 use Rattle.meaning.specs.declared.line.Rest.{Rest}
 use Rattle.meaning.specs.declared.line.Entry.{Entry}
-use Rattle.meaning.specs.declared.refusals.Checked.TheVariants.{Good}
 use Rattle.laws.specs.Affected.{affected_split}
 use Rattle.table.specs.LinesFrom.{lines_from}
 use Rattle.look.specs.MovableLines.{entries_from_lem}
@@ -27,14 +26,14 @@ lines-drop k lines t = sym (entries_from_lem k lines t)
 
 -- ---- they rise
 
-rises-above : (n k start reach before : ℕ) (es : List Entry) → check_lines n k (line start reach before) es ≡ Good → Above start es
+rises-above : (n k start reach before : ℕ) (es : List Entry) → check_lines n k (line start reach before) es ≡ Ok tt → Above start es
 rises-above n k start reach before [] h = tt
 rises-above n k start reach before (e ∷ es) h = (
   (start-after n start reach before e (good_start n k (line start reach before) e es h)).0,
   rises-above n (suc k) e.start.0 e.reach.0 e.before.0 es (good_more n k (line start reach before) e es h),
 )
 
-pub rises : (n k : ℕ) (b : Before) (es : List Entry) → check_lines n k b es ≡ Good → Rising es
+pub rises : (n k : ℕ) (b : Before) (es : List Entry) → check_lines n k b es ≡ Ok tt → Rising es
 rises n k b [] h = tt
 rises n k b (e ∷ es) h = rises-above n (suc k) e.start.0 e.reach.0 e.before.0 es (good_more n k b e es h)
 
@@ -51,7 +50,7 @@ module _ (ed : Edit) (start : ℕ) (rest : Rest) where
   starts-before e h = simp (lt-leb ed.to.0 e.start.0 h)
 
   -- The next line starts within a line's reach, so a line with reach <= a starts before b if a line follows it.
-  pub kept-affected : (a n k : ℕ) (b : Before) (es : List Entry) → a ≤ ed.to.0 → check_lines n k b es ≡ Good
+  pub kept-affected : (a n k : ℕ) (b : Before) (es : List Entry) → a ≤ ed.to.0 → check_lines n k b es ≡ Ok tt
       → (affected a es ≡ [] → ⊥) → kept_from ed start rest es ≡ kept_from ed start rest (affected a es)
   unfolding affected kept_from pick
   kept-affected a n k b [] h g d = refl

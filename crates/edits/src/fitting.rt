@@ -1,13 +1,11 @@
 // The rest that the first affected line resumes: refusal 5 of it.
-ghost use Rattle.std.specs.Prelude.{◌≡◌, true};
+ghost use Rattle.std.specs.Prelude.{◌≡◌, true, Ok};
 ghost use Rattle.utf8.specs.Decoding.{decode_all};
 ghost use Rattle.utf8.specs.Places.{boundary};
 ghost use Rattle.meaning.specs.Checks.{check_utf8};
 ghost use Rattle.meaning.specs.Edit.{chars_in, rest_fits};
-ghost use Rattle.meaning.specs.declared.refusals.Checked.TheVariants.{Good};
 ghost use Rattle.edits.specs.RestFits.{rest_end};
 
-use basis::numbers::less_wide;
 use look::one_line::has_no_rest;
 use meaning::line::Entry;
 use utf8::text::{count_chars, is_boundary};
@@ -16,12 +14,12 @@ use utf8::text::{count_chars, is_boundary};
 pub fn rest_end(e: Entry) -> usize
     ensures { result ≡ rest_end e }
 {
-    less_wide(e.rest.end.0 as u64, e.start.0 as u64) as usize
+    e.rest.end.0.saturating_sub(e.start.0) as usize
 }
 
 // How many characters there are up to a boundary.
 pub fn chars_before(part: &[u8], n: usize) -> usize
-    requires { (check_utf8 part.now ≡ Good) × (boundary (decode_all part.now) n ≡ true) }
+    requires { (check_utf8 part.now ≡ Ok tt) × (boundary (decode_all part.now) n ≡ true) }
     ensures { result ≡ chars_in (decode_all part.now) n }
 {
     count_chars(&part[..n])
@@ -29,7 +27,7 @@ pub fn chars_before(part: &[u8], n: usize) -> usize
 
 // Does an entry's rest end at a character boundary of the part, and count no more than the characters up to there.
 pub fn rest_fits(part: &[u8], e: Entry) -> bool
-    requires { check_utf8 part.now ≡ Good }
+    requires { check_utf8 part.now ≡ Ok tt }
     ensures { result ≡ rest_fits e (decode_all part.now) }
 {
     if has_no_rest(e) {

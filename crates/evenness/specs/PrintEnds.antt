@@ -45,11 +45,11 @@ end-prints x (d ∷ ds) = end_print d.kind d x (prints ds) refl ∙ end-prints (
 
 -- ---- up to the last print, of one list after another
 
-abbrev pub Some : List Drawn → Type 0
-Some [] = ⊥
-Some (d ∷ ds) = Unit {0}
+abbrev pub AnyDrawn : List Drawn → Type 0
+AnyDrawn [] = ⊥
+AnyDrawn (d ∷ ds) = Unit {0}
 
-kept-some : (k : EventKind) (d : Drawn) (xs : List Drawn) → Some xs → kept_if k d xs ≡ d ∷ xs
+kept-some : (k : EventKind) (d : Drawn) (xs : List Drawn) → AnyDrawn xs → kept_if k d xs ≡ d ∷ xs
 unfolding if_more
 kept-some Printed d xs h = refl
 kept-some Space d [] h = absurd h
@@ -57,11 +57,11 @@ kept-some Space d (x ∷ xs) h = refl
 kept-some Move d [] h = absurd h
 kept-some Move d (x ∷ xs) h = refl
 
-pub some_append : (ds xs : List Drawn) → Some xs → Some (ds ++ xs)
+pub some_append : (ds xs : List Drawn) → AnyDrawn xs → AnyDrawn (ds ++ xs)
 some_append [] xs h = h
 some_append (d ∷ ds) xs h = tt
 
-pub print_more : (ds es : List Drawn) → Some (to_last_print es) → to_last_print (ds ++ es) ≡ ds ++ to_last_print es
+pub print_more : (ds es : List Drawn) → AnyDrawn (to_last_print es) → to_last_print (ds ++ es) ≡ ds ++ to_last_print es
 unfolding to_last_print
 print_more [] es h = refl
 print_more (d ∷ ds) es h =
@@ -108,7 +108,7 @@ size-stretches (c ∷ cs) =
 pub record EndsAt (end : ℕ) (ds : List Drawn) : Type 0 where
   pub ends : (x : ℕ) → last_end x ds ≡ end
   pub whole : to_last_print ds ≡ ds
-  pub some : Some ds
+  pub some : AnyDrawn ds
 
 printed-ends : (g at end : ℕ) (w : List ℕ) (more : List Drawn) → EndsAt end more → EndsAt end (printed_first g at w more)
 unfolding printed_first last_end to_last_print

@@ -10,7 +10,7 @@ use Rattle.meaning.specs.declared.line.EventKind.{EventKind}
 use Rattle.meaning.specs.declared.line.EventKind.TheVariants.{Space, Printed, Move}
 use Rattle.laws.specs.Pens.{pen_after, Plain, word-pen}
 use Rattle.laws.specs.LastPrint.{to_last_print, width_of, print_if, prints, prints-kept}
-use Rattle.evenness.specs.PrintEnds.{Some, print_more, print_none}
+use Rattle.evenness.specs.PrintEnds.{AnyDrawn, print_more, print_none}
 
 -- ---- prints of lists
 
@@ -64,7 +64,7 @@ word_width g sp at cs h = omega (arith, pen-width 0 (drawn_word g sp at cs), wor
 -- It ends with a print, so that it all stands before what is printed behind it.
 print_by : (X ds es : List Drawn) → to_last_print es ≡ X → to_last_print ds ≡ ds → to_last_print (ds ++ es) ≡ ds ++ X
 print_by [] ds es e w = print_none ds es e ∙ w ∙ sym (append-nil ds)
-print_by (x ∷ X) ds es e w = print_more ds es (subst Some (sym e) tt) ∙ ap (λ (xs : List Drawn). ds ++ xs) e
+print_by (x ∷ X) ds es e w = print_more ds es (subst AnyDrawn (sym e) tt) ∙ ap (λ (xs : List Drawn). ds ++ xs) e
 
 pub print_behind : (ds es : List Drawn) → to_last_print ds ≡ ds → to_last_print (ds ++ es) ≡ ds ++ to_last_print es
 print_behind ds es w = print_by (to_last_print es) ds es refl w

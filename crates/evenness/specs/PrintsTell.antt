@@ -2,7 +2,8 @@
 -- spaces were. So two passes that print the same count the same (rule 8, rule 10).
 -- Assumes nothing.
 use Prim.Native.Nat.{ℕ, zero, suc, ◌+◌, ◌-◌, ◌*◌, ◌/◌, ◌≤◌, ◌<◌}
-use Rattle.std.specs.Prelude.{◌≡◌, ◌&&◌, ◌||◌, ◌⊎◌, eqb, length, take, drop}
+use Rattle.meaning.specs.declared.counts.Pixels.{Pixels}
+use Rattle.std.specs.Prelude.{◌≡◌, ◌&&◌, ◌||◌, ◌⊎◌, eqb, length, take, drop, None, Option, Some}
 use Rattle.std.proofs.Math.Path.{refl, sym, ap, subst}
 use Rattle.std.proofs.Common.{◌∙◌, ⊎_elim, add-zero, take-append-drop}
 use Rattle.std.proofs.Math.Bool.{not}
@@ -23,15 +24,13 @@ use Rattle.meaning.specs.LineIter.{Held, skips, Step, go, stop, cut_run, on_spac
 use Rattle.meaning.specs.Line.{held_tokens, line_tokens}
 use Rattle.meaning.specs.declared.settings.Settings.{Settings}
 use Rattle.meaning.specs.declared.cursor.Place.{Place}
-use Rattle.meaning.specs.declared.cursor.NextWord.{NextWord}
-use Rattle.meaning.specs.declared.cursor.NextWord.TheVariants.{Nothing, Width}
 use Rattle.meaning.specs.declared.line.EventKind.{EventKind}
 use Rattle.meaning.specs.declared.line.EventKind.TheVariants.{Printed}
 use Rattle.laws.specs.Spell.{Sound}
 use Rattle.laws.specs.TokenLaws.{tokens-sound}
 use Rattle.laws.specs.LastPrint.{if_more, to_last_print, counted_in, counted_append, prints}
 use Rattle.evenness.specs.SpacesDrawn.{word-counted}
-use Rattle.evenness.specs.PrintEnds.{last_end, end_append, end-prints, Some, some_append, print_more, print_none, end_none, word_end}
+use Rattle.evenness.specs.PrintEnds.{last_end, end_append, end-prints, AnyDrawn, some_append, print_more, print_none, end_none, word_end}
 use Rattle.evenness.specs.SpacesBefore.{glues_before, counted_before, spaces_before, glues-by, glues-all, none_before, before_more}
 
 -- ---- a pass
@@ -41,7 +40,7 @@ pub record Told (at : ℕ) (ts : List Tok) (ds : List Drawn) : Type 0 where
   pub end : ℕ
   pub ends : (x : ℕ) → last_end x ds ≡ end
   pub past : at < end
-  pub some : Some (to_last_print ds)
+  pub some : AnyDrawn (to_last_print ds)
   pub counted : counted_in (to_last_print ds) ≡ spaces_before end at ts
 
 -- Or nothing is printed.
@@ -76,7 +75,7 @@ module _ (s : Settings) (p : Place) (at : ℕ) (ts : List Tok) where
         end = end;
         ends = w.ends;
         past = omega arith;
-        some = subst Some (sym w.whole) w.some;
+        some = subst AnyDrawn (sym w.whole) w.some;
         counted =
             ap counted_in w.whole ∙ word-counted g p.spaces at xs ∙ sym (glues-by xs ys)
             ∙ ap (λ (n : ℕ). glues_before n (xs ++ ys)) (sym behind)
@@ -135,10 +134,10 @@ module _ (s : Settings) (p : Place) (at : ℕ) (ts : List Tok) where
       (λ _. pick_cases P p.empty (λ _. (λ _ _. refl, inr hyphen-told)) (λ _. inr hyphen-told))
       (λ _. pick_cases P p.empty (λ _. (λ _ _. refl, inl refl)) (λ _. inl refl))
 
-  break_tells : (v : NextWord) (reach : ℕ) → TellsStep at softHyphen ts (on_break s p at v reach)
+  break_tells : (v : Option Pixels) (reach : ℕ) → TellsStep at softHyphen ts (on_break s p at v reach)
   unfolding on_break counted_in to_last_print
-  break_tells Nothing reach = (λ _ _. refl, inl refl)
-  break_tells (Width v) reach =
+  break_tells None reach = (λ _ _. refl, inl refl)
+  break_tells (Some v) reach =
       pick_cases (TellsStep at softHyphen ts) (p.empty || not (fits_in p.cursor v.0)) (λ _. hyphen_tells reach) (λ _. (λ _ _. refl, inl refl))
 
   cut-word_tells : (cs : List ℕ) (e : ℕ) → 1 ≤ length cs → TellsStep at (word cs e) ts (cut_word s p at cs)
@@ -191,7 +190,7 @@ module _ (at : ℕ) (t : Tok) (ts : List Tok) (ds es : List Drawn) where
         end = f.end;
         ends = λ x. end_append x ds es ∙ end_none (last_end x ds) es e ∙ f.ends x;
         past = f.past;
-        some = subst Some (sym same) f.some;
+        some = subst AnyDrawn (sym same) f.some;
         counted = ap counted_in same ∙ f.counted;
       })
 
@@ -204,7 +203,7 @@ module _ (at : ℕ) (t : Tok) (ts : List Tok) (ds es : List Drawn) where
         end = g.end;
         ends = λ x. end_append x ds es ∙ g.ends (last_end x ds);
         past = past;
-        some = subst Some (sym same) (some_append ds (to_last_print es) g.some);
+        some = subst AnyDrawn (sym same) (some_append ds (to_last_print es) g.some);
         counted =
             ap counted_in same
             ∙ (omega (arith, counted_append ds (to_last_print es), f (g.end - at) (omega (arith, g.past)), g.counted, before_more g.end at t ts past));

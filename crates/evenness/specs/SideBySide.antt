@@ -22,7 +22,7 @@ use Rattle.laws.specs.Measuring.{spaces-after}
 use Rattle.laws.specs.Pens.{Plain, plain-after, plain-width}
 use Rattle.laws.specs.EvenSpaces.{spaces-more}
 use Rattle.laws.specs.LastPrint.{if_more, to_last_print, width_of, counted_in, counted_append}
-use Rattle.evenness.specs.PrintEnds.{Some}
+use Rattle.evenness.specs.PrintEnds.{AnyDrawn}
 use Rattle.evenness.specs.PrintedWords.{width_append, print_behind}
 
 -- What a measure found, and the spaces of the draw: of the measured width and count, these take the room.
@@ -85,11 +85,11 @@ module _ (s : Settings) (m : Spread s) where
     pub count_by : k + n ≤ N
     pub onward : Onward (x + w) (k + n) more
 
-  some-not_nil : (ds es : List Drawn) → Some ds → ds ++ es ≡ [] → ⊥
+  some-not_nil : (ds es : List Drawn) → AnyDrawn ds → ds ++ es ≡ [] → ⊥
   some-not_nil [] es h e = h
   some-not_nil (d ∷ ds) es h e = cons≢nil e
 
-  pub onward-word : (x k : ℕ) (ds more : List Drawn) → to_last_print ds ≡ ds → Some ds → Onward x k (ds ++ more) → OnWord x k (width_of ds) (counted_in ds) more
+  pub onward-word : (x k : ℕ) (ds more : List Drawn) → to_last_print ds ≡ ds → AnyDrawn ds → Onward x k (ds ++ more) → OnWord x k (width_of ds) (counted_in ds) more
   onward-word x k ds more a b (inl e) = absurd (some-not_nil ds (to_last_print more) b (sym (print_behind ds more a) ∙ e))
   onward-word x k ds more a b (inr e) =
       let same = print_behind ds more a in

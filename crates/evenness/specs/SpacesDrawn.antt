@@ -1,7 +1,8 @@
 -- The spaces that a pass draws are those that rule 5 gives it, one after the other: an event that counts n spaces after k others is
 -- as wide as n spaces after k, or leaves the pen standing (rule 5, rule 8).
 -- Assumes nothing.
-use Rattle.std.specs.Prelude.{ℕ, ◌+◌, ◌*◌, ◌/◌, ◌≤◌, ◌≡◌, refl, Bool, ◌&&◌, ◌||◌, List, [], ◌∷◌, ◌++◌, eqb, length, take}
+use Rattle.std.specs.Prelude.{ℕ, ◌+◌, ◌*◌, ◌/◌, ◌≤◌, ◌≡◌, refl, Bool, ◌&&◌, ◌||◌, List, [], ◌∷◌, ◌++◌, eqb, length, take, None, Option, Some}
+use Rattle.meaning.specs.declared.counts.Pixels.{Pixels}
 use Rattle.std.proofs.Common.{sym, ap, subst}
 use Rattle.std.proofs.Math.Bool.{not}
 use native.Mathlib.Omega.{arith}
@@ -17,8 +18,6 @@ use Rattle.meaning.specs.Line.{noted, measured}
 use Rattle.meaning.specs.declared.settings.Settings.{Settings}
 use Rattle.meaning.specs.declared.cursor.Spaces.{Spaces}
 use Rattle.meaning.specs.declared.cursor.Place.{Place}
-use Rattle.meaning.specs.declared.cursor.NextWord.{NextWord}
-use Rattle.meaning.specs.declared.cursor.NextWord.TheVariants.{Nothing, Width}
 use Rattle.meaning.specs.declared.line.EventKind.{EventKind}
 use Rattle.meaning.specs.declared.line.EventKind.TheVariants.{Space, Printed, Move}
 use Rattle.meaning.specs.declared.line.Measure.{Measure}
@@ -140,10 +139,10 @@ module _ (s : Settings) (p : Place) (at : ℕ) where
       (λ _. pick_cases P p.empty (λ _. ((refl, tt), none-counted)) (λ _. (refl, tt)))
       (λ _. pick_cases P p.empty (λ _. (tt, none-counted)) (λ _. tt))
 
-  break_along : (v : NextWord) (reach : ℕ) → P (on_break s p at v reach)
+  break_along : (v : Option Pixels) (reach : ℕ) → P (on_break s p at v reach)
   unfolding on_break counted_in
-  break_along Nothing reach = (tt, none-counted)
-  break_along (Width v) reach =
+  break_along None reach = (tt, none-counted)
+  break_along (Some v) reach =
       pick_cases P (p.empty || not (fits_in p.cursor v.0)) (λ _. hyphen-along reach) (λ _. (tt, none-counted))
 
   cut-word-along : (cs : List ℕ) → P (cut_word s p at cs)

@@ -1,6 +1,7 @@
 -- The fields of a file as the running check goes over them (refusal 9, refusal 11).
 -- Assumes nothing.
-use Rattle.std.specs.Prelude.{ℕ, suc, ◌+◌, ◌-◌, ◌*◌, ◌≤◌, ◌<◌, ◌≡◌, true, false, List, length, drop}
+use Rattle.std.specs.Prelude.{ℕ, suc, ◌+◌, ◌-◌, ◌*◌, ◌≤◌, ◌<◌, ◌≡◌, true, false, List, length, drop, Err, Ok}
+use Rattle.meaning.specs.Refusals.{Checked}
 use Rattle.std.proofs.Math.Path.{sym, ap}
 use Rattle.std.proofs.Common.{◌∙◌, arith, length-drop, drop_of_length-le, drop-cons, drop-drop}
 use Rattle.std.proofs.Math.Nat.{sub-zero}
@@ -8,27 +9,25 @@ use Rattle.basis.specs.Choice.{pick, pick_true, pick-false}
 use Rattle.meaning.specs.LayoutFile.{header_bytes, number_bytes, settings_tag, length_tag, line_tag, end_tag, settings_size, line_size, line_bytes, length_at, lines_at}
 use Rattle.meaning.specs.ReadFile.{old_line_size, is_field, check_end, check_line_fields, check_fields}
 use Rattle.meaning.specs.declared.refusals.Refusal.TheVariants.{BadField, OldEntry}
-use Rattle.meaning.specs.declared.refusals.Checked.{Checked}
-use Rattle.meaning.specs.declared.refusals.Checked.TheVariants.{Good, Refused}
 use Rattle.file_fields.specs.FileFields.{found}
 
 -- ---- the end
 
 -- The bytes at an offset are the end, and nothing follows.
 unfoldable pub end_checked : (at : ℕ) → List ℕ → Checked
-end_checked at f = pick (is_field end_tag 0 f) (check_end (at + header_bytes) (drop header_bytes f)) (Refused (BadField at))
+end_checked at f = pick (is_field end_tag 0 f) (check_end (at + header_bytes) (drop header_bytes f)) (Err (BadField at))
 
 module _ (at : ℕ) (f : List ℕ) where
-  pub no_end : is_field end_tag 0 f ≡ false → Refused (BadField at) ≡ end_checked at f
+  pub no_end : is_field end_tag 0 f ≡ false → Err (BadField at) ≡ end_checked at f
   unfolding end_checked
   no_end e = sym (pick-false _ _ _ e)
 
   module _ (e : is_field end_tag 0 f ≡ true) where
-    pub end_followed : header_bytes < length f → Refused (BadField (at + header_bytes)) ≡ end_checked at f
+    pub end_followed : header_bytes < length f → Err (BadField (at + header_bytes)) ≡ end_checked at f
     unfolding end_checked check_end
     end_followed h = sym (pick_true _ _ _ e ∙ ap (check_end (at + header_bytes)) (drop-cons f header_bytes 0 h))
 
-    pub end-last : length f ≤ header_bytes → Good ≡ end_checked at f
+    pub end-last : length f ≤ header_bytes → Ok tt ≡ end_checked at f
     unfolding end_checked check_end
     end-last h = sym (pick_true _ _ _ e ∙ ap (check_end (at + header_bytes)) (drop_of_length-le f h))
 
@@ -78,7 +77,7 @@ module _ (f : List ℕ) (at : ℕ) (p : Passed f at) where
       }
 
   module _ (n : is_field line_tag line_size here ≡ false) where
-    pub old-line : is_field line_tag old_line_size here ≡ true → Refused (OldEntry at) ≡ check_line_fields (length f) lines_at (drop lines_at f)
+    pub old-line : is_field line_tag old_line_size here ≡ true → Err (OldEntry at) ≡ check_line_fields (length f) lines_at (drop lines_at f)
     unfolding check_line_fields
     old-line o = sym (pick-false _ _ _ n ∙ pick_true _ _ _ o) ∙ fuelled
 
@@ -89,7 +88,7 @@ module _ (f : List ℕ) (at : ℕ) (p : Passed f at) where
 -- ---- all fields
 
 module _ (f : List ℕ) where
-  pub bad_settings : is_field settings_tag settings_size f ≡ false → Refused (BadField 0) ≡ check_fields f
+  pub bad_settings : is_field settings_tag settings_size f ≡ false → Err (BadField 0) ≡ check_fields f
   unfolding check_fields
   bad_settings e = sym (pick-false _ _ _ e)
 
@@ -97,7 +96,7 @@ module _ (f : List ℕ) where
     pub settings-inside : length_at ≤ length f
     settings-inside = (found settings_tag settings_size f e).whole
 
-    pub bad_length : is_field length_tag number_bytes (drop length_at f) ≡ false → Refused (BadField length_at) ≡ check_fields f
+    pub bad_length : is_field length_tag number_bytes (drop length_at f) ≡ false → Err (BadField length_at) ≡ check_fields f
     unfolding check_fields
     bad_length o = sym (pick_true _ _ _ e ∙ pick-false _ _ _ o)
 

@@ -1,15 +1,14 @@
 -- Fields of a layout file: what is written is found, and what is found was written (refusal 9).
 -- Assumes nothing.
-use Rattle.std.specs.Prelude.{ℕ, zero, suc, ◌+◌, ◌*◌, ◌/◌, ◌%◌, ◌≤◌, ◌<◌, ◌≡◌, refl, true, ◌&&◌, List, [], ◌∷◌, ◌++◌, leb, eqb, length, get_or, take, drop}
+use Rattle.std.specs.Prelude.{ℕ, zero, suc, ◌+◌, ◌*◌, ◌/◌, ◌%◌, ◌≤◌, ◌<◌, ◌≡◌, refl, true, ◌&&◌, List, [], ◌∷◌, ◌++◌, leb, eqb, length, get_or, take, drop, Ok}
 use Rattle.std.proofs.Common.{sym, ap, ◌∙◌, append-nil, arith, le-leb, eq-eqb, leb-true, eqb-true, length-drop, take-append-drop, drop_at, take_all, length-take-le}
 use Rattle.std.proofs.Math.ListN.{length-append}
 use Rattle.basis.specs.Choice.{pick, pick_true, pick-false, by_test, and_true, and_both}
-use Rattle.meaning.specs.Refusals.{checked_number}
+use Rattle.meaning.specs.Answers.{answer_number}
 use Rattle.meaning.specs.Table.{entry_numbers, of_entry, of_all, entry_in}
 use Rattle.meaning.specs.LayoutFile.{header_bytes, number_bytes, line_tag, end_tag, line_size, line_bytes, bytes_of, field, line_field, line_fields}
 use Rattle.meaning.specs.ReadFile.{old_line_size, is_field, check_end, check_line_fields, numbers_in, lines_in}
 use Rattle.meaning.specs.declared.line.Entry.{Entry}
-use Rattle.meaning.specs.declared.refusals.Checked.TheVariants.{Good}
 use Rattle.laws.specs.TableLaws.{entry-numbers, entry_read, numbers-read}
 use Rattle.file_fields.specs.FileNumbers.{Bytes, Words, words-bytes, words-read, below-drop, numbers-count, numbers-written}
 
@@ -83,7 +82,7 @@ unfolding line_fields field
 lines-length [] = refl
 lines-length (e ∷ es) = rw (length-append (line_field e) (line_fields es)) (omega (arith, line-length e, lines-length es))
 
-end-found : (fuel at : ℕ) → check_line_fields (suc fuel) at (line_fields []) ≡ Good
+end-found : (fuel at : ℕ) → check_line_fields (suc fuel) at (line_fields []) ≡ Ok tt
 unfolding check_line_fields line_fields check_end is_field field pick
 end-found fuel at = refl
 
@@ -96,7 +95,7 @@ line-passed e t fuel at =
     pick_true _ _ _ (field_found line_tag line_size body t (line_body e))
     ∙ ap (check_line_fields fuel (at + line_bytes)) (field-over line_tag line_size body t (line_body e))
 
-pub lines-found : (es : List Entry) (fuel at : ℕ) → length es < fuel → check_line_fields fuel at (line_fields es) ≡ Good
+pub lines-found : (es : List Entry) (fuel at : ℕ) → length es < fuel → check_line_fields fuel at (line_fields es) ≡ Ok tt
 unfolding line_fields
 lines-found es zero at h = absurd (omega arith)
 lines-found [] (suc fuel) at h = end-found fuel at
@@ -152,7 +151,7 @@ line-lined f e more =
           ∙ line-written f e b;
     }
 
-end-lined : (at : ℕ) (f : List ℕ) → is_field end_tag 0 f ≡ true → check_end (at + header_bytes) (drop header_bytes f) ≡ Good → Lined f
+end-lined : (at : ℕ) (f : List ℕ) → is_field end_tag 0 f ≡ true → check_end (at + header_bytes) (drop header_bytes f) ≡ Ok tt → Lined f
 unfolding check_end lines_in line_fields
 end-lined at f e g = known (drop header_bytes f) refl
   where
@@ -164,18 +163,18 @@ end-lined at f e g = known (drop header_bytes f) refl
           written =
               λ b. sym (append-nil (field end_tag [])) ∙ ap (λ (t : List ℕ). field end_tag [] ++ t) (sym q) ∙ field-written end_tag 0 f e b;
         }
-    known (x ∷ t) q = absurd (omega (arith, ap checked_number (ap (check_end (at + header_bytes)) (sym q) ∙ g)))
+    known (x ∷ t) q = absurd (omega (arith, ap answer_number (ap (check_end (at + header_bytes)) (sym q) ∙ g)))
 
-pub good-lined : (fuel at : ℕ) (f : List ℕ) → check_line_fields fuel at f ≡ Good → Lined f
+pub good-lined : (fuel at : ℕ) (f : List ℕ) → check_line_fields fuel at f ≡ Ok tt → Lined f
 unfolding check_line_fields
-good-lined zero at f g = absurd (omega (arith, ap checked_number g))
+good-lined zero at f g = absurd (omega (arith, ap answer_number g))
 good-lined (suc fuel) at f g =
     by_test (is_field line_tag line_size f)
     (λ e. line-lined f e (good-lined fuel (at + line_bytes) (drop line_bytes f) (sym (pick_true _ _ _ e) ∙ g)))
     (λ e. let g₂ = sym (pick-false _ _ _ e) ∙ g in
     by_test (is_field line_tag old_line_size f)
-    (λ o. absurd (omega (arith, ap checked_number (sym (pick_true _ _ _ o) ∙ g₂))))
+    (λ o. absurd (omega (arith, ap answer_number (sym (pick_true _ _ _ o) ∙ g₂))))
     (λ o. let g₃ = sym (pick-false _ _ _ o) ∙ g₂ in
     by_test (is_field end_tag 0 f)
     (λ t. end-lined at f t (sym (pick_true _ _ _ t) ∙ g₃))
-    (λ t. absurd (omega (arith, ap checked_number (sym (pick-false _ _ _ t) ∙ g₃))))))
+    (λ t. absurd (omega (arith, ap answer_number (sym (pick-false _ _ _ t) ∙ g₃))))))

@@ -1,7 +1,8 @@
 -- Numbers and bytes put one after the other, as the loops over them do.
 -- Assumes nothing.
-use Rattle.std.specs.Prelude.{ℕ, zero, suc, ◌+◌, ◌*◌, ◌/◌, ◌%◌, ◌≤◌, ◌<◌, ◌≡◌, refl, List, [], ◌∷◌, ◌++◌, length, get_or, take, drop, set}
-use Rattle.std.proofs.Common.{sym, ap, ◌∙◌, append-nil, zero-add, add-one, arith, length-drop, drop_of_length-le, drop-drop, get_or-drop, take-suc, length-take-le}
+use Rattle.std.specs.Prelude.{ℕ, zero, suc, ◌+◌, ◌-◌, ◌*◌, ◌/◌, ◌%◌, ◌≤◌, ◌<◌, ◌≡◌, refl, List, [], ◌∷◌, ◌++◌, length, get_or, take, drop, set}
+use Rattle.std.proofs.Common.{sym, ap, ◌∙◌, append_assoc, append-nil, zero-add, add-one, arith, length-drop, drop_of_length-le, drop-drop, get_or-drop, take-suc, length-take-le}
+use borrow.Rule.Slice.PartMut.{put_mid}
 use Rattle.meaning.specs.Table.{of_all, written}
 use Rattle.meaning.specs.LayoutFile.{header_bytes, number_bytes, bytes_of, field}
 use Rattle.meaning.specs.ReadFile.{number_in, numbers_in}
@@ -96,3 +97,12 @@ unfolding put_numbers
 filled t xs e =
     let h : length t ≤ 0 + length xs = omega arith in
     ap (λ (l : List ℕ). xs ++ l) (drop_of_length-le t h) ∙ append-nil xs
+
+-- Numbers copied to a stretch of a buffer are put there.
+pub copied_put : (t : List ℕ) (i e : ℕ) (ys xs : List ℕ) → ys ≡ xs → e ≡ i + length xs → put_mid i (e - i) t ys ≡ put_numbers t i xs
+unfolding put_numbers
+copied_put t i e ys xs s h =
+    let k : i + (e - i) ≡ i + length xs = omega arith in
+    rw s
+    (ap (λ (l : List ℕ). take i t ++ (xs ++ l)) (drop-drop (e - i) i t ∙ ap (λ (j : ℕ). drop j t) k)
+    ∙ sym (append_assoc (take i t) xs (drop (i + length xs) t)))

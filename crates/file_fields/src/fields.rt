@@ -9,7 +9,7 @@ use meaning::fields::HEADER_BYTES;
 fn size_of(low: u8, high: u8) -> usize
     ensures { result ≡ low + 256 * high }
 {
-    low as usize + 256 * (high as usize)
+    u16::from_le_bytes([low, high]) as usize
 }
 
 // Does a whole field of this tag and this length stand at an offset.
@@ -28,7 +28,8 @@ pub fn write_header(file: &mut [u8], at: usize, tag: u8, size: usize)
     requires { (at + header_bytes ≤ length file.old) × (size ≤ 65535) }
     ensures { file.new ≡ put_numbers file.old at (tag ∷ size % 256 ∷ size / 256 ∷ []) }
 {
+    let [low, high] = (size as u16).to_le_bytes();
     file[at] = tag;
-    file[at + 1] = (size % 256) as u8;
-    file[at + 2] = (size / 256) as u8;
+    file[at + 1] = low;
+    file[at + 2] = high;
 }

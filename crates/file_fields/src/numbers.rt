@@ -7,18 +7,12 @@ ghost use Rattle.table.specs.Numbers.{put_numbers};
 
 use meaning::fields::NUMBER_BYTES;
 
-fn number_of(a: u8, b: u8, c: u8, d: u8) -> u32
-    ensures { result ≡ a + 256 * b + 65536 * c + 16777216 * d }
-{
-    a as u32 + 256 * (b as u32) + 65536 * (c as u32) + 16777216 * (d as u32)
-}
-
 // The number at an offset.
 pub fn read_number(file: &[u8], at: usize) -> u32
     requires { at + number_bytes ≤ length file.now }
     ensures { result ≡ number_in (drop at file.now) }
 {
-    number_of(file[at], file[at + 1], file[at + 2], file[at + 3])
+    u32::from_le_bytes([file[at], file[at + 1], file[at + 2], file[at + 3]])
 }
 
 // So many numbers from an offset on, put into a buffer from a place on.
@@ -26,10 +20,8 @@ pub fn read_numbers(file: &[u8], at: usize, count: usize, buffer: &mut [u32], pl
     requires { (at + number_bytes * count ≤ length file.now) × (place + count ≤ length buffer.old) }
     ensures { buffer.new ≡ put_numbers buffer.old place (numbers_in count (drop at file.now)) }
 {
-    let mut i: usize = 0;
-    while i < count {
+    for i in 0..count {
         buffer[place + i] = read_number(file, at + NUMBER_BYTES * i);
-        i += 1;
     }
 }
 
@@ -38,10 +30,7 @@ pub fn write_number(file: &mut [u8], at: usize, n: u32)
     requires { at + number_bytes ≤ length file.old }
     ensures { file.new ≡ put_numbers file.old at (bytes_of n) }
 {
-    file[at] = (n % 256) as u8;
-    file[at + 1] = (n / 256 % 256) as u8;
-    file[at + 2] = (n / 65536 % 256) as u8;
-    file[at + 3] = (n / 16777216 % 256) as u8;
+    file[at..at + NUMBER_BYTES].copy_from_slice(&n.to_le_bytes());
 }
 
 // So many numbers of a buffer from a place on, to an offset and those behind it.
@@ -49,9 +38,7 @@ pub fn write_numbers(buffer: &[u32], place: usize, count: usize, file: &mut [u8]
     requires { (place + count ≤ length buffer.now) × (at + number_bytes * count ≤ length file.old) }
     ensures { file.new ≡ put_numbers file.old at (of_all bytes_of (take count (drop place buffer.now))) }
 {
-    let mut i: usize = 0;
-    while i < count {
+    for i in 0..count {
         write_number(file, at + NUMBER_BYTES * i, buffer[place + i]);
-        i += 1;
     }
 }

@@ -9,25 +9,25 @@ use meaning::fields::{
     END_TAG, HEADER_BYTES, LENGTH_AT, LENGTH_TAG, LINE_BYTES, LINE_SIZE, LINE_TAG, LINES_AT,
     NUMBER_BYTES, OLD_LINE_SIZE, SETTINGS_SIZE, SETTINGS_TAG,
 };
-use meaning::refusals::{Checked, Refusal};
+use meaning::refusals::Refusal;
 
 // The end, and nothing behind it.
-fn check_end(file: &[u8], at: usize) -> Checked
+fn check_end(file: &[u8], at: usize) -> Result<(), Refusal>
     requires { at ≤ length file.now }
     ensures { result ≡ end_checked at (drop at file.now) }
 {
     if !is_field(file, at, END_TAG, 0) {
-        return Checked::Refused(Refusal::BadField(at as u64));
+        return Err(Refusal::BadField(at as u64));
     }
     let behind = at + HEADER_BYTES;
     if behind < file.len() {
-        return Checked::Refused(Refusal::BadField(behind as u64));
+        return Err(Refusal::BadField(behind as u64));
     }
-    Checked::Good
+    Ok(())
 }
 
 // Lines, and the end.
-fn check_lines(file: &[u8]) -> Checked
+fn check_lines(file: &[u8]) -> Result<(), Refusal>
     requires { lines_at ≤ length file.now }
     ensures { result ≡ check_line_fields (length file.now) lines_at (drop lines_at file.now) }
 {
@@ -36,20 +36,20 @@ fn check_lines(file: &[u8]) -> Checked
         at += LINE_BYTES;
     }
     if is_field(file, at, LINE_TAG, OLD_LINE_SIZE) {
-        return Checked::Refused(Refusal::OldEntry(at as u64));
+        return Err(Refusal::OldEntry(at as u64));
     }
     check_end(file, at)
 }
 
 // All fields.
-pub fn check_fields(file: &[u8]) -> Checked
+pub fn check_fields(file: &[u8]) -> Result<(), Refusal>
     ensures { result ≡ check_fields file.now }
 {
     if !is_field(file, 0, SETTINGS_TAG, SETTINGS_SIZE) {
-        return Checked::Refused(Refusal::BadField(0));
+        return Err(Refusal::BadField(0));
     }
     if !is_field(file, LENGTH_AT, LENGTH_TAG, NUMBER_BYTES) {
-        return Checked::Refused(Refusal::BadField(LENGTH_AT as u64));
+        return Err(Refusal::BadField(LENGTH_AT as u64));
     }
     check_lines(file)
 }

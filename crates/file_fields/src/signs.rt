@@ -6,19 +6,11 @@ ghost use Rattle.meaning.specs.ReadFile.{signed_of};
 pub fn bits_of(z: i32) -> u32
     ensures { result ≡ bits_of z }
 {
-    if z < 0 {
-        let below = -(z + 1);
-        return 4294967295 - below as u32;
-    }
-    z as u32
+    z.cast_unsigned()
 }
 
 pub fn signed_of(bits: u32) -> i32
     ensures { result ≡ signed_of bits }
 {
-    if bits < 2147483648 {
-        return bits as i32;
-    }
-    let below = 4294967295 - bits;
-    -(below as i32) - 1
+    bits.cast_signed()
 }

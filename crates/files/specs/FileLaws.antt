@@ -1,13 +1,13 @@
 -- The layout file as a whole: what is written reads back the same, and what is read writes back the same bytes.
 -- Assumes nothing.
-use Rattle.std.specs.Prelude.{ℕ, ◌+◌, ◌*◌, ◌≤◌, ◌<◌, ◌≡◌, true, ℤ, length, get_or, take}
+use Rattle.std.specs.Prelude.{ℕ, ◌+◌, ◌*◌, ◌≤◌, ◌<◌, ◌≡◌, true, ℤ, length, get_or, take, Err, Ok}
 use Rattle.std.proofs.Math.Path.{sym, ap}
 use Rattle.std.proofs.Common.{◌∙◌, arith, take_all, drop-drop}
 use mathlib.Core.List.{List, ◌++◌}
 use Rattle.std.specs.Int.Signed.{mag}
 use Rattle.std.proofs.Math.ListN.{drop, length-append, length-drop}
 use Rattle.basis.specs.Choice.{pick, pick_true, pick-false, by_test}
-use Rattle.meaning.specs.Refusals.{checked_number}
+use Rattle.meaning.specs.Answers.{answer_number}
 use Rattle.meaning.specs.Settings.{settings_of}
 use Rattle.meaning.specs.Table.{of_all}
 use Rattle.meaning.specs.LayoutFile.{header_bytes, number_bytes, settings_numbers, settings_tag, length_tag, settings_size, line_bytes, length_at, lines_at, frame_bytes, bytes_of, field, of_settings, settings_field, length_field, line_fields, file_of, file_bytes}
@@ -15,7 +15,6 @@ use Rattle.meaning.specs.ReadFile.{is_field, check_line_fields, check_fields, nu
 use Rattle.meaning.specs.declared.settings.Settings.{Settings}
 use Rattle.meaning.specs.declared.line.Entry.{Entry}
 use Rattle.meaning.specs.declared.refusals.Refusal.TheVariants.{BadField}
-use Rattle.meaning.specs.declared.refusals.Checked.TheVariants.{Good, Refused}
 use Rattle.laws.specs.TableLaws.{values-are}
 use Rattle.file_fields.specs.FileNumbers.{Bytes, Words, number_read, number_bytes_lem, bytes_read, words-bytes, words-read, below-drop, below_at, numbers-count, numbers-small, numbers-written, signed_bits, bits_signed}
 use Rattle.file_fields.specs.FileFields.{field_found, field-over, field-length, found, field-written, lines-length, lines-found, EntryWords, lines-read, Lined, good-lined}
@@ -81,7 +80,7 @@ module _ (s : Settings) (n : ℕ) (es : List Entry) where
   unfolding length_field
   length_found = rw past-settings (field_found length_tag number_bytes (bytes_of n) (line_fields es) (number_bytes_lem n))
 
-  pub file-found : check_fields file ≡ Good
+  pub file-found : check_fields file ≡ Ok tt
   unfolding check_fields
   file-found =
       pick_true _ _ _ settings-found
@@ -108,20 +107,20 @@ module _ (s : Settings) (n : ℕ) (es : List Entry) where
 
 -- ---- what is read writes back the same bytes
 
-module _ (f : List ℕ) (g : check_fields f ≡ Good) where
+module _ (f : List ℕ) (g : check_fields f ≡ Ok tt) where
   settings-there : is_field settings_tag settings_size f ≡ true
   unfolding check_fields
   settings-there =
-      by_test (is_field settings_tag settings_size f) (λ e. e) (λ e. absurd (omega (arith, ap checked_number (sym (pick-false _ _ _ e) ∙ g))))
+      by_test (is_field settings_tag settings_size f) (λ e. e) (λ e. absurd (omega (arith, ap answer_number (sym (pick-false _ _ _ e) ∙ g))))
 
-  behind-settings : pick (is_field length_tag number_bytes (drop length_at f)) (check_line_fields (length f) lines_at (drop lines_at f)) (Refused (BadField length_at)) ≡ Good
+  behind-settings : pick (is_field length_tag number_bytes (drop length_at f)) (check_line_fields (length f) lines_at (drop lines_at f)) (Err (BadField length_at)) ≡ Ok tt
   unfolding check_fields
   behind-settings = sym (pick_true _ _ _ settings-there) ∙ g
 
   length-there : is_field length_tag number_bytes (drop length_at f) ≡ true
   length-there =
       by_test (is_field length_tag number_bytes (drop length_at f)) (λ e. e)
-      (λ e. absurd (omega (arith, ap checked_number (sym (pick-false _ _ _ e) ∙ behind-settings))))
+      (λ e. absurd (omega (arith, ap answer_number (sym (pick-false _ _ _ e) ∙ behind-settings))))
 
   lined : Lined (drop lines_at f)
   lined = good-lined (length f) lines_at (drop lines_at f) (sym (pick_true _ _ _ length-there) ∙ behind-settings)

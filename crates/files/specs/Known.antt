@@ -1,6 +1,7 @@
 -- The settings of a file, with the retired one put right, and their tests (refusal 1, refusal 2, refusal 8, refusal 12).
 -- Assumes nothing.
-use Rattle.std.specs.Prelude.{ℕ, ◌≡◌, List, [], ◌∷◌, ℤ, get_or}
+use Rattle.std.specs.Prelude.{ℕ, ◌≡◌, List, [], ◌∷◌, ℤ, get_or, Err, Ok}
+use Rattle.meaning.specs.Refusals.{Checked}
 use Rattle.std.proofs.Math.Path.{sym}
 use Rattle.std.proofs.Common.{◌∙◌, eq-eqb, ne_eqb}
 use Rattle.basis.specs.Choice.{pick_true, pick-false}
@@ -11,8 +12,6 @@ use Rattle.meaning.specs.ReadFile.{signed_of, settings_in, unretired, check_reti
 use Rattle.meaning.specs.declared.settings.Settings.{Settings}
 use Rattle.meaning.specs.declared.refusals.Refusal.{Refusal}
 use Rattle.meaning.specs.declared.refusals.Refusal.TheVariants.{RetiredSetting}
-use Rattle.meaning.specs.declared.refusals.Checked.{Checked}
-use Rattle.meaning.specs.declared.refusals.Checked.TheVariants.{Good, Refused}
 use Rattle.laws.specs.TestOrder.{first_alone}
 use Rattle.files.specs.Tests.{stops, passes}
 
@@ -40,27 +39,27 @@ module _ (s : Settings) where
   unretired_without e = sym (pick_true _ _ _ (eq-eqb _ _ e))
 
   module _ (room : ℕ) where
-    pub not_retired : (s.trailing ≡ 1 → ⊥) → Good ≡ check_retired room s
+    pub not_retired : (s.trailing ≡ 1 → ⊥) → Ok tt ≡ check_retired room s
     unfolding check_retired
     not_retired d = sym (pick-false _ _ _ (ne_eqb _ _ d))
 
     module _ (e : s.trailing ≡ 1) where
-      retired_tests : check_retired room s ≡ first_of (check_room room settings_numbers ∷ Refused RetiredSetting ∷ [])
+      retired_tests : check_retired room s ≡ first_of (check_room room settings_numbers ∷ Err RetiredSetting ∷ [])
       unfolding check_retired
       retired_tests = pick_true _ _ _ (eq-eqb _ _ e)
 
-      pub retired_no_room : (r : Refusal) → check_room room settings_numbers ≡ Refused r → Refused r ≡ check_retired room s
-      retired_no_room r h = sym (retired_tests ∙ stops (check_room room settings_numbers) (Refused RetiredSetting ∷ []) r h)
+      pub retired_no_room : (r : Refusal) → check_room room settings_numbers ≡ Err r → Err r ≡ check_retired room s
+      retired_no_room r h = sym (retired_tests ∙ stops (check_room room settings_numbers) (Err RetiredSetting ∷ []) r h)
 
-      pub is_retired_lem : check_room room settings_numbers ≡ Good → Refused RetiredSetting ≡ check_retired room s
+      pub is_retired_lem : check_room room settings_numbers ≡ Ok tt → Err RetiredSetting ≡ check_retired room s
       is_retired_lem h =
-          sym (retired_tests ∙ passes (check_room room settings_numbers) (Refused RetiredSetting ∷ []) h ∙ first_alone (Refused RetiredSetting))
+          sym (retired_tests ∙ passes (check_room room settings_numbers) (Err RetiredSetting ∷ []) h ∙ first_alone (Err RetiredSetting))
 
     abbrev pub known_tests : Checked
     known_tests = first_of (check_settings (unretired s) ∷ check_retired room s ∷ [])
 
-    pub known-refused : (r : Refusal) → check_settings (unretired s) ≡ Refused r → Refused r ≡ known_tests
+    pub known-refused : (r : Refusal) → check_settings (unretired s) ≡ Err r → Err r ≡ known_tests
     known-refused r h = sym (stops (check_settings (unretired s)) (check_retired room s ∷ []) r h)
 
-    pub known-good : check_settings (unretired s) ≡ Good → check_retired room s ≡ known_tests
+    pub known-good : check_settings (unretired s) ≡ Ok tt → check_retired room s ≡ known_tests
     known-good h = sym (passes (check_settings (unretired s)) (check_retired room s ∷ []) h ∙ first_alone (check_retired room s))

@@ -1,7 +1,8 @@
 -- The lines of a file as the loops over them meet them, and their check (refusal 5).
 -- Assumes nothing.
 use Prim.Native.Nat.{ℕ, zero, suc, ◌+◌, ◌-◌, ◌*◌, ◌≤◌, ◌<◌}
-use Rattle.std.specs.Prelude.{◌≡◌, refl, true, false, List, [], ◌∷◌, ◌++◌, eqb, length, get_or, drop}
+use Rattle.meaning.specs.Refusals.{Checked}
+use Rattle.std.specs.Prelude.{◌≡◌, refl, true, false, List, [], ◌∷◌, ◌++◌, eqb, length, get_or, drop, Err, Ok}
 use Rattle.std.proofs.Math.Path.{sym, ap}
 use Rattle.std.proofs.Common.{◌∙◌, append-nil, add-one, eq-eqb, ne_eqb, take_all}
 use Rattle.std.proofs.Math.Nat.{sub-zero}
@@ -17,8 +18,6 @@ use Rattle.meaning.specs.ReadFile.{number_in, numbers_in, lines_in, check_lines_
 use Rattle.meaning.specs.declared.line.Entry.{Entry}
 use Rattle.meaning.specs.declared.refusals.Refusal.{Refusal}
 use Rattle.meaning.specs.declared.refusals.Refusal.TheVariants.{BadLine}
-use Rattle.meaning.specs.declared.refusals.Checked.{Checked}
-use Rattle.meaning.specs.declared.refusals.Checked.TheVariants.{Good, Refused}
 use Rattle.laws.specs.TableLaws.{numbers-read, all_append, entries_numbers}
 use Rattle.laws.specs.TestOrder.{first_alone}
 use Rattle.file_fields.specs.FileNumbers.{numbers-count}
@@ -65,7 +64,7 @@ module _ (f : List ℕ) (lines k : ℕ) (n : ℕ) (b : Before) where
   abbrev rest : List Entry
   rest = rows_from f lines (k + 1)
 
-  pub rows-done : lines ≤ k → check_lines n k b (rows_from f lines k) ≡ Good
+  pub rows-done : lines ≤ k → check_lines n k b (rows_from f lines k) ≡ Ok tt
   unfolding check_lines
   rows-done h = rw (rows_end f lines k h)
 
@@ -89,7 +88,7 @@ module _ (f : List ℕ) (lines k : ℕ) (n : ℕ) (b : Before) where
         ∙ pick_true _ _ _ (tested ∙ g)
         ∙ ap (λ (j : ℕ). check_lines n j (line e.start.0 e.reach.0 e.before.0) rest) (sym (add-one k))
 
-    pub row_bad : line_good n b e (eqb (k + 1) lines) ≡ false → check_lines n k b (rows_from f lines k) ≡ Refused (BadLine k)
+    pub row_bad : line_good n b e (eqb (k + 1) lines) ≡ false → check_lines n k b (rows_from f lines k) ≡ Err (BadLine k)
     unfolding check_lines
     row_bad g = ap (check_lines n k b) here ∙ pick-false _ _ _ (tested ∙ g)
 
@@ -129,14 +128,14 @@ reach-last f (suc m) d =
 -- ---- refusal 5 as a whole
 
 module _ (es : List Entry) (n r : ℕ) (q : r ≡ last_reach es) where
-  pub reach_bad : (1 ≤ r → r ≤ 65536 → ⊥) → Refused (BadLine 0) ≡ check_lines_read n es
+  pub reach_bad : (1 ≤ r → r ≤ 65536 → ⊥) → Err (BadLine 0) ≡ check_lines_read n es
   unfolding check_lines_read check_entries
   reach_bad d =
       by_eq (text_length es) n
       (λ e. sym (pick_true _ _ _ (eq-eqb _ _ e) ∙ pick-false _ _ _ (within-not 1 65536 (last_reach es) (λ a b. d (rw q a) (rw q b)))))
       (λ e. sym (pick-false _ _ _ (ne_eqb _ _ e)))
 
-  pub length_bad : (r - 1 ≡ n → ⊥) → Refused (BadLine 0) ≡ check_lines_read n es
+  pub length_bad : (r - 1 ≡ n → ⊥) → Err (BadLine 0) ≡ check_lines_read n es
   unfolding check_lines_read text_length
   length_bad d = sym (pick-false _ _ _ (ne_eqb (last_reach es - 1) n (λ e. d (ap (λ (m : ℕ). m - 1) q ∙ e))))
 
@@ -199,8 +198,8 @@ module _ (n : ℕ) (es : List Entry) where
   abbrev pub text_tests : Checked
   text_tests = first_of (check_length n ∷ check_lines_read n es ∷ [])
 
-  pub text-refused : (r : Refusal) → check_length n ≡ Refused r → Refused r ≡ text_tests
+  pub text-refused : (r : Refusal) → check_length n ≡ Err r → Err r ≡ text_tests
   text-refused r h = sym (stops (check_length n) (check_lines_read n es ∷ []) r h)
 
-  pub text-good : check_length n ≡ Good → check_lines_read n es ≡ text_tests
+  pub text-good : check_length n ≡ Ok tt → check_lines_read n es ≡ text_tests
   text-good h = sym (passes (check_length n) (check_lines_read n es ∷ []) h ∙ first_alone (check_lines_read n es))

@@ -2,7 +2,9 @@
 -- Refusal 1, refusal 2, refusal 3, refusal 5, refusal 8, refusal 9, refusal 11, refusal 12.
 -- Assumes nothing.
 use Prim.Native.Nat.{ℕ, zero, suc, ◌+◌, ◌*◌, ◌≤◌}
-use Rattle.std.specs.Prelude.{◌≡◌, drop}
+use Rattle.meaning.specs.Refusals.{Checked}
+use Rattle.meaning.specs.declared.answers.FileRead.{FileRead}
+use Rattle.std.specs.Prelude.{◌≡◌, drop, Err, Ok, Result}
 use Rattle.std.proofs.Math.Path.{refl, sym, ap}
 use Rattle.std.proofs.Common.{◌∙◌, arith, eq-eqb, ne_eqb}
 use mathlib.Core.List.{List, [], ◌∷◌}
@@ -18,11 +20,7 @@ use Rattle.meaning.specs.Calls.{check_reading, reading_answer, reading_table, ha
 use Rattle.meaning.specs.declared.settings.Settings.{Settings}
 use Rattle.meaning.specs.declared.line.Entry.{Entry}
 use Rattle.meaning.specs.declared.refusals.Refusal.{Refusal}
-use Rattle.meaning.specs.declared.refusals.Refusal.TheVariants.{RetiredSetting}
-use Rattle.meaning.specs.declared.refusals.Checked.{Checked}
-use Rattle.meaning.specs.declared.refusals.Checked.TheVariants.{Good, Refused}
-use Rattle.meaning.specs.declared.answers.FileRead.{FileRead}
-use Rattle.meaning.specs.declared.answers.FileRead.TheVariants as fileread
+use Rattle.meaning.specs.declared.refusals.Refusal.TheVariants.{SettingOutOfRange, UnknownAlignment, TextTooLong, NotUtf8, BadLine, BadEdit, TooSmall, BadField, BadIndex, OldEntry, RetiredSetting}
 use Rattle.laws.specs.TableLaws.{capacity_is}
 use Rattle.laws.specs.TestOrder.{first_alone, first-refused, first_good}
 use Rattle.files.specs.FileLaws.{file-bytes}
@@ -47,21 +45,21 @@ room_tests settings table lines =
     first_of (check_room (length settings) settings_numbers ∷ check_room (capacity_of entry_numbers table) lines ∷ [])
 
 module _ (settings table : List ℕ) (lines : ℕ) where
-  pub rooms_refused : (r : Refusal) → check_room (length settings) settings_numbers ≡ Refused r → Refused r ≡ room_tests settings table lines
+  pub rooms_refused : (r : Refusal) → check_room (length settings) settings_numbers ≡ Err r → Err r ≡ room_tests settings table lines
   rooms_refused r e = sym (stops (check_room (length settings) settings_numbers) (check_room (capacity_of entry_numbers table) lines ∷ []) r e)
 
-  pub rooms_good : check_room (length settings) settings_numbers ≡ Good
+  pub rooms_good : check_room (length settings) settings_numbers ≡ Ok tt
       → check_room (capacity_of entry_numbers table) lines ≡ room_tests settings table lines
   rooms_good e =
       sym (passes (check_room (length settings) settings_numbers) (check_room (capacity_of entry_numbers table) lines ∷ []) e
       ∙ first_alone (check_room (capacity_of entry_numbers table) lines))
 
 module _ (file settings table : List ℕ) where
-  pub fields_refused : (r : Refusal) → check_fields file ≡ Refused r → Refused r ≡ check_reading file settings table
+  pub fields_refused : (r : Refusal) → check_fields file ≡ Err r → Err r ≡ check_reading file settings table
   unfolding check_reading
   fields_refused r e = sym (stops (check_fields file) _ r e)
 
-  pub contents_decide : check_fields file ≡ Good → check_contents file settings table ≡ check_reading file settings table
+  pub contents_decide : check_fields file ≡ Ok tt → check_contents file settings table ≡ check_reading file settings table
   unfolding check_reading check_contents
   contents_decide e = sym (passes (check_fields file) _ e)
 
@@ -77,11 +75,11 @@ module _ (file settings table : List ℕ) where
   abbrev known : Checked
   known = known_tests s (length settings)
 
-  pub known-stops : (r : Refusal) → known ≡ Refused r → Refused r ≡ check_contents file settings table
+  pub known-stops : (r : Refusal) → known ≡ Err r → Err r ≡ check_contents file settings table
   unfolding check_contents
   known-stops r e = sym (first-refused (check_settings (unretired s)) (check_retired (length settings) s) _ r e)
 
-  module _ (k : known ≡ Good) where
+  module _ (k : known ≡ Ok tt) where
     behind-known : check_contents file settings table
         ≡ first_of (check_length n ∷ check_lines_read n es ∷ check_room (length settings) settings_numbers
         ∷ check_room (capacity_of entry_numbers table) (length es) ∷ [])
@@ -99,16 +97,16 @@ module _ (file settings table : List ℕ) where
       told : text_tests n es ≡ text_tests n (lines_in lines (drop lines_at file))
       told = ap (text_tests n) (sym counted)
 
-      pub text-stops : (r : Refusal) → text_tests n (lines_in lines (drop lines_at file)) ≡ Refused r → Refused r ≡ check_contents file settings table
+      pub text-stops : (r : Refusal) → text_tests n (lines_in lines (drop lines_at file)) ≡ Err r → Err r ≡ check_contents file settings table
       text-stops r e = sym (behind-known ∙ first-refused (check_length n) (check_lines_read n es) _ r (told ∙ e))
 
-      pub rooms_decide : text_tests n (lines_in lines (drop lines_at file)) ≡ Good → room_tests settings table lines ≡ check_contents file settings table
+      pub rooms_decide : text_tests n (lines_in lines (drop lines_at file)) ≡ Ok tt → room_tests settings table lines ≡ check_contents file settings table
       rooms_decide e =
           ap (room_tests settings table) (sym many) ∙ sym (behind-known ∙ first_good (check_length n) (check_lines_read n es) _ (told ∙ e))
 
 -- ---- how long a file is whose fields are good
 
-module _ (file : List ℕ) (g : check_fields file ≡ Good) where
+module _ (file : List ℕ) (g : check_fields file ≡ Ok tt) where
   pub file_framed : lines_at + line_bytes * file_lines file + 3 ≡ length file
   unfolding file_bytes
   file_framed = omega (arith, file-bytes file g)
@@ -127,22 +125,22 @@ abbrev pub Room : (file settings : List ℕ) → Type 0
 Room file settings = (length_at ≤ length file) × (settings_numbers ≤ length settings)
 
 abbrev pub HandsOut : Checked → (file settings : List ℕ) → Type 0
-HandsOut Good file settings = Room file settings
-HandsOut (Refused r) file settings = number_of r ≡ 12 → Room file settings
+HandsOut (Ok tt) file settings = Room file settings
+HandsOut (Err r) file settings = number_of r ≡ 12 → Room file settings
 
 module _ (file settings : List ℕ) where
   -- The same of a test that others may follow.
   abbrev Allows : Checked → Type 0
-  Allows Good = Unit {0}
-  Allows (Refused r) = number_of r ≡ 12 → Room file settings
+  Allows (Ok tt) = Unit {0}
+  Allows (Err r) = number_of r ≡ 12 → Room file settings
 
   no_twelve : (m : ℕ) → (m ≡ 12 → ⊥) → m ≡ 12 → Room file settings
   no_twelve m d e = absurd (d e)
 
-  first_hands : (c : Checked) (cs : List Checked) → Allows c → (c ≡ Good → HandsOut (first_of cs) file settings) → HandsOut (first_of (c ∷ cs)) file settings
+  first_hands : (c : Checked) (cs : List Checked) → Allows c → (c ≡ Ok tt → HandsOut (first_of cs) file settings) → HandsOut (first_of (c ∷ cs)) file settings
   unfolding first_of
-  first_hands Good cs a f = f refl
-  first_hands (Refused r) cs a f = a
+  first_hands (Ok tt) cs a f = f refl
+  first_hands (Err r) cs a f = a
 
   end_allows : (at : ℕ) (f : List ℕ) → Allows (check_end at f)
   unfolding check_end
@@ -194,10 +192,10 @@ module _ (file settings : List ℕ) where
 
   -- Refusal 12 is given where there is room alone.
   retired_room : length_at ≤ length file → (c : Checked) → check_room (length settings) settings_numbers ≡ c → Allows c
-      → Allows (first_of (c ∷ Refused RetiredSetting ∷ []))
+      → Allows (first_of (c ∷ Err RetiredSetting ∷ []))
   unfolding first_of
-  retired_room h Good e a = λ o. (h, room-is (length settings) settings_numbers e)
-  retired_room h (Refused r) e a = a
+  retired_room h (Ok tt) e a = λ o. (h, room-is (length settings) settings_numbers e)
+  retired_room h (Err r) e a = a
 
   retired_allows : length_at ≤ length file → (s : Settings) → Allows (check_retired (length settings) s)
   unfolding check_retired
@@ -229,11 +227,11 @@ module _ (file settings : List ℕ) where
 
 -- What is handed out by a check.
 module _ (c : Checked) (new old : List ℕ) where
-  pub handed-good : c ≡ Good → new ≡ handed_out c new old
+  pub handed-good : c ≡ Ok tt → new ≡ handed_out c new old
   unfolding handed_out
   handed-good e = rw e
 
-  module _ (r : Refusal) (e : c ≡ Refused r) where
+  module _ (r : Refusal) (e : c ≡ Err r) where
     pub handed_retired : number_of r ≡ 12 → new ≡ handed_out c new old
     unfolding handed_out
     handed_retired h = rw e (sym (pick_true _ _ _ (eq-eqb _ _ h)))
@@ -242,6 +240,23 @@ module _ (c : Checked) (new old : List ℕ) where
     unfolding handed_out
     handed-none h = rw e (sym (pick-false _ _ _ (ne_eqb _ _ h)))
 
+-- Refusal 12 is that of a retired setting.
+pub retired-number : (r : Refusal) → r ≡ RetiredSetting → number_of r ≡ 12
+retired-number r e = rw e
+
+pub other-number : (r : Refusal) → (r ≡ RetiredSetting → ⊥) → number_of r ≡ 12 → ⊥
+other-number SettingOutOfRange d h = omega (arith, h)
+other-number (UnknownAlignment a) d h = omega (arith, h)
+other-number (TextTooLong n) d h = omega (arith, h)
+other-number (NotUtf8 n) d h = omega (arith, h)
+other-number (BadLine k) d h = omega (arith, h)
+other-number BadEdit d h = omega (arith, h)
+other-number (TooSmall n) d h = omega (arith, h)
+other-number (BadField at) d h = omega (arith, h)
+other-number (BadIndex n) d h = omega (arith, h)
+other-number (OldEntry at) d h = omega (arith, h)
+other-number RetiredSetting d h = d refl
+
 -- ---- the answers
 
 module _ (file settings table : List ℕ) where
@@ -249,7 +264,7 @@ module _ (file settings table : List ℕ) where
   handed = written settings (of_settings (unretired (file_settings file)))
 
   -- What the call answers, and the settings and the table afterwards.
-  abbrev pub Read : FileRead → (after rows : List ℕ) → Type 0
+  abbrev pub Read : Result FileRead Refusal → (after rows : List ℕ) → Type 0
   Read answer after rows =
       (answer ≡ reading_answer file settings table)
       × ((after ≡ reading_settings file settings table) × (rows ≡ reading_table file settings table))
@@ -259,21 +274,21 @@ module _ (file settings table : List ℕ) where
     unfolding reading_settings
     handed-is = a ∙ ap (λ (k : Checked). handed_out k handed settings) q
 
-    pub reading_refused : (r : Refusal) → c ≡ Refused r → Read (fileread.Refused r) after table
+    pub reading_refused : (r : Refusal) → c ≡ Err r → Read (Err r) after table
     unfolding reading_answer reading_table
     reading_refused r e =
-        let o : check_reading file settings table ≡ Refused r = sym q ∙ e in
+        let o : check_reading file settings table ≡ Err r = sym q ∙ e in
         (rw o, (handed-is, rw o))
 
-    module _ (g : c ≡ Good) where
-      all-good : check_reading file settings table ≡ Good
+    module _ (g : c ≡ Ok tt) where
+      all-good : check_reading file settings table ≡ Ok tt
       all-good = sym q ∙ g
 
-      after_fields : (check_fields file ≡ Good) × (check_contents file settings table ≡ Good)
+      after_fields : (check_fields file ≡ Ok tt) × (check_contents file settings table ≡ Ok tt)
       unfolding check_reading check_contents
       after_fields = both-good (check_fields file) _ all-good
 
-      pub fields_good : check_fields file ≡ Good
+      pub fields_good : check_fields file ≡ Ok tt
       fields_good = after_fields.0
 
       pub lines_fit_lem : entry_numbers * file_lines file ≤ length table
@@ -293,11 +308,11 @@ module _ (file settings table : List ℕ) where
           (rw (← m) (room-is (capacity_of entry_numbers table) (length es) f.0))
 
       pub reading_done : (lines bytes : ℕ) → lines ≡ file_lines file → bytes ≡ file_text_length file → (rows : List ℕ)
-          → rows ≡ written table (of_all of_entry (lines_in lines (drop lines_at file))) → Read (fileread.Lines lines bytes) after rows
+          → rows ≡ written table (of_all of_entry (lines_in lines (drop lines_at file))) → Read (Ok (record { lines = lines; bytes = bytes })) after rows
       unfolding reading_answer reading_table file_entries
       reading_done lines bytes l b rows w =
           let m : lines ≡ length (file_entries file) = l ∙ sym (entries_many file) in (
-            rw all-good (λ i. fileread.Lines (m i) (b i)),
+            rw all-good (λ i. Ok (record { lines = m i; bytes = b i })),
             (
               handed-is,
               rw all-good (w ∙ ap (λ (k : ℕ). written table (of_all of_entry (lines_in k (drop lines_at file)))) l),

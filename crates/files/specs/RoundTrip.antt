@@ -1,14 +1,15 @@
 -- What is written reads back the same, and what is read writes back the same bytes, of what the two calls answer.
 -- Refusal 1, refusal 2, refusal 3, refusal 5, refusal 8, refusal 9, refusal 11, refusal 12.
 -- Assumes nothing.
-use Rattle.std.specs.Prelude.{ℕ, zero, suc, ◌*◌, ◌≤◌, ◌≡◌, refl, eqb, drop}
+use Rattle.std.specs.Prelude.{ℕ, zero, suc, ◌*◌, ◌≤◌, ◌≡◌, refl, eqb, drop, Err, Ok}
+use Rattle.meaning.specs.Refusals.{Checked}
 use Rattle.std.proofs.Math.Path.{sym, ap}
 use Rattle.std.proofs.Common.{◌∙◌, subst, arith, length-drop}
 use mathlib.Core.List.{List, [], ◌∷◌}
 use borrow.Author.Tests.{le-leb, eq-eqb, eqb-true}
 use Rattle.std.proofs.Math.ListN.{length}
 use Rattle.basis.specs.Choice.{pick_true}
-use Rattle.meaning.specs.Refusals.{checked_number}
+use Rattle.meaning.specs.Answers.{answer_number}
 use Rattle.meaning.specs.Checks.{first_of, check_settings, check_length, check_room}
 use Rattle.meaning.specs.Table.{entry_numbers, of_entry, of_all, capacity_of, written, entries_in}
 use Rattle.meaning.specs.WellFormed.{text_length, check_entries, check_table}
@@ -18,10 +19,6 @@ use Rattle.meaning.specs.Calls.{written_file, check_writing, writing_answer, wri
 use Rattle.meaning.specs.declared.settings.Settings.{Settings}
 use Rattle.meaning.specs.declared.line.Entry.{Entry}
 use Rattle.meaning.specs.declared.refusals.Refusal.TheVariants.{BadLine, RetiredSetting}
-use Rattle.meaning.specs.declared.refusals.Checked.{Checked}
-use Rattle.meaning.specs.declared.refusals.Checked.TheVariants.{Good, Refused}
-use Rattle.meaning.specs.declared.answers.FileWritten.TheVariants as filed
-use Rattle.meaning.specs.declared.answers.FileRead.TheVariants as fileread
 use Rattle.laws.specs.GoodChecks.{length-good, room-good}
 use Rattle.laws.specs.GoodLines.{good-both}
 use Rattle.laws.specs.TableLaws.{entries_length, entries_numbers, entries_written, written-length, numbers-read, capacity_is}
@@ -47,9 +44,9 @@ lines-words (suc n) t h w = (
 
 -- Settings whose retired setting is off, and a table that is well formed, of numbers of 32 bits as a caller passes them.
 pub record Writable (s : Settings) (table : List ℕ) (lines : ℕ) : Type 0 where
-  pub settings : check_settings s ≡ Good
+  pub settings : check_settings s ≡ Ok tt
   pub off : s.trailing ≡ 0
-  pub whole : check_table lines table ≡ Good
+  pub whole : check_table lines table ≡ Ok tt
   pub settings-words : SettingsWords s
   pub table-words : Words table
 
@@ -60,7 +57,7 @@ module _ (s : Settings) (table : List ℕ) (lines : ℕ) (w : Writable s table l
   abbrev es : List Entry
   es = entries_in lines table
 
-  fields_are : check_fields file ≡ Good
+  fields_are : check_fields file ≡ Ok tt
   unfolding written_file layout_file
   fields_are = file-found s (text_length es) es
 
@@ -82,43 +79,43 @@ module _ (s : Settings) (table : List ℕ) (lines : ℕ) (w : Writable s table l
   same-settings : unretired (file_settings file) ≡ s
   same-settings = ap unretired settings-are ∙ sym (unretired-same s not_on)
 
-  entries_good : check_entries es ≡ Good
+  entries_good : check_entries es ≡ Ok tt
   unfolding check_table
   entries_good = (good-both _ (check_entries es) (BadLine 0) w.whole).1
 
-  lines-good : check_lines_read (text_length es) es ≡ Good
+  lines-good : check_lines_read (text_length es) es ≡ Ok tt
   unfolding check_lines_read
   lines-good = pick_true _ _ _ (eq-eqb (text_length es) (text_length es) refl) ∙ entries_good
 
   module _ (settings other : List ℕ) (room : settings_numbers ≤ length settings) (holds : entry_numbers * lines ≤ length other) where
     -- Each test in its turn refuses nothing.
-    settings-good : check_settings (unretired (file_settings file)) ≡ Good
+    settings-good : check_settings (unretired (file_settings file)) ≡ Ok tt
     settings-good = ap check_settings same-settings ∙ w.settings
 
-    retired_good : check_retired (length settings) (file_settings file) ≡ Good
+    retired_good : check_retired (length settings) (file_settings file) ≡ Ok tt
     retired_good = ap (check_retired (length settings)) settings-are ∙ sym (not_retired s (length settings) not_on)
 
-    text-good : check_length (file_text_length file) ≡ Good
+    text-good : check_length (file_text_length file) ≡ Ok tt
     text-good = ap check_length length-is ∙ length-good (text_length es) (table-text lines table w.whole)
 
-    read-good : check_lines_read (file_text_length file) (file_entries file) ≡ Good
+    read-good : check_lines_read (file_text_length file) (file_entries file) ≡ Ok tt
     read-good = (λ i. check_lines_read (length-is i) (entries_are i)) ∙ lines-good
 
     many : length (file_entries file) ≡ lines
     many = ap length entries_are ∙ entries_length lines table
 
-    table_fits : check_room (capacity_of entry_numbers other) (length (file_entries file)) ≡ Good
+    table_fits : check_room (capacity_of entry_numbers other) (length (file_entries file)) ≡ Ok tt
     table_fits = ap (check_room (capacity_of entry_numbers other)) many ∙ room-good lines other holds
 
-    pub reads-good : check_reading file settings other ≡ Good
+    pub reads-good : check_reading file settings other ≡ Ok tt
     unfolding check_reading first_of
     reads-good =
         rw (fields_are, settings-good, retired_good, text-good, read-good, sym (has_room (length settings) settings_numbers room), table_fits)
 
     -- Read on any machine, the file gives as many lines, the same text length, the same table and the same settings.
-    pub read_answer : reading_answer file settings other ≡ fileread.Lines lines (text_length es)
+    pub read_answer : reading_answer file settings other ≡ Ok (record { lines = lines; bytes = text_length es })
     unfolding reading_answer
-    read_answer = rw reads-good (λ i. fileread.Lines (many i) (length-is i))
+    read_answer = rw reads-good (λ i. Ok (record { lines = many i; bytes = length-is i }))
 
     pub read_table : reading_table file settings other ≡ written other (of_all of_entry es)
     unfolding reading_table
@@ -134,21 +131,21 @@ module _ (s : Settings) (table : List ℕ) (lines : ℕ) (w : Writable s table l
     unfolding reading_settings handed_out
     read-settings = rw reads-good (ap (λ (s : Settings). written settings (of_settings s)) same-settings)
 
-retired_off : (s : Settings) (room : ℕ) → check_retired room s ≡ Good → s.trailing ≡ 1 → ⊥
+retired_off : (s : Settings) (room : ℕ) → check_retired room s ≡ Ok tt → s.trailing ≡ 1 → ⊥
 unfolding check_retired first_of
 retired_off s room g e = never (check_room room settings_numbers) (sym (pick_true _ _ _ (eq-eqb _ _ e)) ∙ g)
   where
-    never : (c : Checked) → first_of (c ∷ Refused RetiredSetting ∷ []) ≡ Good → ⊥
-    never Good o = omega (arith, ap checked_number o)
-    never (Refused r) o = let z : ◌≡◌ {A = ℕ} 0 1 = cc in omega arith
+    never : (c : Checked) → first_of (c ∷ Err RetiredSetting ∷ []) ≡ Ok tt → ⊥
+    never (Ok tt) o = omega (arith, ap answer_number o)
+    never (Err r) o = let z : ◌≡◌ {A = ℕ} 0 1 = cc in omega arith
 
 -- ---- what is read writes back the same bytes
 
-module _ (file settings table : List ℕ) (g : check_reading file settings table ≡ Good) (b : Bytes file) where
+module _ (file settings table : List ℕ) (g : check_reading file settings table ≡ Ok tt) (b : Bytes file) where
   abbrev lines-read : ℕ
   lines-read = file_lines file
 
-  found : (check_fields file ≡ Good) × (check_lines_read (file_text_length file) (file_entries file) ≡ Good)
+  found : (check_fields file ≡ Ok tt) × (check_lines_read (file_text_length file) (file_entries file) ≡ Ok tt)
   unfolding check_reading
   found =
       let a = both-good (check_fields file) _ g in
@@ -186,7 +183,7 @@ module _ (file settings table : List ℕ) (g : check_reading file settings table
       let c = both-good (check_retired (length settings) (file_settings file)) _ b.1 in
       sym (unretired-same (file_settings file) (retired_off (file_settings file) (length settings) c.0))
 
-  pub settings-back : check_settings (file_settings file) ≡ Good
+  pub settings-back : check_settings (file_settings file) ≡ Ok tt
   unfolding check_reading
   settings-back =
       let a = both-good (check_fields file) _ g in
@@ -198,7 +195,7 @@ module _ (file settings table : List ℕ) (g : check_reading file settings table
   long : length (of_all of_entry (file_entries file)) ≤ length table
   long = omega (arith, entries_numbers (file_entries file), entries_many file, fits)
 
-  pub table-back : check_table (file_lines file) (reading_table file settings table) ≡ Good
+  pub table-back : check_table (file_lines file) (reading_table file settings table) ≡ Ok tt
   unfolding check_table reading_table check_lines_read
   table-back =
       let after = written table (of_all of_entry (file_entries file)) in
@@ -209,13 +206,13 @@ module _ (file settings table : List ℕ) (g : check_reading file settings table
       ∙ (good-both (eqb (text_length (file_entries file)) (file_text_length file)) (check_entries (file_entries file)) (BadLine 0) found.1).1)
 
   module _ (out : List ℕ) (h : length file ≤ length out) where
-    writes_good : check_writing (file_settings file) (reading_table file settings table) (file_lines file) out ≡ Good
+    writes_good : check_writing (file_settings file) (reading_table file settings table) (file_lines file) out ≡ Ok tt
     unfolding check_writing first_of
     writes_good = rw (settings-back, table-back, writes_back, sym (has_room (length out) (length file) h))
 
-    pub back-answer : writing_answer (file_settings file) (reading_table file settings table) (file_lines file) out ≡ filed.Bytes (length file)
+    pub back-answer : writing_answer (file_settings file) (reading_table file settings table) (file_lines file) out ≡ Ok (length file)
     unfolding writing_answer
-    back-answer = rw writes_good (ap (λ (l : List ℕ). filed.Bytes (length l)) writes_back)
+    back-answer = rw writes_good (ap (λ (l : List ℕ). Ok (length l)) writes_back)
 
     pub back-file : writing_file (file_settings file) (reading_table file settings table) (file_lines file) out ≡ written out file
     unfolding writing_file

@@ -1,23 +1,22 @@
 -- The tests of a call, one after the other: what one refuses, and what is known where none does.
 -- Assumes nothing.
-use Rattle.std.specs.Prelude.{ℕ, ◌≡◌, refl, List, ◌∷◌}
+use Rattle.std.specs.Prelude.{ℕ, ◌≡◌, refl, List, ◌∷◌, Err, Ok}
+use Rattle.meaning.specs.Refusals.{Checked}
 use Rattle.std.proofs.Common.{arith}
 use Rattle.meaning.specs.Checks.{first_of}
 use Rattle.meaning.specs.declared.refusals.Refusal.{Refusal}
-use Rattle.meaning.specs.declared.refusals.Checked.{Checked}
-use Rattle.meaning.specs.declared.refusals.Checked.TheVariants.{Good, Refused}
 
 module _ (c : Checked) (cs : List Checked) where
-  pub stops : (r : Refusal) → c ≡ Refused r → first_of (c ∷ cs) ≡ Refused r
+  pub stops : (r : Refusal) → c ≡ Err r → first_of (c ∷ cs) ≡ Err r
   unfolding first_of
   stops r e = rw e
 
-  pub passes : c ≡ Good → first_of (c ∷ cs) ≡ first_of cs
+  pub passes : c ≡ Ok tt → first_of (c ∷ cs) ≡ first_of cs
   unfolding first_of
   passes e = rw e
 
 -- Where nothing is refused, the first test refuses nothing, and neither do the others.
-pub both-good : (c : Checked) (cs : List Checked) → first_of (c ∷ cs) ≡ Good → (c ≡ Good) × (first_of cs ≡ Good)
+pub both-good : (c : Checked) (cs : List Checked) → first_of (c ∷ cs) ≡ Ok tt → (c ≡ Ok tt) × (first_of cs ≡ Ok tt)
 unfolding first_of
-both-good Good cs e = (refl, e)
-both-good (Refused r) cs e = absurd (let z : ◌≡◌ {A = ℕ} 0 1 = cc in omega arith)
+both-good (Ok tt) cs e = (refl, e)
+both-good (Err r) cs e = absurd (let z : ◌≡◌ {A = ℕ} 0 1 = cc in omega arith)

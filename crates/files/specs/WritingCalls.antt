@@ -1,7 +1,8 @@
 -- The tests of a layout that is to be written, and what is answered in each case.
 -- Refusal 1, refusal 2, refusal 5, refusal 8.
 -- Assumes nothing.
-use Rattle.std.specs.Prelude.{ℕ, ◌+◌, ◌*◌, ◌≤◌, ◌≡◌, List, [], ◌∷◌, length}
+use Rattle.std.specs.Prelude.{ℕ, ◌+◌, ◌*◌, ◌≤◌, ◌≡◌, List, [], ◌∷◌, length, Err, Ok, Result}
+use Rattle.meaning.specs.Refusals.{Checked}
 use Rattle.std.proofs.Math.Path.{sym, ap}
 use Rattle.std.proofs.Common.{◌∙◌, arith}
 use Rattle.meaning.specs.Checks.{first_of, check_settings, check_room}
@@ -11,10 +12,6 @@ use Rattle.meaning.specs.LayoutFile.{frame_bytes, line_bytes, layout_file, file_
 use Rattle.meaning.specs.Calls.{written_file, check_writing, writing_answer, writing_file}
 use Rattle.meaning.specs.declared.settings.Settings.{Settings}
 use Rattle.meaning.specs.declared.refusals.Refusal.{Refusal}
-use Rattle.meaning.specs.declared.refusals.Checked.{Checked}
-use Rattle.meaning.specs.declared.refusals.Checked.TheVariants.{Good, Refused}
-use Rattle.meaning.specs.declared.answers.FileWritten.{FileWritten}
-use Rattle.meaning.specs.declared.answers.FileWritten.TheVariants as filed
 use Rattle.laws.specs.TableLaws.{entries_length}
 use Rattle.laws.specs.TestOrder.{first_alone}
 use Rattle.files.specs.FileLaws.{file-length}
@@ -36,18 +33,18 @@ module _ (s : Settings) (table : List ℕ) (lines : ℕ) where
     abbrev room : Checked
     room = check_room (length file) (length (written_file s table lines))
 
-    pub settings-refused : (r : Refusal) → check_settings s ≡ Refused r → Refused r ≡ check_writing s table lines file
+    pub settings-refused : (r : Refusal) → check_settings s ≡ Err r → Err r ≡ check_writing s table lines file
     unfolding check_writing
     settings-refused r e = sym (stops (check_settings s) (check_table lines table ∷ room ∷ []) r e)
 
-    table_decides : check_settings s ≡ Good → check_writing s table lines file ≡ first_of (check_table lines table ∷ room ∷ [])
+    table_decides : check_settings s ≡ Ok tt → check_writing s table lines file ≡ first_of (check_table lines table ∷ room ∷ [])
     unfolding check_writing
     table_decides e = passes (check_settings s) (check_table lines table ∷ room ∷ []) e
 
-    pub table-refused : check_settings s ≡ Good → (r : Refusal) → check_table lines table ≡ Refused r → Refused r ≡ check_writing s table lines file
+    pub table-refused : check_settings s ≡ Ok tt → (r : Refusal) → check_table lines table ≡ Err r → Err r ≡ check_writing s table lines file
     table-refused g r e = sym (table_decides g ∙ stops (check_table lines table) (room ∷ []) r e)
 
-    pub room_decides : check_settings s ≡ Good → check_table lines table ≡ Good → (c : Checked)
+    pub room_decides : check_settings s ≡ Ok tt → check_table lines table ≡ Ok tt → (c : Checked)
         → c ≡ check_room (length file) (frame_bytes + line_bytes * lines) → c ≡ check_writing s table lines file
     room_decides g h c e =
         e ∙ ap (check_room (length file)) (sym written-bytes)
@@ -55,19 +52,19 @@ module _ (s : Settings) (table : List ℕ) (lines : ℕ) where
 
     -- ---- the answers
 
-    abbrev pub Written : FileWritten → List ℕ → Type 0
+    abbrev pub Written : Result ℕ Refusal → List ℕ → Type 0
     Written answer after = (answer ≡ writing_answer s table lines file) × (after ≡ writing_file s table lines file)
 
-    pub writing_refused : (r : Refusal) → check_writing s table lines file ≡ Refused r → Written (filed.Refused r) file
+    pub writing_refused : (r : Refusal) → check_writing s table lines file ≡ Err r → Written (Err r) file
     unfolding writing_answer writing_file
     writing_refused r e = (rw e, rw e)
 
-    module _ (g : check_writing s table lines file ≡ Good) where
-      after-settings : (check_settings s ≡ Good) × (first_of (check_table lines table ∷ room ∷ []) ≡ Good)
+    module _ (g : check_writing s table lines file ≡ Ok tt) where
+      after-settings : (check_settings s ≡ Ok tt) × (first_of (check_table lines table ∷ room ∷ []) ≡ Ok tt)
       unfolding check_writing
       after-settings = both-good (check_settings s) (check_table lines table ∷ room ∷ []) g
 
-      after_table : (check_table lines table ≡ Good) × (first_of (room ∷ []) ≡ Good)
+      after_table : (check_table lines table ≡ Ok tt) × (first_of (room ∷ []) ≡ Ok tt)
       after_table = both-good (check_table lines table) (room ∷ []) after-settings.1
 
       pub file-holds : file_bytes lines ≤ length file
@@ -82,7 +79,7 @@ module _ (s : Settings) (table : List ℕ) (lines : ℕ) where
       few-lines = table-count lines table after_table.0
 
       pub writing_done : (after : List ℕ) → after ≡ put_numbers file 0 (layout_file s (entries_in lines table))
-          → Written (filed.Bytes (frame_bytes + line_bytes * lines)) after
+          → Written (Ok (frame_bytes + line_bytes * lines)) after
       unfolding writing_answer writing_file written_file
       writing_done after e =
-          (rw g (ap filed.Bytes (sym written-bytes)), rw g (e ∙ put_written file (layout_file s (entries_in lines table))))
+          (rw g (ap Ok (sym written-bytes)), rw g (e ∙ put_written file (layout_file s (entries_in lines table))))

@@ -12,7 +12,7 @@ use look::one_line::{LineBefore, entry_good};
 use meaning::counts::Offset;
 use meaning::fields::{HEADER_BYTES, LENGTH_AT, LINE_BYTES, LINES_AT, NUMBER_BYTES};
 use meaning::line::Entry;
-use meaning::refusals::{Checked, Refusal};
+use meaning::refusals::Refusal;
 use meaning::sizes::{ENTRY_NUMBERS, REACH, REACH_LIMIT};
 use table::entries::read_entry;
 
@@ -39,41 +39,39 @@ fn last_reach(file: &[u8], lines: usize) -> u32
 }
 
 // The first bad line of a text of so many bytes.
-fn check_each(file: &[u8], lines: usize, bytes: Offset) -> Checked
+fn check_each(file: &[u8], lines: usize, bytes: Offset) -> Result<(), Refusal>
     requires { (lines_at + line_bytes * lines ≤ length file.now) × (bytes.0 ≤ text_limit) }
     ensures { result ≡ check_lines bytes.0 0 nothing (lines_in lines (drop lines_at file.now)) }
 {
-    let mut prior = LineBefore::Nothing;
-    let mut k: usize = 0;
-    while k < lines {
+    let mut prior = None;
+    for k in 0..lines {
         let e = entry_at(file, LINES_AT + LINE_BYTES * k + HEADER_BYTES);
-        let next = k + 1;
-        if !entry_good(bytes, prior, e, next == lines) {
-            return Checked::Refused(Refusal::BadLine(k as u64));
+        if !entry_good(bytes, prior, e, k + 1 == lines) {
+            return Err(Refusal::BadLine(k as u64));
         }
-        let start = e.start;
-        let reach = e.reach;
-        let before = e.before;
-        prior = LineBefore::Line(start, reach, before);
-        k = next;
+        prior = Some(LineBefore {
+            start: e.start,
+            reach: e.reach,
+            before: e.before,
+        });
     }
-    Checked::Good
+    Ok(())
 }
 
 // Refusal 5: no line, lines of a text of another length, or the first bad line.
-fn check_rows(file: &[u8], lines: usize, bytes: u32) -> Checked
+fn check_rows(file: &[u8], lines: usize, bytes: u32) -> Result<(), Refusal>
     requires { lines_at + line_bytes * lines ≤ length file.now }
     ensures { result ≡ check_lines_read bytes (lines_in lines (drop lines_at file.now)) }
 {
     let reach = last_reach(file, lines);
     if reach < 1 {
-        return Checked::Refused(Refusal::BadLine(0));
+        return Err(Refusal::BadLine(0));
     }
     if REACH_LIMIT < reach {
-        return Checked::Refused(Refusal::BadLine(0));
+        return Err(Refusal::BadLine(0));
     }
     if reach - 1 != bytes {
-        return Checked::Refused(Refusal::BadLine(0));
+        return Err(Refusal::BadLine(0));
     }
     check_each(file, lines, Offset(bytes))
 }
@@ -87,14 +85,12 @@ pub fn file_length(file: &[u8]) -> u32
 }
 
 // Refusal 3 and refusal 5.
-pub fn check_lines_read(file: &[u8], lines: usize) -> Checked
+pub fn check_lines_read(file: &[u8], lines: usize) -> Result<(), Refusal>
     requires { lines_at + line_bytes * lines ≤ length file.now }
     ensures { result ≡ first_of (check_length (file_text_length file.now) ∷ check_lines_read (file_text_length file.now) (lines_in lines (drop lines_at file.now)) ∷ []) }
 {
     let bytes = file_length(file);
-    if let Checked::Refused(r) = check_length(bytes as u64) {
-        return Checked::Refused(r);
-    }
+    check_length(bytes as u64)?;
     check_rows(file, lines, bytes)
 }
 
@@ -103,10 +99,8 @@ pub fn write_table(file: &[u8], lines: usize, table: &mut [u32])
     requires { (lines_at + line_bytes * lines ≤ length file.now) × (entry_numbers * lines ≤ length table.old) }
     ensures { table.new ≡ written table.old (of_all of_entry (lines_in lines (drop lines_at file.now))) }
 {
-    let mut k: usize = 0;
-    while k < lines {
+    for k in 0..lines {
         let at = LINES_AT + LINE_BYTES * k + HEADER_BYTES;
         read_numbers(file, at, ENTRY_NUMBERS, table, ENTRY_NUMBERS * k);
-        k += 1;
     }
 }

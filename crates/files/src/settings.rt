@@ -11,7 +11,7 @@ use file_fields::numbers::read_numbers;
 use file_fields::signs::{bits_of, signed_of};
 use meaning::counts::Pixels;
 use meaning::fields::HEADER_BYTES;
-use meaning::refusals::{Checked, Refusal};
+use meaning::refusals::Refusal;
 use meaning::settings::Settings;
 use meaning::sizes::SETTINGS_NUMBERS;
 
@@ -83,38 +83,22 @@ pub fn unretire(s: Settings) -> Settings
 }
 
 // Refusal 12, and refusal 8 in its place where there is no room for the settings that go with it.
-fn check_retired(room: usize, s: Settings) -> Checked
+fn check_retired(room: usize, s: Settings) -> Result<(), Refusal>
     ensures { result ≡ check_retired room s }
 {
     if s.trailing != 1 {
-        return Checked::Good;
+        return Ok(());
     }
-    if let Checked::Refused(r) = check_room(room, SETTINGS_NUMBERS) {
-        return Checked::Refused(r);
-    }
-    Checked::Refused(Refusal::RetiredSetting)
+    check_room(room, SETTINGS_NUMBERS)?;
+    Err(Refusal::RetiredSetting)
 }
 
 // The tests of a file's settings.
-pub fn check_known(room: usize, s: Settings) -> Checked
+pub fn check_known(room: usize, s: Settings) -> Result<(), Refusal>
     ensures { result ≡ first_of (check_settings (unretired s) ∷ check_retired room s ∷ []) }
 {
-    if let Checked::Refused(r) = check_settings(unretire(s)) {
-        return Checked::Refused(r);
-    }
+    check_settings(unretire(s))?;
     check_retired(room, s)
-}
-
-// Numbers put to a buffer's front.
-fn put_front(numbers: &[u32], buffer: &mut [u32])
-    requires { length numbers.now ≤ length buffer.old }
-    ensures { buffer.new ≡ written buffer.old numbers.now }
-{
-    let mut i: usize = 0;
-    while i < numbers.len() {
-        buffer[i] = numbers[i];
-        i += 1;
-    }
 }
 
 // The settings of a file, to a buffer.
@@ -123,5 +107,5 @@ pub fn hand_out(file: &[u8], settings: &mut [u32])
     ensures { settings.new ≡ written settings.old (of_settings (unretired (file_settings file.now))) }
 {
     let numbers = numbers_of(unretire(file_settings(file)));
-    put_front(&numbers, settings);
+    settings[..SETTINGS_NUMBERS].copy_from_slice(&numbers);
 }

@@ -11,12 +11,11 @@ use checks::settings::check_settings;
 use file_fields::fields::write_header;
 use file_fields::numbers::{write_number, write_numbers};
 use look::well_formed::{check_table, text_length};
-use meaning::answers::FileWritten;
 use meaning::fields::{
     END_TAG, FRAME_BYTES, HEADER_BYTES, LENGTH_AT, LENGTH_TAG, LINE_BYTES, LINE_SIZE, LINE_TAG,
     LINES_AT, NUMBER_BYTES, SETTINGS_SIZE, SETTINGS_TAG,
 };
-use meaning::refusals::Checked;
+use meaning::refusals::Refusal;
 use meaning::settings::Settings;
 use meaning::sizes::{ENTRY_NUMBERS, SETTINGS_NUMBERS};
 
@@ -58,10 +57,8 @@ fn write_lines(file: &mut [u8], table: &[u32], lines: usize)
     requires { (lines_at + line_bytes * lines ≤ length file.old) × (entry_numbers * lines ≤ length table.now) }
     ensures { file.new ≡ put_numbers file.old lines_at (of_all line_field (entries_in lines table.now)) }
 {
-    let mut k: usize = 0;
-    while k < lines {
+    for k in 0..lines {
         write_line(file, LINES_AT + LINE_BYTES * k, table, k);
-        k += 1;
     }
 }
 
@@ -86,29 +83,20 @@ fn write_fields(s: Settings, table: &[u32], lines: usize, file: &mut [u8])
 }
 
 // Refusal 1, refusal 2, refusal 5 and refusal 8, where there is room for so many bytes.
-fn check_writing(s: Settings, table: &[u32], lines: usize, file: &[u8]) -> Checked
+fn check_writing(s: Settings, table: &[u32], lines: usize, file: &[u8]) -> Result<(), Refusal>
     ensures { result ≡ check_writing s table.now lines file.now }
 {
-    let settings = check_settings(s);
-    if let Checked::Refused(refusal) = settings {
-        return Checked::Refused(refusal);
-    }
-    let checked = check_table(table, lines);
-    if let Checked::Refused(refusal) = checked {
-        return Checked::Refused(refusal);
-    }
+    check_settings(s)?;
+    check_table(table, lines)?;
     check_room(file.len(), FRAME_BYTES + LINE_BYTES * lines)
 }
 
 // How many bytes were written; or refusal 1, 2, 5 or 8, of which none writes anything.
-pub fn write_file(s: Settings, table: &[u32], lines: usize, file: &mut [u8]) -> FileWritten
+pub fn write_file(s: Settings, table: &[u32], lines: usize, file: &mut [u8]) -> Result<u64, Refusal>
     ensures value { result ≡ writing_answer s table.now lines file.old }
     ensures file_after { file.new ≡ writing_file s table.now lines file.old }
 {
-    let checked = check_writing(s, table, lines, file);
-    if let Checked::Refused(refusal) = checked {
-        return FileWritten::Refused(refusal);
-    }
+    check_writing(s, table, lines, file)?;
     write_fields(s, table, lines, file);
-    FileWritten::Bytes((FRAME_BYTES + LINE_BYTES * lines) as u64)
+    Ok((FRAME_BYTES + LINE_BYTES * lines) as u64)
 }

@@ -1,6 +1,8 @@
 -- A line laid at a start that is taken is the line that the definition has there (rule 10).
 -- Assumes nothing.
-use Rattle.std.specs.Prelude.{ℕ, ◌+◌, ◌-◌, ◌≤◌, ◌<◌, ◌≡◌, refl, true, false, List, ◌++◌, take, drop}
+use Rattle.std.specs.Prelude.{ℕ, ◌+◌, ◌-◌, ◌≤◌, ◌<◌, ◌≡◌, refl, true, false, List, ◌++◌, take, drop, Ok, Result}
+use Rattle.meaning.specs.declared.answers.NextLine.{NextLine}
+use Rattle.meaning.specs.declared.refusals.Refusal.{Refusal}
 use native.Mathlib.Omega.{arith}
 use Rattle.std.proofs.Math.Path.{sym, ap}
 use Rattle.std.proofs.Common.{◌∙◌}
@@ -20,9 +22,6 @@ use Rattle.meaning.specs.declared.settings.Settings.{Settings}
 use Rattle.meaning.specs.declared.counts.Offset.{Offset}
 use Rattle.meaning.specs.declared.line.Rest.{Rest}
 use Rattle.meaning.specs.declared.line.Entry.{Entry}
-use Rattle.meaning.specs.declared.refusals.Checked.TheVariants.{Good}
-use Rattle.meaning.specs.declared.answers.Framed.{Framed}
-use Rattle.meaning.specs.declared.answers.Framed.TheVariants.{Line}
 use Rattle.laws.specs.LinesTake.{chars-within}
 use Rattle.laws.specs.PartChars.{part-size, cut-within}
 use Rattle.laws.specs.Between.{chars-here, boundary-here}
@@ -46,14 +45,14 @@ use Rattle.frames.specs.Resuming.{resumed_in, good_start, good-above, good-end, 
 
 -- What is known where nothing is refused.
 pub record Frameable (s : Settings) (t : List ℕ) (start : ℕ) (r : Rest) : Type 0 where
-  pub settings : check_settings s ≡ Good
-  pub text : check_text t ≡ Good
-  pub utf8 : check_utf8 t ≡ Good
+  pub settings : check_settings s ≡ Ok tt
+  pub text : check_text t ≡ Ok tt
+  pub utf8 : check_utf8 t ≡ Ok tt
   pub stand : stand_good (decode_all t) start r ≡ true
 
 -- What the call answers there.
-unfoldable pub line_laid : Settings → List ℕ → (start : ℕ) → Rest → Framed
-line_laid s t start r = let o = one_line s (decode_all t) start r in Line (record { 0 = o.next }) o.rest
+unfoldable pub line_laid : Settings → List ℕ → (start : ℕ) → Rest → NextLine
+line_laid s t start r = let o = one_line s (decode_all t) start r in record { start = record { 0 = o.next }; rest = o.rest }
 
 module _ {s : Settings} {t : List ℕ} {start : ℕ} {r : Rest} (f : Frameable s t start r) where
   abbrev pub whole : List ℕ
@@ -159,12 +158,12 @@ module _ {s : Settings} {t : List ℕ} {start : ℕ} {r : Rest} (f : Frameable s
           ap (λ (y : LaidRow). y.rest) laid ∙ ap (λ (l : LineAt). l.rest) line-there,
         )
 
-        pub answer-laid : (after : Rest) → after ≡ rest_in row.rest → Line row.next after ≡ line_laid s t start r
+        pub answer-laid : (after : Rest) → after ≡ rest_in row.rest → ◌≡◌ {A = NextLine} (record { start = row.next; rest = after }) (line_laid s t start r)
         unfolding line_laid
         answer-laid after e =
             let next : row.next.0 ≡ (one_line s whole start r).next = ap (λ (o : Offset). o.0) row_is.1 ∙ next-laid in
             let rest : after ≡ (one_line s whole start r).rest = e ∙ ap rest_in row_is.2 ∙ rest-laid in
-            λ i. Line (record { 0 = next i }) (rest i)
+            λ i. record { start = record { 0 = next i }; rest = rest i }
 
         pub entry-put : (entry : List ℕ) → put_numbers entry 0 (of_entry row.entry) ≡ written entry (of_entry (one_line s whole start r).entry)
         unfolding put_numbers written

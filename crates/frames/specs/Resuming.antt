@@ -1,6 +1,6 @@
 -- A start and a rest that are taken: what the tests find, and what a line there resumes (refusal 5, rule 9).
 -- Assumes nothing.
-use Rattle.std.specs.Prelude.{ℕ, ◌+◌, ◌-◌, ◌≤◌, ◌<◌, ◌≡◌, true, false, ◌&&◌, List, leb, length, drop}
+use Rattle.std.specs.Prelude.{ℕ, ◌+◌, ◌-◌, ◌≤◌, ◌<◌, ◌≡◌, true, false, ◌&&◌, List, leb, length, drop, Ok}
 use Rattle.std.proofs.Common.{arith, ◌∙◌, lt-ltb, le-ltb, ltb-true, leb-true, length-drop}
 use Rattle.std.proofs.Math.Dec.{ltb}
 use Rattle.basis.specs.Choice.{pick, and_true}
@@ -9,7 +9,6 @@ use Rattle.utf8.specs.Places.{boundary}
 use Rattle.meaning.specs.Checks.{check_utf8}
 use Rattle.meaning.specs.Edit.{chars_in}
 use Rattle.meaning.specs.Frames.{is_none, onward, rest_lies, stand_good}
-use Rattle.meaning.specs.declared.refusals.Checked.TheVariants.{Good}
 use Rattle.meaning.specs.declared.line.Rest.{Rest}
 use Rattle.laws.specs.LinesTake.{chars-within}
 use Rattle.laws.specs.PartChars.{part-size}
@@ -23,7 +22,7 @@ resumed_in cs start r =
     pick (is_none r) nothing_resumed (record { end = r.end; chars = record { 0 = chars_in (onward cs start) (r.end.0 - start) }; count = r.count })
 
 -- No more characters than the text has bytes.
-pub resumed-few : (t : List ℕ) (start n : ℕ) → check_utf8 t ≡ Good → chars_in (onward (decode_all t) start) n ≤ length t
+pub resumed-few : (t : List ℕ) (start n : ℕ) → check_utf8 t ≡ Ok tt → chars_in (onward (decode_all t) start) n ≤ length t
 unfolding onward
 resumed-few t start n good =
     let cs = decode_all t in

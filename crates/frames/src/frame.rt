@@ -8,10 +8,10 @@ ghost use Rattle.frames.specs.Framing.{Frameable, line_laid};
 
 use crate::opening::check_open;
 use crate::place::{chars_before, resumed_in, stand_good};
-use meaning::answers::Framed;
+use meaning::answers::NextLine;
 use meaning::counts::{Chars, Offset};
 use meaning::line::Rest;
-use meaning::refusals::{Checked, Refusal};
+use meaning::refusals::Refusal;
 use meaning::settings::Settings;
 use meaning::sizes::ENTRY_NUMBERS;
 use placing::entry::rest_in;
@@ -20,7 +20,7 @@ use stands::stand::at_one;
 use table::entries::write_entry;
 
 // The line at a start that is good, written to the front of a slice that has room for it.
-fn lay_here(s: Settings, text: &[u8], start: u32, rest: Rest, entry: &mut [u32]) -> Framed
+fn lay_here(s: Settings, text: &[u8], start: u32, rest: Rest, entry: &mut [u32]) -> NextLine
     requires { Frameable s text.now start rest × (entry_numbers ≤ length entry.old) }
     ensures value { result ≡ line_laid s text.now start rest }
     ensures after { entry.new ≡ written entry.old (of_entry (one_line s (decode_all text.now) start rest).entry) }
@@ -31,26 +31,31 @@ fn lay_here(s: Settings, text: &[u8], start: u32, rest: Rest, entry: &mut [u32])
     let row = lay_row(text, s, stand);
     let e = row.entry;
     write_entry(entry, 0, e);
-    let next = row.next;
     let left = row.rest;
     let after = rest_in(left);
-    Framed::Line(next, after)
+    NextLine {
+        start: row.next,
+        rest: after,
+    }
 }
 
 // Its entry's numbers, where the next line starts and what that one resumes; or a refusal, of which none writes anything.
-pub fn one_line(s: Settings, text: &[u8], start: u32, rest: Rest, entry: &mut [u32]) -> Framed
+pub fn one_line(
+    s: Settings,
+    text: &[u8],
+    start: u32,
+    rest: Rest,
+    entry: &mut [u32],
+) -> Result<NextLine, Refusal>
     ensures value { result ≡ frame_answer s text.now start rest entry.old }
     ensures after { entry.new ≡ frame_entry s text.now start rest entry.old }
 {
-    let checked = check_open(s, text);
-    if let Checked::Refused(refusal) = checked {
-        return Framed::Refused(refusal);
-    }
+    check_open(s, text)?;
     if !stand_good(text, start, rest) {
-        return Framed::Refused(Refusal::BadLine(0));
+        return Err(Refusal::BadLine(0));
     }
     if entry.len() / ENTRY_NUMBERS < 1 {
-        return Framed::Refused(Refusal::TooSmall(1));
+        return Err(Refusal::TooSmall(1));
     }
-    lay_here(s, text, start, rest, entry)
+    Ok(lay_here(s, text, start, rest, entry))
 }

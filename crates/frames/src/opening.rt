@@ -4,28 +4,21 @@ ghost use Rattle.meaning.specs.Calls.{check_open, open_answer};
 
 use checks::settings::check_settings;
 use checks::text::check_text;
-use meaning::answers::Opened;
-use meaning::refusals::Checked;
+use meaning::refusals::Refusal;
 use meaning::settings::Settings;
 
 // Refusals 1 to 4, in their order.
-pub fn check_open(s: Settings, text: &[u8]) -> Checked
+pub fn check_open(s: Settings, text: &[u8]) -> Result<(), Refusal>
     ensures { result ≡ check_open s text.now }
 {
-    let settings = check_settings(s);
-    if let Checked::Refused(refusal) = settings {
-        return Checked::Refused(refusal);
-    }
+    check_settings(s)?;
     check_text(text)
 }
 
 // Where the first line starts, or a refusal.
-pub fn open_text(s: Settings, text: &[u8]) -> Opened
+pub fn open_text(s: Settings, text: &[u8]) -> Result<u64, Refusal>
     ensures { result ≡ open_answer s text.now }
 {
-    let checked = check_open(s, text);
-    if let Checked::Refused(refusal) = checked {
-        return Opened::Refused(refusal);
-    }
-    Opened::At(0)
+    check_open(s, text)?;
+    Ok(0)
 }

@@ -1,11 +1,10 @@
 // Where a line may be laid, and what it resumes there (refusal 5).
-ghost use Rattle.std.specs.Prelude.{◌+◌, ◌-◌, ◌≤◌, ◌≡◌, true, length};
+ghost use Rattle.std.specs.Prelude.{◌+◌, ◌-◌, ◌≤◌, ◌≡◌, true, length, Ok};
 ghost use Rattle.utf8.specs.Decoding.{decode_all};
 ghost use Rattle.utf8.specs.Places.{boundary};
 ghost use Rattle.meaning.specs.Checks.{text_limit, check_utf8};
 ghost use Rattle.meaning.specs.Edit.{chars_in};
 ghost use Rattle.meaning.specs.Frames.{is_none, onward, rest_lies, stand_good};
-ghost use Rattle.meaning.specs.declared.refusals.Checked.TheVariants.{Good};
 ghost use Rattle.frames.specs.Resuming.{resumed_in};
 
 use meaning::counts::Chars;
@@ -23,7 +22,7 @@ fn is_none(rest: Rest) -> bool
 
 // How many characters stand before a boundary.
 pub fn chars_before(text: &[u8], start: usize) -> usize
-    requires { (check_utf8 text.now ≡ Good) × (boundary (decode_all text.now) start ≡ true) }
+    requires { (check_utf8 text.now ≡ Ok tt) × (boundary (decode_all text.now) start ≡ true) }
     ensures { result ≡ chars_in (decode_all text.now) start }
 {
     if start == 0 {
@@ -34,7 +33,7 @@ pub fn chars_before(text: &[u8], start: usize) -> usize
 
 // How many characters a stretch between two boundaries has.
 fn chars_between(text: &[u8], from: usize, to: usize) -> usize
-    requires { (check_utf8 text.now ≡ Good) × (boundary (decode_all text.now) from ≡ true) × (boundary (decode_all text.now) to ≡ true) × (from ≤ to) }
+    requires { (check_utf8 text.now ≡ Ok tt) × (boundary (decode_all text.now) from ≡ true) × (boundary (decode_all text.now) to ≡ true) × (from ≤ to) }
     ensures { result ≡ chars_in (onward (decode_all text.now) from) (to - from) }
 {
     count_chars(&text[from..to])
@@ -42,7 +41,7 @@ fn chars_between(text: &[u8], from: usize, to: usize) -> usize
 
 // A rest that a line may resume there.
 fn rest_lies(text: &[u8], start: u32, rest: Rest) -> bool
-    requires { (check_utf8 text.now ≡ Good) × (boundary (decode_all text.now) start ≡ true) }
+    requires { (check_utf8 text.now ≡ Ok tt) × (boundary (decode_all text.now) start ≡ true) }
     ensures { result ≡ rest_lies (decode_all text.now) start rest }
 {
     let end = rest.end.0;
@@ -57,7 +56,7 @@ fn rest_lies(text: &[u8], start: u32, rest: Rest) -> bool
 
 // A start and a rest that a line may have.
 pub fn stand_good(text: &[u8], start: u32, rest: Rest) -> bool
-    requires { check_utf8 text.now ≡ Good }
+    requires { check_utf8 text.now ≡ Ok tt }
     ensures { result ≡ stand_good (decode_all text.now) start rest }
 {
     if !is_boundary(text, start as usize) {
@@ -71,18 +70,16 @@ pub fn stand_good(text: &[u8], start: u32, rest: Rest) -> bool
 
 // What a line there resumes.
 pub fn resumed_in(text: &[u8], start: u32, rest: Rest) -> Resumed
-    requires { (check_utf8 text.now ≡ Good) × (length text.now ≤ text_limit) × (stand_good (decode_all text.now) start rest ≡ true) }
+    requires { (check_utf8 text.now ≡ Ok tt) × (length text.now ≤ text_limit) × (stand_good (decode_all text.now) start rest ≡ true) }
     ensures { result ≡ resumed_in (decode_all text.now) start rest }
 {
     if is_none(rest) {
         return nothing_left();
     }
-    let end = rest.end;
-    let count = rest.count;
-    let chars = chars_between(text, start as usize, end.0 as usize);
+    let chars = chars_between(text, start as usize, rest.end.0 as usize);
     Resumed {
-        end,
+        end: rest.end,
         chars: Chars(chars as u32),
-        count,
+        count: rest.count,
     }
 }

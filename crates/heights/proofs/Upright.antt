@@ -2,7 +2,7 @@
 -- Assumes nothing.
 use Prim.Native.Nat.{ℕ, ◌+◌, ◌≤◌}
 use mathlib.Core.Path.{◌≡◌, refl, sym, ap, ◌∙◌}
-use mathlib.Core.Bool.{true, false, ◌&&◌}
+use mathlib.Core.Bool.{◌&&◌}
 use mathlib.Core.List.{List}
 use native.Mathlib.Omega.{arith}
 use borrow.Author.Tests.{eq-eqb, ne_eqb}
@@ -12,14 +12,13 @@ use lib.Signed.{mag, le_z, quot_z}
 use mir.Val.{SFits, to_z, of_z}
 use mir.Syntax.{w32}
 use mir.Facts.{to_z-of_z}
-use Rattle.basis.specs.Choice.{pick, pick_true, pick-false, pick_cases}
+use Rattle.basis.specs.Choice.{pick, pick_cases}
 use Rattle.meaning.specs.Table.{entries_in}
 use Rattle.meaning.specs.Height.{height_of, offset_of, added_before, y_of, shows_at}
 use Rattle.meaning.specs.declared.settings.Settings.{Settings}
 use Rattle.meaning.specs.declared.line.Entry.{Entry}
-use Rattle.meaning.specs.declared.answers.LineY.TheVariants.{Shows, Hidden}
 use Rattle.heights.specs.GoodSettings.{Measures}
-use Rattle.heights.specs.Heights.{first_y, shown_at, added_alone}
+use Rattle.heights.specs.Heights.{first_y, added_alone}
 use Rattle.heights.proofs.Signs.{mag_sum, mag_less, mag_half, fits, kept, widened}
 
 module _ (s : Settings) (t : ℕ) where
@@ -86,15 +85,6 @@ module _ (s : Settings) (m : Measures s) where
     pub shows-is : le_z (to_z w32 (of_z w32 top)) (to_z w32 (of_z w32 y)) && le_z (to_z w32 (of_z w32 y)) (to_z w32 lowest) ≡ shows_at s y
     unfolding shows_at
     shows-is = rw (lowest-is, top_kept, to_z-of_z f)
-
-    -- A number that is passed on is read again as it is.
-    pub shown : shows_at s (to_z w32 (of_z w32 y)) ≡ true → Shows (to_z w32 (of_z w32 y)) ≡ shown_at s y
-    unfolding shown_at
-    shown e = rw (to_z-of_z f) (sym (pick_true _ _ _ (rw (to_z-of_z f) at e)))
-
-    pub hidden : shows_at s (to_z w32 (of_z w32 y)) ≡ false → Hidden (to_z w32 (of_z w32 y)) ≡ shown_at s y
-    unfolding shown_at
-    hidden e = rw (to_z-of_z f) (sym (pick-false _ _ _ (rw (to_z-of_z f) at e)))
 
 -- The box top and an offset.
 module _ (top offset : ℤ) (p : mag top ≤ 4096) (q : mag offset ≤ 600000000) where

@@ -1,6 +1,7 @@
 -- The checks before a height is made, what they give, and what is answered in each case.
 -- Assumes nothing.
-use Rattle.std.specs.Prelude.{ℕ, ◌+◌, ◌-◌, ◌*◌, ◌≤◌, ◌<◌, ◌≡◌, refl, List, length}
+use Rattle.std.specs.Prelude.{ℕ, ◌+◌, ◌-◌, ◌*◌, ◌≤◌, ◌<◌, ◌≡◌, refl, List, length, Err, None, Ok, Some}
+use Rattle.meaning.specs.Refusals.{Checked}
 use Rattle.std.proofs.Common.{sym, ap, ◌∙◌, arith}
 use borrow.Author.Tests.{lt-ltb, le-ltb}
 use Rattle.basis.specs.Choice.{pick}
@@ -12,10 +13,6 @@ use Rattle.meaning.specs.Calls.{check_height, height_answer, y_answer}
 use Rattle.meaning.specs.declared.settings.Settings.{Settings}
 use Rattle.meaning.specs.declared.line.Entry.{Entry}
 use Rattle.meaning.specs.declared.refusals.Refusal.{Refusal}
-use Rattle.meaning.specs.declared.refusals.Checked.{Checked}
-use Rattle.meaning.specs.declared.refusals.Checked.TheVariants.{Good, Refused}
-use Rattle.meaning.specs.declared.answers.Height.TheVariants as height
-use Rattle.meaning.specs.declared.answers.LineY.TheVariants as liney
 use Rattle.laws.specs.TableLaws.{entries_length}
 use Rattle.laws.specs.TestOrder.{first_alone}
 use Rattle.look.specs.GoodTable.{table-room, table-count}
@@ -23,35 +20,35 @@ use Rattle.heights.specs.GoodSettings.{Measures, measures}
 use Rattle.heights.specs.Heights.{not_counted, shown_at, height-counted, added-small}
 
 module _ (s : Settings) (t : List ℕ) (lines : ℕ) where
-  pub height-checked : check_settings s ≡ Good → check_height s t lines ≡ check_table lines t
+  pub height-checked : check_settings s ≡ Ok tt → check_height s t lines ≡ check_table lines t
   unfolding check_height first_of
   height-checked h = rw h (first_alone (check_table lines t))
 
-  pub height_bad : (r : Refusal) → check_settings s ≡ Refused r → check_height s t lines ≡ Refused r
+  pub height_bad : (r : Refusal) → check_settings s ≡ Err r → check_height s t lines ≡ Err r
   unfolding check_height first_of
   height_bad r h = rw h
 
-  pub height-settings : check_height s t lines ≡ Good → check_settings s ≡ Good
+  pub height-settings : check_height s t lines ≡ Ok tt → check_settings s ≡ Ok tt
   height-settings h = known (check_settings s) refl
     where
-      known : (c : Checked) → check_settings s ≡ c → check_settings s ≡ Good
-      known Good e = e
-      known (Refused r) e = absurd (let f = height_bad r e in let z : ◌≡◌ {A = ℕ} 0 1 = cc in omega arith)
+      known : (c : Checked) → check_settings s ≡ c → check_settings s ≡ Ok tt
+      known (Ok tt) e = e
+      known (Err r) e = absurd (let f = height_bad r e in let z : ◌≡◌ {A = ℕ} 0 1 = cc in omega arith)
 
   -- A refusal is answered as it is.
-  pub height-refused : (r : Refusal) → check_height s t lines ≡ Refused r → height.Refused r ≡ height_answer s t lines
+  pub height-refused : (r : Refusal) → check_height s t lines ≡ Err r → Err r ≡ height_answer s t lines
   unfolding height_answer
   height-refused r h = rw h
 
-  pub y-refused : (r : Refusal) (k : ℕ) → check_height s t lines ≡ Refused r → liney.Refused r ≡ y_answer s t lines k
+  pub y-refused : (r : Refusal) (k : ℕ) → check_height s t lines ≡ Err r → Err r ≡ y_answer s t lines k
   unfolding y_answer
   y-refused r k h = rw h
 
-  module _ (g : check_height s t lines ≡ Good) where
+  module _ (g : check_height s t lines ≡ Ok tt) where
     abbrev es : List Entry
     es = entries_in lines t
 
-    pub height-table : check_table lines t ≡ Good
+    pub height-table : check_table lines t ≡ Ok tt
     height-table = sym (height-checked (height-settings g)) ∙ g
 
     pub height-measures : Measures s
@@ -79,15 +76,15 @@ module _ (s : Settings) (t : List ℕ) (lines : ℕ) where
     height-small = omega (arith, height-is, little_added lines (omega arith), height-measures.base)
 
     -- The answers.
-    pub height-answered : height.Pixels (height_of s es) ≡ height_answer s t lines
+    pub height-answered : Ok (height_of s es) ≡ height_answer s t lines
     unfolding height_answer
     height-answered = rw g
 
     module _ (k : ℕ) where
-      pub no_line : lines ≤ k → liney.NoLine ≡ y_answer s t lines k
+      pub no_line : lines ≤ k → Ok None ≡ y_answer s t lines k
       unfolding y_answer pick
       no_line h = rw (g, le-ltb _ _ h)
 
-      pub y-answered : k < lines → shown_at s (y_of s k es) ≡ y_answer s t lines k
+      pub y-answered : k < lines → Ok (Some (shown_at s (y_of s k es))) ≡ y_answer s t lines k
       unfolding y_answer shown_at pick
       y-answered h = rw (g, lt-ltb _ _ h)

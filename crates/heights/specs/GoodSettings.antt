@@ -1,6 +1,6 @@
 -- How large the settings can be that heights are made of, if the settings are in range.
 -- Assumes nothing.
-use Rattle.std.specs.Prelude.{◌≤◌, ◌≡◌, true, ◌&&◌, ℤ, pos, negsuc}
+use Rattle.std.specs.Prelude.{◌≤◌, ◌≡◌, true, ◌&&◌, ℤ, pos, negsuc, Err, Ok}
 use Rattle.std.proofs.Common.{arith}
 use borrow.Author.Tests.{leb-true}
 use Rattle.std.proofs.Math.Dec.{leb}
@@ -11,7 +11,6 @@ use Rattle.meaning.specs.Settings.{top_in_range, sizes_in_range, in_range, is_sw
 use Rattle.meaning.specs.Checks.{check_settings}
 use Rattle.meaning.specs.declared.settings.Settings.{Settings}
 use Rattle.meaning.specs.declared.refusals.Refusal.TheVariants.{SettingOutOfRange, UnknownAlignment}
-use Rattle.meaning.specs.declared.refusals.Checked.TheVariants.{Good, Refused}
 use Rattle.laws.specs.GoodLines.{good-both}
 
 pub record Measures (s : Settings) : Type 0 where
@@ -26,14 +25,14 @@ unfolding top_in_range
 top-near (pos n) e = leb-true n 4096 e
 top-near (negsuc n) e = omega (arith, leb-true n 4095 (and_true (leb n 4095) true e).0)
 
-module _ (s : Settings) (h : check_settings s ≡ Good) where
+module _ (s : Settings) (h : check_settings s ≡ Ok tt) where
   in_range_lem : in_range s ≡ true
   unfolding check_settings
   in_range_lem =
       (good-both (in_range s)
       (pick (known_alignment s.alignment)
-      (pick (known_vertical s.vertical) Good (Refused (UnknownAlignment s.vertical)))
-      (Refused (UnknownAlignment s.alignment)))
+      (pick (known_vertical s.vertical) (Ok tt) (Err (UnknownAlignment s.vertical)))
+      (Err (UnknownAlignment s.alignment)))
       SettingOutOfRange h).0
 
   pub measures : Measures s

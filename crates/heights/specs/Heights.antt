@@ -1,6 +1,7 @@
 -- Rule 11 as sums over the lines: the height is what all line ends add, less the one LineBreak that it leaves out.
 -- Assumes nothing.
 use Prim.Native.Nat.{ℕ, zero, suc, ◌+◌, ◌*◌, ◌≤◌, ◌<◌}
+use Rattle.meaning.specs.declared.answers.LineY.{LineY}
 use Rattle.std.specs.Prelude.{◌≡◌, Bool, true, ◌&&◌, ℤ, ◌+ℤ◌, length, get_or, drop}
 use Rattle.std.proofs.Math.Path.{refl}
 use mathlib.Core.List.{List, [], ◌∷◌}
@@ -12,8 +13,6 @@ use Rattle.meaning.specs.Table.{entry_numbers, entry_in, entries_in}
 use Rattle.meaning.specs.Height.{end_adds, height_adds, height_from, height_of, offset_of, added_before, shows_at}
 use Rattle.meaning.specs.declared.settings.Settings.{Settings}
 use Rattle.meaning.specs.declared.line.Entry.{Entry}
-use Rattle.meaning.specs.declared.answers.LineY.{LineY}
-use Rattle.meaning.specs.declared.answers.LineY.TheVariants.{Shows, Hidden}
 use Rattle.heights.specs.GoodSettings.{Measures}
 
 -- What the height leaves out: the spacing of a LineBreak (3) before a last line that starts at the text's end.
@@ -29,7 +28,7 @@ first_y s es = s.top +ℤ offset_of s (height_of s es)
 
 -- A line at y, and whether it shows.
 unfoldable pub shown_at : Settings → ℤ → LineY
-shown_at s y = pick (shows_at s y) (Shows y) (Hidden y)
+shown_at s y = record { y = y; shows = shows_at s y }
 
 module _ (s : Settings) where
   ending_break : (ending : ℕ) (b : Bool) → eqb ending 3 && b ≡ true → end_adds s ending ≡ s.spacing.0

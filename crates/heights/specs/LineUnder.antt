@@ -1,7 +1,7 @@
 -- The line under a y, by rule 11: found in the index of its lines, it is the last with y at most the given one, and of lines that are
 -- joined by CarriageReturn, which share a y, the last.
 -- Assumes nothing.
-use Rattle.std.specs.Prelude.{ℕ, zero, suc, ◌+◌, ◌<◌, ◌≡◌, true, false, List, [], ◌∷◌, ℤ, ◌+ℤ◌, length}
+use Rattle.std.specs.Prelude.{ℕ, zero, suc, ◌+◌, ◌<◌, ◌≡◌, true, false, List, [], ◌∷◌, ℤ, ◌+ℤ◌, length, None, Option, Some}
 use Rattle.std.proofs.Common.{sym, ◌∙◌, arith}
 use Rattle.std.proofs.Math.Path.{ap}
 use Rattle.std.proofs.lemmas.Bool.{false≢true}
@@ -12,9 +12,6 @@ use Rattle.meaning.specs.Height.{end_adds, height_of, offset_of, added_before, y
 use Rattle.meaning.specs.YIndex.{index_of, find_in}
 use Rattle.meaning.specs.declared.settings.Settings.{Settings}
 use Rattle.meaning.specs.declared.line.Entry.{Entry}
-use Rattle.meaning.specs.declared.answers.FoundLine.{FoundLine}
-use Rattle.meaning.specs.declared.answers.FoundLine.TheVariants.{Line, NoLine}
-use Rattle.meaning.specs.declared.answers.FoundLine.TheVariants as found
 use Rattle.laws.specs.Indexes.{index-length, index_at}
 use Rattle.laws.specs.FoundLines.{Says, find_says}
 
@@ -50,14 +47,13 @@ module _ (s : Settings) (es : List Entry) where
       pub after : (j : ℕ) → k < j → j < length es → le_z (y_of s j es) y ≡ false
       pub last-joined : suc k < length es → ending_of es k ≡ 1 → ⊥
 
-    -- What the line found in the index of these lines says of them; nothing is refused there.
-    abbrev pub SaysOfLines : FoundLine → Type 0
-    SaysOfLines (Line k) = UnderFinger k
-    SaysOfLines NoLine = (j : ℕ) → j < length es → le_z (y_of s j es) y ≡ false
-    SaysOfLines (found.Refused r) = ⊥
+    -- What the line found in the index of these lines says of them.
+    abbrev pub SaysOfLines : Option ℕ → Type 0
+    SaysOfLines (Some k) = UnderFinger k
+    SaysOfLines None = (j : ℕ) → j < length es → le_z (y_of s j es) y ≡ false
 
-    of_lines : (f : FoundLine) → Says y (index_of s es) f → SaysOfLines f
-    of_lines (Line k) l = record { within = inside; under = at; after = after; last-joined = λ h e. false≢true (sym (after (suc k) (omega arith) h) ∙ ap (λ (z : ℤ). le_z z y) (joined-lines k inside e) ∙ at) }
+    of_lines : (f : Option ℕ) → Says y (index_of s es) f → SaysOfLines f
+    of_lines (Some k) l = record { within = inside; under = at; after = after; last-joined = λ h e. false≢true (sym (after (suc k) (omega arith) h) ∙ ap (λ (z : ℤ). le_z z y) (joined-lines k inside e) ∙ at) }
       where
         inside : k < length es
         inside = omega (arith, l.within, index-length s es)
@@ -67,8 +63,7 @@ module _ (s : Settings) (es : List Entry) where
 
         after : (j : ℕ) → k < j → j < length es → le_z (y_of s j es) y ≡ false
         after j p h = ap (λ (z : ℤ). le_z z y) (sym (index_at s es j h)) ∙ l.after j p (omega (arith, index-length s es))
-    of_lines NoLine a = λ j h. ap (λ (z : ℤ). le_z z y) (sym (index_at s es j h)) ∙ a j (omega (arith, index-length s es))
-    of_lines (found.Refused r) z = absurd z
+    of_lines None a = λ j h. ap (λ (z : ℤ). le_z z y) (sym (index_at s es j h)) ∙ a j (omega (arith, index-length s es))
 
     pub found-line : SaysOfLines (find_in y (index_of s es))
     found-line = of_lines (find_in y (index_of s es)) (find_says y (index_of s es))

@@ -30,10 +30,8 @@ pub fn added_before(s: Settings, table: &[u32], k: usize) -> u32
     ensures { result ≡ added_before s k (entries_in k table.now) }
 {
     let mut sum: u32 = 0;
-    let mut i: usize = 0;
-    while i < k {
+    for i in 0..k {
         sum += end_adds(s, table[ENTRY_NUMBERS * i + ENDING]);
-        i += 1;
     }
     sum
 }

@@ -26,9 +26,8 @@ fn shows(s: Settings, y: i32) -> bool
     requires { Measures s }
     ensures { result ≡ shows_at s y }
 {
-    let top = s.top;
-    let lowest = top + s.height.0 as i32 - s.base.0 as i32;
-    (top <= y) & (y <= lowest)
+    let lowest = s.top + s.height.0 as i32 - s.base.0 as i32;
+    (s.top <= y) & (y <= lowest)
 }
 
 // A line at y, and whether it shows.
@@ -36,8 +35,8 @@ pub fn shown_at(s: Settings, y: i32) -> LineY
     requires { Measures s }
     ensures { result ≡ shown_at s y }
 {
-    if shows(s, y) {
-        return LineY::Shows(y);
+    LineY {
+        y,
+        shows: shows(s, y),
     }
-    LineY::Hidden(y)
 }

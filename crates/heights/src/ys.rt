@@ -1,9 +1,8 @@
 // Rule 11: the ys of lines, one after the other, as an index holds them.
-ghost use Rattle.std.specs.Prelude.{◌≤◌, ◌≡◌, length};
+ghost use Rattle.std.specs.Prelude.{◌≤◌, ◌≡◌, length, Ok};
 ghost use Rattle.meaning.specs.Table.{entries_in};
 ghost use Rattle.meaning.specs.YIndex.{index_of, written_from};
 ghost use Rattle.meaning.specs.Calls.{check_height};
-ghost use Rattle.meaning.specs.declared.refusals.Checked.TheVariants.{Good};
 
 use crate::height::first_y;
 use crate::spacing::{added_before, end_adds};
@@ -12,7 +11,7 @@ use meaning::sizes::{ENDING, ENTRY_NUMBERS};
 
 // The ys of the lines from line `from` on. Entries before it are kept, and so is what lies past the last line.
 pub fn write_ys(s: Settings, table: &[u32], lines: usize, from: usize, index: &mut [i32])
-    requires { (check_height s table.now lines ≡ Good) × (lines ≤ length index.old) }
+    requires { (check_height s table.now lines ≡ Ok tt) × (lines ≤ length index.old) }
     ensures { index.new ≡ written_from from index.old (index_of s (entries_in lines table.now)) }
 {
     if lines <= from {
@@ -20,11 +19,8 @@ pub fn write_ys(s: Settings, table: &[u32], lines: usize, from: usize, index: &m
     }
     let first = first_y(s, table, lines);
     let mut added = added_before(s, table, from);
-    let mut k: usize = from;
-    while k < lines {
-        let y = first + added as i32;
-        index[k] = y;
+    for k in from..lines {
+        index[k] = first + added as i32;
         added += end_adds(s, table[ENTRY_NUMBERS * k + ENDING]);
-        k += 1;
     }
 }

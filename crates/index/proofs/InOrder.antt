@@ -1,6 +1,8 @@
 -- The check of an index, y by y (refusal 10).
 -- Assumes nothing.
 use Prim.Native.Nat.{ℕ, ◌+◌, ◌-◌, ◌≤◌, ◌<◌}
+use Rattle.std.specs.Prelude.{Err, Ok}
+use Rattle.meaning.specs.Refusals.{Checked}
 use mathlib.Core.Path.{◌≡◌, refl, sym, ◌∙◌}
 use mathlib.Core.Bool.{Bool, true, false, not}
 use mathlib.Core.List.{List, [], ◌∷◌}
@@ -14,8 +16,6 @@ use lib.Signed.{lt_z, le_z}
 use Rattle.basis.specs.Choice.{pick, pick_true, pick-false}
 use Rattle.meaning.specs.YIndex.{check_rising, check_ys, check_index}
 use Rattle.meaning.specs.declared.refusals.Refusal.TheVariants.{BadIndex}
-use Rattle.meaning.specs.declared.refusals.Checked.{Checked}
-use Rattle.meaning.specs.declared.refusals.Checked.TheVariants.{Good, Refused}
 use Rattle.laws.specs.SignedOrder.{lt_not_le}
 use Rattle.laws.specs.Indexes.{y_at}
 
@@ -32,7 +32,7 @@ module _ (ys : List ℤ) (k : ℕ) where
   abbrev next : Checked
   next = checked_from ys (k + 1)
 
-  turn : k < length ys → checked_from ys k ≡ pick (le_z (y_at ys (k - 1)) (y_at ys k)) next (Refused (BadIndex k))
+  turn : k < length ys → checked_from ys k ≡ pick (le_z (y_at ys (k - 1)) (y_at ys k)) next (Err (BadIndex k))
   unfolding check_rising
   turn h =
       let e : k + 1 - 1 ≡ k = omega arith in
@@ -55,10 +55,10 @@ module _ (ys : List ℤ) (k : ℕ) where
   pub order-on : k < length ys → lt_z (y_at ys k) (y_at ys (k - 1)) ≡ false → checked_from ys k ≡ checked_from ys (k + 1)
   order-on h e = turn h ∙ pick_true _ _ _ (not_lower e)
 
-  pub order_bad : k < length ys → lt_z (y_at ys k) (y_at ys (k - 1)) ≡ true → checked_from ys k ≡ Refused (BadIndex k)
+  pub order_bad : k < length ys → lt_z (y_at ys k) (y_at ys (k - 1)) ≡ true → checked_from ys k ≡ Err (BadIndex k)
   order_bad h e = turn h ∙ pick-false _ _ _ (lower e)
 
-  pub order-end : length ys ≤ k → checked_from ys k ≡ Good
+  pub order-end : length ys ≤ k → checked_from ys k ≡ Ok tt
   unfolding check_rising
   order-end h = rw (drop_of_length-le ys h)
 
@@ -69,6 +69,6 @@ module _ (lines : ℕ) (ys : List ℤ) where
   unfolding check_index
   length-right e = sym (pick_true _ _ _ (eq-eqb _ _ e))
 
-  pub length_wrong : (length ys ≡ lines → ⊥) → Refused (BadIndex (length ys)) ≡ check_index lines ys
+  pub length_wrong : (length ys ≡ lines → ⊥) → Err (BadIndex (length ys)) ≡ check_index lines ys
   unfolding check_index
   length_wrong d = sym (pick-false _ _ _ (ne_eqb _ _ d))

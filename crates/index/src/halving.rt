@@ -1,14 +1,13 @@
 // The search for the last line with y at most a given one, by a recursion: the stretch of lines is halved until one line is left.
-ghost use Rattle.std.specs.Prelude.{◌≡◌};
+ghost use Rattle.std.specs.Prelude.{◌≡◌, Some};
 ghost use Rattle.meaning.specs.YIndex.{find_in};
-ghost use Rattle.meaning.specs.declared.answers.FoundLine.TheVariants.{Line};
 ghost use Rattle.index.specs.Stretch.{Stretch};
 
 // That line, which is one of those from `low` on and before `high`. A table has at most 65,536 lines, so there are at most 17 calls
 // within one another.
 pub fn last_under(index: &[i32], low: usize, high: usize, y: i32) -> usize
     requires { Stretch y index.now low high }
-    ensures { Line result ≡ find_in y index.now }
+    ensures { Some result ≡ find_in y index.now }
 {
     if high - low == 1 {
         return low;

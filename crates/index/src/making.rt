@@ -5,22 +5,17 @@ ghost use Rattle.meaning.specs.Calls.{check_indexing, index_answer, index_from, 
 
 use heights::height::check_height;
 use heights::ys::write_ys;
-use meaning::answers::Indexed;
-use meaning::refusals::{Checked, Refusal};
+use meaning::refusals::Refusal;
 use meaning::settings::Settings;
 
-fn check_indexing(s: Settings, table: &[u32], lines: usize, room: usize) -> Checked
+fn check_indexing(s: Settings, table: &[u32], lines: usize, room: usize) -> Result<(), Refusal>
     ensures { result ≡ check_indexing s table.now lines room }
 {
-    match check_height(s, table, lines) {
-        Checked::Good => {
-            if room < lines {
-                return Checked::Refused(Refusal::TooSmall(lines as u64));
-            }
-            Checked::Good
-        }
-        Checked::Refused(r) => Checked::Refused(r),
+    check_height(s, table, lines)?;
+    if room < lines {
+        return Err(Refusal::TooSmall(lines as u64));
     }
+    Ok(())
 }
 
 // How many entries are kept where this line is the first affected one.
@@ -34,21 +29,28 @@ fn kept_before(s: Settings, first: usize) -> usize
 }
 
 // The index, but for the entries of the first lines, of which so many are kept.
-fn make_from(s: Settings, table: &[u32], lines: usize, kept: usize, index: &mut [i32]) -> Indexed
+fn make_from(
+    s: Settings,
+    table: &[u32],
+    lines: usize,
+    kept: usize,
+    index: &mut [i32],
+) -> Result<u64, Refusal>
     ensures value { result ≡ index_answer s table.now lines index.old }
     ensures index_after { index.new ≡ index_from kept s table.now lines index.old }
 {
-    match check_indexing(s, table, lines, index.len()) {
-        Checked::Good => {
-            write_ys(s, table, lines, kept, index);
-            Indexed::Lines(lines as u64)
-        }
-        Checked::Refused(r) => Indexed::Refused(r),
-    }
+    check_indexing(s, table, lines, index.len())?;
+    write_ys(s, table, lines, kept, index);
+    Ok(lines as u64)
 }
 
 // The y of every line.
-pub fn make_index(s: Settings, table: &[u32], lines: usize, index: &mut [i32]) -> Indexed
+pub fn make_index(
+    s: Settings,
+    table: &[u32],
+    lines: usize,
+    index: &mut [i32],
+) -> Result<u64, Refusal>
     ensures value { result ≡ index_answer s table.now lines index.old }
     ensures index_after { index.new ≡ index_after s table.now lines index.old }
 {
@@ -62,7 +64,7 @@ pub fn make_index_again(
     lines: usize,
     first: usize,
     index: &mut [i32],
-) -> Indexed
+) -> Result<u64, Refusal>
     ensures value { result ≡ index_answer s table.now lines index.old }
     ensures index_after { index.new ≡ index_again_after s table.now lines first index.old }
 {

@@ -27,14 +27,13 @@ pub fn put_one(
     requires { (pen.next ≤ 1000000000) × (pen.x.0 + width < 4294967296) × (from ≤ 65535) × (to ≤ 65535) }
     ensures { sheet events.new result ≡ drawn_on (sheet events.old pen) (drawn kind from to count width ∷ []) }
 {
-    let x = pen.x;
     let e = Event {
         kind,
         start: Offset(from as u32),
         end: Offset(to as u32),
         count: Chars(count),
         width: Pixels(width),
-        x,
+        x: pen.x,
     };
     put_event(events, pen.next, e);
     Pen {

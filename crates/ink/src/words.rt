@@ -52,11 +52,10 @@ fn add_char(events: &mut [u32], w: Stretch, c: u32, len: u32, glyph: u32) -> Str
     requires { FineStretch w × (w.at + len ≤ 65535) × (len ≡ bytes c) × (glyph ≤ 64) }
     ensures { Passed events.old events.new w result c len glyph }
 {
-    let pen = w.pen;
     let spaces = w.spaces;
     let end = w.at + len as usize;
     if is_glue(c) {
-        let closed = close_stretch(events, pen, w.from, w.at, w.wide, end, spaces);
+        let closed = close_stretch(events, w.pen, w.from, w.at, w.wide, end, spaces);
         let after = spaces_after(spaces, 1);
         return Stretch {
             pen: closed,
@@ -67,7 +66,7 @@ fn add_char(events: &mut [u32], w: Stretch, c: u32, len: u32, glyph: u32) -> Str
         };
     }
     Stretch {
-        pen,
+        pen: w.pen,
         spaces,
         from: w.from,
         at: end,
@@ -80,8 +79,7 @@ fn last_stretch(events: &mut [u32], w: Stretch) -> Pen
     requires { FineStretch w }
     ensures { sheet events.new result ≡ drawn_on (sheet events.old w.pen) (drawn Printed w.from w.at 0 w.wide ∷ []) }
 {
-    let pen = w.pen;
-    put_one(events, pen, EventKind::Printed, w.from, w.at, 0, w.wide)
+    put_one(events, w.pen, EventKind::Printed, w.from, w.at, 0, w.wide)
 }
 
 // The events of a printed word: the n characters from an offset on, or as many as there are.

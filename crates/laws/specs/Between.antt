@@ -1,6 +1,6 @@
 -- A text of bytes from a character boundary on: its characters, and how many of them lie before another boundary (refusal 5).
 -- Assumes nothing.
-use Rattle.std.specs.Prelude.{ℕ, zero, suc, ◌+◌, ◌-◌, ◌≤◌, ◌≡◌, true, length}
+use Rattle.std.specs.Prelude.{ℕ, zero, suc, ◌+◌, ◌-◌, ◌≤◌, ◌≡◌, true, length, Ok}
 use Rattle.std.proofs.Common.{arith, ◌∙◌, ne_eqb, le-ltb, take-append-drop}
 use Rattle.std.proofs.Math.Path.{sym, ap}
 use mathlib.Core.List.{List, [], ◌∷◌, ◌++◌}
@@ -17,7 +17,6 @@ use Rattle.utf8.specs.Boundaries.{boundary-is, count-text}
 use Rattle.meaning.specs.Checks.{check_utf8}
 use Rattle.meaning.specs.Edit.{chars_in}
 use Rattle.meaning.specs.Frames.{onward}
-use Rattle.meaning.specs.declared.refusals.Checked.TheVariants.{Good}
 use Rattle.laws.specs.PartChars.{scalars-take, cs, encoded, cut-size}
 use Rattle.laws.specs.LinesTake.{chars-within}
 use Rattle.laws.specs.Suffixes.{chars_in-take}
@@ -38,7 +37,7 @@ scalars-drop zero xs h = h
 scalars-drop (suc k) [] h = tt
 scalars-drop (suc k) (x ∷ xs) h = scalars-drop k xs h.1
 
-module _ (t : List ℕ) (good : check_utf8 t ≡ Good) (from : ℕ) (at : boundary (decode_all t) from ≡ true) where
+module _ (t : List ℕ) (good : check_utf8 t ≡ Ok tt) (from : ℕ) (at : boundary (decode_all t) from ≡ true) where
   abbrev k : ℕ
   k = chars_in (cs t good) from
 

@@ -1,6 +1,7 @@
 -- What the check of lines says of each line, where it finds none that is bad (refusal 5).
 -- Assumes nothing.
-use Rattle.std.specs.Prelude.{ℕ, suc, ◌≤◌, ◌<◌, ◌≡◌, refl, Bool, true, false, ◌&&◌, List, ◌∷◌, ltb}
+use Rattle.std.specs.Prelude.{ℕ, suc, ◌≤◌, ◌<◌, ◌≡◌, refl, Bool, true, false, ◌&&◌, List, ◌∷◌, ltb, Err, Ok}
+use Rattle.meaning.specs.Refusals.{Checked}
 use Rattle.std.proofs.Common.{arith, leb-true, ltb-true}
 use Rattle.std.proofs.Math.Dec.{leb}
 use Rattle.basis.specs.Choice.{pick, and_true}
@@ -8,26 +9,24 @@ use Rattle.meaning.specs.WellFormed.{Before, line, start_good, rest_good, ending
 use Rattle.meaning.specs.declared.line.Entry.{Entry}
 use Rattle.meaning.specs.declared.refusals.Refusal.{Refusal}
 use Rattle.meaning.specs.declared.refusals.Refusal.TheVariants.{BadLine}
-use Rattle.meaning.specs.declared.refusals.Checked.{Checked}
-use Rattle.meaning.specs.declared.refusals.Checked.TheVariants.{Good, Refused}
 
 -- A choice whose other answer is a refusal.
-pub good-both : (t : Bool) (c : Checked) (r : Refusal) → pick t c (Refused r) ≡ Good → (t ≡ true) × (c ≡ Good)
+pub good-both : (t : Bool) (c : Checked) (r : Refusal) → pick t c (Err r) ≡ Ok tt → (t ≡ true) × (c ≡ Ok tt)
 unfolding pick
 good-both true c r e = (refl, e)
 good-both false c r e = absurd (let z : ◌≡◌ {A = ℕ} 0 1 = cc in omega arith)
 
 -- ---- line by line
 
-module _ (n k : ℕ) (b : Before) (e : Entry) (es : List Entry) (h : check_lines n k b (e ∷ es) ≡ Good) where
+module _ (n k : ℕ) (b : Before) (e : Entry) (es : List Entry) (h : check_lines n k b (e ∷ es) ≡ Ok tt) where
   abbrev more : Checked
   more = check_lines n (suc k) (line e.start.0 e.reach.0 e.before.0) es
 
-  both : (entry_good n b e es ≡ true) × (more ≡ Good)
+  both : (entry_good n b e es ≡ true) × (more ≡ Ok tt)
   unfolding check_lines
   both = good-both (entry_good n b e es) more (BadLine k) h
 
-  pub good_more : check_lines n (suc k) (line e.start.0 e.reach.0 e.before.0) es ≡ Good
+  pub good_more : check_lines n (suc k) (line e.start.0 e.reach.0 e.before.0) es ≡ Ok tt
   good_more = both.1
 
   -- The five tests of the first line.

@@ -2,7 +2,7 @@
 -- refusal 10).
 -- Assumes nothing.
 use Prim.Native.Nat.{ℕ, zero, suc, ◌+◌, ◌≤◌, ◌<◌}
-use Rattle.std.specs.Prelude.{◌≡◌, true, List, [], ◌∷◌, ℤ, pos, ◌+ℤ◌, length, get_or}
+use Rattle.std.specs.Prelude.{◌≡◌, true, List, [], ◌∷◌, ℤ, pos, ◌+ℤ◌, length, get_or, Ok}
 use Rattle.std.proofs.Math.Path.{refl, ap}
 use Rattle.std.proofs.Common.{◌∙◌, add-zero, zero-add, eq-eqb}
 use native.Mathlib.Omega.{arith}
@@ -13,7 +13,6 @@ use Rattle.meaning.specs.YIndex.{ys_from, index_of, check_rising, check_ys, chec
 use Rattle.meaning.specs.declared.settings.Settings.{Settings}
 use Rattle.meaning.specs.declared.line.Entry.{Entry}
 use Rattle.meaning.specs.declared.refusals.Refusal.TheVariants.{BadIndex}
-use Rattle.meaning.specs.declared.refusals.Checked.TheVariants.{Good}
 use Rattle.laws.specs.GoodLines.{good-both}
 use Rattle.laws.specs.SignedOrder.{le_same, le_through, le_added}
 
@@ -60,22 +59,22 @@ module _ (s : Settings) (es : List Entry) where
   unfolding y_of
   y-grows k = le_added (s.top +ℤ offset_of s (height_of s es)) _ _ (added-grows s k es)
 
-  ys-good : (i k n : ℕ) → check_rising i (y_of s k es) (ys_from s es (suc k) n) ≡ Good
+  ys-good : (i k n : ℕ) → check_rising i (y_of s k es) (ys_from s es (suc k) n) ≡ Ok tt
   unfolding check_rising ys_from
   ys-good i k zero = refl
   ys-good i k (suc n) = pick_true _ _ _ (y-grows k) ∙ ys-good (suc i) (suc k) n
 
-  all-good : (k n : ℕ) → check_ys (ys_from s es k n) ≡ Good
+  all-good : (k n : ℕ) → check_ys (ys_from s es k n) ≡ Ok tt
   unfolding check_ys ys_from
   all-good k zero = refl
   all-good k (suc n) = ys-good 1 k n
 
-  index-rises : check_ys (index_of s es) ≡ Good
+  index-rises : check_ys (index_of s es) ≡ Ok tt
   unfolding index_of
   index-rises = all-good 0 (length es)
 
   -- An index as it is made is not refused.
-  pub index-good : check_index (length es) (index_of s es) ≡ Good
+  pub index-good : check_index (length es) (index_of s es) ≡ Ok tt
   unfolding check_index
   index-good = pick_true _ _ _ (eq-eqb _ _ (index-length s es)) ∙ index-rises
 
@@ -83,7 +82,7 @@ module _ (s : Settings) (es : List Entry) where
 abbrev pub Rising : List ℤ → Type 0
 Rising ys = (i j : ℕ) → i ≤ j → j < length ys → le_z (y_at ys i) (y_at ys j) ≡ true
 
-rising-from : (k : ℕ) (b : ℤ) (ys : List ℤ) → check_rising k b ys ≡ Good → Rising (b ∷ ys)
+rising-from : (k : ℕ) (b : ℤ) (ys : List ℤ) → check_rising k b ys ≡ Ok tt → Rising (b ∷ ys)
 unfolding check_rising
 rising-from k b [] g zero zero p h = le_same b
 rising-from k b [] g zero (suc j) p h = absurd (omega arith)
@@ -98,7 +97,7 @@ rising-from k b (y ∷ ys) g (suc i) (suc j) p h =
     let t = good-both (le_z b y) (check_rising (suc k) y ys) (BadIndex k) g in
     rising-from (suc k) y ys t.1 i j (omega arith) (omega arith)
 
-pub ys-rise : (ys : List ℤ) → check_ys ys ≡ Good → Rising ys
+pub ys-rise : (ys : List ℤ) → check_ys ys ≡ Ok tt → Rising ys
 unfolding check_ys
 ys-rise [] g i j p h = absurd (omega arith)
 ys-rise (y ∷ ys) g i j p h = rising-from 1 y ys g i j p h

@@ -1,5 +1,6 @@
 pub mod Affected
 pub mod Agree
+pub mod Asked
 pub mod CharsBefore
 pub mod PartChars
 pub mod Between

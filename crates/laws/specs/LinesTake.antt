@@ -1,7 +1,7 @@
 -- Every line takes a character, unless it ends the text: in a fresh layout and in laying again, whatever the settings (rule 10).
 -- Assumes nothing.
 use Prim.Native.Nat.{ℕ, zero, suc, ◌+◌, ◌-◌, ◌≤◌}
-use Rattle.std.specs.Prelude.{◌≡◌, true, not, leb, length, take}
+use Rattle.std.specs.Prelude.{◌≡◌, true, not, leb, length, take, Ok}
 use mathlib.Core.List.{List, [], ◌∷◌}
 use Rattle.std.proofs.Common.{arith, leb-true}
 use Rattle.std.proofs.lemmas.Bool.{not-false}
@@ -20,7 +20,6 @@ use Rattle.meaning.specs.declared.line.LineEnd.{LineEnd}
 use Rattle.meaning.specs.declared.line.LineEnd.TheVariants.{NewLine, CarriageReturn, EndOfText, LineBreak}
 use Rattle.meaning.specs.declared.line.Entry.{Entry}
 use Rattle.meaning.specs.declared.refusals.Refusal.TheVariants.{BadLine}
-use Rattle.meaning.specs.declared.refusals.Checked.TheVariants.{Good}
 use Rattle.laws.specs.GoodChecks.{refuse_good}
 use Rattle.laws.specs.LineBounds.{line-rest, line-held, line-takes}
 use Rattle.laws.specs.LayoutBounds.{Takes, ends-take, layout-ends}
@@ -82,7 +81,7 @@ module _ (s : Settings) (ed : Edit) (old : List Entry) where
       )
 
   -- From any entry on, as the first affected one, whose rest was checked.
-  pub again-takes : (es : List Entry) (cs : List ℕ) (j : ℕ) → check_rest j es cs ≡ Good → Takes (again s ed old es cs).laid
+  pub again-takes : (es : List Entry) (cs : List ℕ) (j : ℕ) → check_rest j es cs ≡ Ok tt → Takes (again s ed old es cs).laid
   unfolding again check_rest
   again-takes [] cs j h = tt
   again-takes (e ∷ es) cs j h =

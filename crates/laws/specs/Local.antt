@@ -1,6 +1,7 @@
 -- What a pass answers depends only on the bytes that it examined (rule 8, rule 12).
 -- Assumes nothing.
-use Rattle.std.specs.Prelude.{ℕ, ◌+◌, ◌-◌, ◌≤◌, ◌≡◌, refl, Bool, true, false, List, [], ◌∷◌}
+use Rattle.std.specs.Prelude.{ℕ, ◌+◌, ◌-◌, ◌≤◌, ◌≡◌, refl, Bool, true, false, List, [], ◌∷◌, None, Option, Some}
+use Rattle.meaning.specs.declared.counts.Pixels.{Pixels}
 use Rattle.std.proofs.Common.{arith, ap, subst, inl, inr}
 use Rattle.basis.specs.Choice.{pick, pick_cases}
 use Rattle.utf8.specs.Encoding.{size}
@@ -16,8 +17,6 @@ use Rattle.meaning.specs.declared.settings.Settings.{Settings}
 use Rattle.meaning.specs.declared.cursor.LineCursor.{LineCursor}
 use Rattle.meaning.specs.declared.cursor.Place.{Place}
 use Rattle.meaning.specs.declared.cursor.Spaces.{Spaces}
-use Rattle.meaning.specs.declared.cursor.NextWord.{NextWord}
-use Rattle.meaning.specs.declared.cursor.NextWord.TheVariants.{Nothing, Width}
 use Rattle.meaning.specs.declared.line.EventKind.TheVariants.{Space, Move}
 use Rattle.laws.specs.Agree.{Agree}
 
@@ -74,7 +73,7 @@ fits_local g c sp at n (t ∷ xs) ys a h =
 
 -- ---- the next word's width
 
-pub width-far : (g : ℕ) (w : NextWord) (at : ℕ) (t : Tok) (ts : List Tok) → at + need_of t ≤ (next_width g w at (t ∷ ts)).reach
+pub width-far : (g : ℕ) (w : Option Pixels) (at : ℕ) (t : Tok) (ts : List Tok) → at + need_of t ≤ (next_width g w at (t ∷ ts)).reach
 unfolding next_width
 width-far g w at newLine ts = omega arith
 width-far g w at carriageReturn ts = omega arith
@@ -83,8 +82,8 @@ width-far g w at softHyphen ts = omega arith
 width-far g w at (space cs n e) ts = omega arith
 width-far g w at (word cs e) ts = omega arith
 
-width-on : (g : ℕ) (w : NextWord) (at m : ℕ) (t : Tok) (xs ys : List Tok)
-    → ((v : NextWord) → (next_width g v (at + size_of t) xs).reach ≤ m → next_width g v (at + size_of t) ys ≡ next_width g v (at + size_of t) xs)
+width-on : (g : ℕ) (w : Option Pixels) (at m : ℕ) (t : Tok) (xs ys : List Tok)
+    → ((v : Option Pixels) → (next_width g v (at + size_of t) xs).reach ≤ m → next_width g v (at + size_of t) ys ≡ next_width g v (at + size_of t) xs)
     → (next_width g w at (t ∷ xs)).reach ≤ m → next_width g w at (t ∷ ys) ≡ next_width g w at (t ∷ xs)
 unfolding next_width
 width-on g w at m newLine xs ys f h = refl
@@ -94,7 +93,7 @@ width-on g w at m softHyphen xs ys f h = refl
 width-on g w at m (space cs n e) xs ys f h = refl
 width-on g w at m (word cs e) xs ys f h = ap (further (at + need_of (word cs e))) (f _ (omega arith))
 
-pub width_local : (g : ℕ) (w : NextWord) (at n : ℕ) (xs ys : List Tok) → Agree n xs ys
+pub width_local : (g : ℕ) (w : Option Pixels) (at n : ℕ) (xs ys : List Tok) → Agree n xs ys
     → (next_width g w at xs).reach ≤ at + n → next_width g w at ys ≡ next_width g w at xs
 unfolding next_width
 width_local g w at n [] ys a h = absurd (omega arith)
@@ -139,10 +138,10 @@ tab_local s p at m q r f h =
     pick_local looked_of m _ _ _ _ _ (λ k. refl) (pick_local looked_of m _ _ _ _ _ (λ k. ap on (f k)) (λ k. refl)) h
 
 -- A soft hyphen always has looked.
-break_looked : (s : Settings) (p : Place) (at : ℕ) (w : NextWord) (r : ℕ) → looked_of (on_break s p at w r) ≡ r
+break_looked : (s : Settings) (p : Place) (at : ℕ) (w : Option Pixels) (r : ℕ) → looked_of (on_break s p at w r) ≡ r
 unfolding on_break hyphenated
-break_looked s p at Nothing r = refl
-break_looked s p at (Width w) r =
+break_looked s p at None r = refl
+break_looked s p at (Some w) r =
     let P : Step → Type 0 = λ x. looked_of x ≡ r in
     pick_cases P _ (λ _. pick_cases P _ (λ _. pick_cases P _ (λ _. refl) (λ _. refl)) (λ _. pick_cases P _ (λ _. refl) (λ _. refl))) (λ _. refl)
 
@@ -153,8 +152,8 @@ step_local s p at n newLine xs ys a h = refl
 step_local s p at n carriageReturn xs ys a h = refl
 step_local s p at n tab xs ys a h = tab_local s p at _ _ _ (draws_local _ _ _ n xs ys a) h
 step_local s p at n softHyphen xs ys a h =
-    let ahead = next_width s.glyph.0 Nothing (at + size_of softHyphen) xs in
-    rw (width_local s.glyph.0 Nothing (at + size_of softHyphen) n xs ys a (omega (arith, break_looked s p at ahead.width ahead.reach)))
+    let ahead = next_width s.glyph.0 None (at + size_of softHyphen) xs in
+    rw (width_local s.glyph.0 None (at + size_of softHyphen) n xs ys a (omega (arith, break_looked s p at ahead.width ahead.reach)))
 step_local s p at n (space cs k e) xs ys a h = space_local s p at cs k _ _ _ (draws_local _ _ _ n xs ys a) h
 step_local s p at n (word cs e) xs ys a h = refl
 

@@ -1,7 +1,8 @@
 -- With words that wait, left aligned and in a box that has room for a glyph, no line of any text drops anything.
 -- Rule 8, rule 10, rule 12.
 -- Assumes nothing.
-use Rattle.std.specs.Prelude.{ℕ, zero, suc, ◌+◌, ◌*◌, ◌/◌, ◌≤◌, ◌<◌, ◌≡◌, true, ◌&&◌, ◌||◌, eqb, length}
+use Rattle.std.specs.Prelude.{ℕ, zero, suc, ◌+◌, ◌*◌, ◌/◌, ◌≤◌, ◌<◌, ◌≡◌, true, ◌&&◌, ◌||◌, eqb, length, None, Option, Some}
+use Rattle.meaning.specs.declared.counts.Pixels.{Pixels}
 use Rattle.std.proofs.Math.Path.{refl}
 use Rattle.std.proofs.Math.Bool.{false, not}
 use mathlib.Core.List.{List, [], ◌∷◌}
@@ -19,8 +20,6 @@ use Rattle.meaning.specs.Layout.{layout}
 use Rattle.meaning.specs.declared.settings.Settings.{Settings}
 use Rattle.meaning.specs.declared.cursor.Spaces.{Spaces}
 use Rattle.meaning.specs.declared.cursor.Place.{Place}
-use Rattle.meaning.specs.declared.cursor.NextWord.{NextWord}
-use Rattle.meaning.specs.declared.cursor.NextWord.TheVariants.{Nothing, Width}
 use Rattle.meaning.specs.declared.line.Entry.{Entry}
 use Rattle.laws.specs.Steps.{too_wide}
 use Rattle.laws.specs.RowInduction.{Each, each_line}
@@ -67,10 +66,10 @@ module _ (s : Settings) (w : Waits s) where
         pick_cases (Keeps s) (skips s p) (λ _. f) λ _.
         pick_cases (Keeps s) (fits_in p.cursor (tab_width p.cursor)) (λ _. moved_keeps _ _ _) (λ _. moved_keeps _ _ _)
 
-    break_keeps : (v : NextWord) (r : ℕ) → Keeps s (on_break s p at v r)
+    break_keeps : (v : Option Pixels) (r : ℕ) → Keeps s (on_break s p at v r)
     unfolding on_break hyphenated
-    break_keeps Nothing r = f
-    break_keeps (Width v) r =
+    break_keeps None r = f
+    break_keeps (Some v) r =
         pick_cases (Keeps s) (p.empty || not (fits_in p.cursor v.0))
         (λ _.
         pick_cases (Keeps s) (fits_in p.cursor s.glyph.0) (λ _. pick_cases (Keeps s) p.empty (λ _. moved_keeps _ _ _) (λ _. refl))

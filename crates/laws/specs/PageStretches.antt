@@ -1,6 +1,6 @@
 -- The stretches of a text that its pages take join, in order, to the whole text (rule 10, refusal 5).
 -- Assumes nothing.
-use Rattle.std.specs.Prelude.{ℕ, zero, suc, ◌+◌, ◌-◌, ◌*◌, ◌≤◌, ◌≡◌, true, List, [], ◌∷◌, ◌++◌, leb, take, drop}
+use Rattle.std.specs.Prelude.{ℕ, zero, suc, ◌+◌, ◌-◌, ◌*◌, ◌≤◌, ◌≡◌, true, List, [], ◌∷◌, ◌++◌, leb, take, drop, Ok}
 use Rattle.std.proofs.Common.{sym, ◌∙◌, suc-mul, zero-mul, le-mul_of_pos_right, arith, eqb-true, length-drop, drop_of_length-le, take_all, drop-drop, take-add}
 use Rattle.std.proofs.Math.Path.{ap}
 use Rattle.std.proofs.Math.Nat.{sub_self, sub-zero}
@@ -21,7 +21,6 @@ use Rattle.meaning.specs.declared.settings.Settings.{Settings}
 use Rattle.meaning.specs.declared.line.Entry.{Entry}
 use Rattle.meaning.specs.declared.page.Page.{Page}
 use Rattle.meaning.specs.declared.refusals.Refusal.TheVariants.{BadLine}
-use Rattle.meaning.specs.declared.refusals.Checked.TheVariants.{Good}
 use Rattle.laws.specs.GoodLines.{good-both, good_more, good_start, start-after}
 use Rattle.laws.specs.PageLaws.{pages-few}
 use Rattle.laws.specs.PartChars.{encoded}
@@ -59,7 +58,7 @@ unfolding start_good
 starts-within n nothing e h = omega (arith, eqb-true e.start.0 0 h)
 starts-within n (line start reach before) e h = (start-after n start reach before e h).2
 
-pub lines_ordered : (n k : ℕ) (b : Before) (es : List Entry) → check_lines n k b es ≡ Good → InOrder n es
+pub lines_ordered : (n k : ℕ) (b : Before) (es : List Entry) → check_lines n k b es ≡ Ok tt → InOrder n es
 unfolding end_before
 lines_ordered n k b [] h = tt
 lines_ordered n k b (e ∷ []) h = (starts-within n b e (good_start n k b e [] h), tt)
@@ -103,13 +102,13 @@ joined_by (suc i) (suc n) h k b (e ∷ es) t m p o =
 
 -- ---- the pages of a table
 
-starts_first : (n k : ℕ) (es : List Entry) → check_lines n k nothing es ≡ Good → 1 ≤ length es → end_before n es ≡ 0
+starts_first : (n k : ℕ) (es : List Entry) → check_lines n k nothing es ≡ Ok tt → 1 ≤ length es → end_before n es ≡ 0
 unfolding end_before start_good
 starts_first n k [] g p = absurd (omega arith)
 starts_first n k (e ∷ es) g p = eqb-true e.start.0 0 (good_start n k nothing e es g)
 
 -- Of lines that are good, at least one of them, and a text as long as they say.
-module _ (h : ℕ) (some : 1 ≤ h) (es : List Entry) (there : 1 ≤ length es) (good : check_lines (text_length es) 0 nothing es ≡ Good) (t : List ℕ) where
+module _ (h : ℕ) (some : 1 ≤ h) (es : List Entry) (there : 1 ≤ length es) (good : check_lines (text_length es) 0 nothing es ≡ Ok tt) (t : List ℕ) where
   -- The first i pages join to what stands before line i * h.
   pub pages-before : (i : ℕ) → joined t (take i (pages_of h es)) ≡ take (end_before (text_length es) (drop (i * h) es)) t
   unfolding pages_of
@@ -133,14 +132,14 @@ unfolding last_reach
 some-lines [] p = absurd (omega arith)
 some-lines (e ∷ es) p = omega arith
 
-pub entries_join : (h : ℕ) → 1 ≤ h → (es : List Entry) → check_entries es ≡ Good → (t : List ℕ) → length t ≡ text_length es
+pub entries_join : (h : ℕ) → 1 ≤ h → (es : List Entry) → check_entries es ≡ Ok tt → (t : List ℕ) → length t ≡ text_length es
     → joined t (pages_of h es) ≡ t
 unfolding check_entries
 entries_join h some es good t whole =
     let g = good-both (within 1 65536 (last_reach es)) (check_lines (text_length es) 0 nothing es) (BadLine 0) good in
     pages_join h some es (some-lines es (within-true 1 65536 (last_reach es) g.0).0) g.1 t whole
 
-pub table-joins : (h : ℕ) → 1 ≤ h → (table : List ℕ) (lines : ℕ) → check_table lines table ≡ Good
+pub table-joins : (h : ℕ) → 1 ≤ h → (table : List ℕ) (lines : ℕ) → check_table lines table ≡ Ok tt
     → (t : List ℕ) → length t ≡ text_length (entries_in lines table) → joined t (table_pages table lines h) ≡ t
 unfolding check_table table_pages
 table-joins h some table lines good t whole =
@@ -157,7 +156,7 @@ risen_there (e ∷ es) h = omega arith
 pub layout-there : (s : Settings) (cs : List ℕ) → 1 ≤ length (layout s cs)
 layout-there s cs = risen_there (layout s cs) (layout-rises-to-end s cs)
 
-lines-good : (s : Settings) (cs : List ℕ) → check_lines (text_length (layout s cs)) 0 nothing (layout s cs) ≡ Good
+lines-good : (s : Settings) (cs : List ℕ) → check_lines (text_length (layout s cs)) 0 nothing (layout s cs) ≡ Ok tt
 lines-good s cs = rw (layout-length s cs) (layout-lines s cs 0)
 
 -- The first line starts at 0.
@@ -176,6 +175,6 @@ module _ (s : Settings) (h : ℕ) (some : 1 ≤ h) (cs : List ℕ) where
       pages_join h some (layout s cs) (layout-there s cs) (lines-good s cs) (encode_all cs) (rw (layout-length s cs) (sym (size_is cs)))
 
 -- Of the bytes that a caller lends, which are UTF-8.
-pub text-joins : (s : Settings) (h : ℕ) → 1 ≤ h → (t : List ℕ) → check_utf8 t ≡ Good → joined t (text_pages s h t) ≡ t
+pub text-joins : (s : Settings) (h : ℕ) → 1 ≤ h → (t : List ℕ) → check_utf8 t ≡ Ok tt → joined t (text_pages s h t) ≡ t
 unfolding text_pages text_entries text_rows layout
 text-joins s h some t good = rw (encoded t good) at (layout-joins s h some (decode_all t))

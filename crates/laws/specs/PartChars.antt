@@ -1,6 +1,6 @@
 -- Bytes and characters of a lent text that is UTF-8: where characters begin, and how many there are up to there.
 -- Assumes nothing.
-use Rattle.std.specs.Prelude.{ℕ, zero, suc, ◌≤◌, ◌≡◌, true, not, List, [], ◌∷◌, ◌++◌, length, take, drop}
+use Rattle.std.specs.Prelude.{ℕ, zero, suc, ◌≤◌, ◌≡◌, true, not, List, [], ◌∷◌, ◌++◌, length, take, drop, Ok}
 use Rattle.std.proofs.Common.{arith, sym, ap, ◌∙◌, take-append-drop, length-take-le}
 use borrow.Author.Tests.{eqb-true, not-false}
 use Rattle.std.proofs.Math.Dec.{eqb}
@@ -15,7 +15,6 @@ use Rattle.utf8.specs.Boundaries.{boundary-is, boundary-bytes, count-text}
 use Rattle.meaning.specs.Checks.{check_utf8}
 use Rattle.meaning.specs.Edit.{chars_in}
 use Rattle.meaning.specs.declared.refusals.Refusal.TheVariants.{NotUtf8}
-use Rattle.meaning.specs.declared.refusals.Checked.TheVariants.{Good}
 use Rattle.laws.specs.GoodChecks.{refuse_good}
 use Rattle.laws.specs.LinesTake.{chars-within}
 use Rattle.laws.specs.PassBounds.{size-take}
@@ -27,7 +26,7 @@ scalars-take zero cs al = tt
 scalars-take (suc k) [] al = tt
 scalars-take (suc k) (c ∷ cs) al = (al.0, scalars-take k cs al.1)
 
-module _ (t : List ℕ) (good : check_utf8 t ≡ Good) where
+module _ (t : List ℕ) (good : check_utf8 t ≡ Ok tt) where
   abbrev pub cs : List ℕ
   cs = decode_all t
 

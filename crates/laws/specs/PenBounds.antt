@@ -1,7 +1,8 @@
 -- The pen of a pass does not pass the cursor, and the cursor does not pass the box, where nothing glues or spaces are plain: so a pass
 -- ends inside the box (rule 4, rule 8, rule 9).
 -- Assumes nothing.
-use Rattle.std.specs.Prelude.{ℕ, ◌+◌, ◌-◌, ◌*◌, ◌/◌, ◌≤◌, min, ◌≡◌, refl, Bool, true, false, ◌&&◌, ◌||◌, eqb}
+use Rattle.std.specs.Prelude.{ℕ, ◌+◌, ◌-◌, ◌*◌, ◌/◌, ◌≤◌, min, ◌≡◌, refl, Bool, true, false, ◌&&◌, ◌||◌, eqb, None, Option, Some}
+use Rattle.meaning.specs.declared.counts.Pixels.{Pixels}
 use Rattle.std.proofs.Common.{sym, arith}
 use Rattle.std.proofs.Math.Bool.{not}
 use mathlib.Core.List.{List, [], ◌∷◌, ◌++◌}
@@ -20,8 +21,6 @@ use Rattle.meaning.specs.declared.settings.Settings.{Settings}
 use Rattle.meaning.specs.declared.cursor.LineCursor.{LineCursor}
 use Rattle.meaning.specs.declared.cursor.Spaces.{Spaces}
 use Rattle.meaning.specs.declared.cursor.Place.{Place}
-use Rattle.meaning.specs.declared.cursor.NextWord.{NextWord}
-use Rattle.meaning.specs.declared.cursor.NextWord.TheVariants.{Nothing, Width}
 use Rattle.laws.specs.Spell.{text_of, spell}
 use Rattle.laws.specs.TokenLaws.{chars-text}
 use Rattle.laws.specs.Pens.{pen_after, pen_append, Plain, plain-after, Even, word-pen, even-part, even-first, even-rest}
@@ -104,10 +103,10 @@ module _ (s : Settings) (p : Place) (at pen : ℕ) (w : Within s p pen) where
       (λ e. pick_cases P p.empty (λ _. (moves glyph _ _ _ (fits_by glyph e) (omega arith), λ h. h)) (λ _. ends glyph (fits_by glyph e)))
       (λ _. pick_cases P p.empty (λ _. (w, λ h. h)) (λ _. omega (arith, ends 0 (omega arith))))
 
-  break_inside : (v : NextWord) (reach : ℕ) → P (on_break s p at v reach)
+  break_inside : (v : Option Pixels) (reach : ℕ) → P (on_break s p at v reach)
   unfolding on_break pen_after
-  break_inside Nothing reach = (w, λ h. h)
-  break_inside (Width v) reach =
+  break_inside None reach = (w, λ h. h)
+  break_inside (Some v) reach =
       pick_cases P (p.empty || not (fits_in p.cursor v.0)) (λ _. hyphen-inside reach) (λ _. (w, λ h. h))
 
   -- A word's case needs to know of the characters that it takes.

@@ -1,6 +1,7 @@
 -- How far a pass looks ahead: never past the character after the text, which stands for its end (rule 12).
 -- Assumes nothing.
-use Rattle.std.specs.Prelude.{ℕ, ◌+◌, ◌*◌, ◌≤◌, Bool, true, false, ◌||◌, List, [], ◌∷◌, length}
+use Rattle.std.specs.Prelude.{ℕ, ◌+◌, ◌*◌, ◌≤◌, Bool, true, false, ◌||◌, List, [], ◌∷◌, length, Option}
+use Rattle.meaning.specs.declared.counts.Pixels.{Pixels}
 use Rattle.std.proofs.Common.{arith}
 use Rattle.basis.specs.Choice.{pick_cases}
 use Rattle.utf8.specs.Encoding.{size}
@@ -13,7 +14,6 @@ use Rattle.meaning.specs.declared.settings.Settings.{Settings}
 use Rattle.meaning.specs.declared.cursor.LineCursor.{LineCursor}
 use Rattle.meaning.specs.declared.cursor.Spaces.{Spaces}
 use Rattle.meaning.specs.declared.cursor.Place.{Place}
-use Rattle.meaning.specs.declared.cursor.NextWord.{NextWord}
 use Rattle.laws.specs.Spell.{spell, SoundTok, Sound}
 use Rattle.laws.specs.TokenLaws.{size-spell}
 
@@ -58,7 +58,7 @@ fits-reach g c sp at (space cs n e ∷ ts) h =
     goes_on_lem (fits_in c w) _ (here-bound at t ts h.0)
     (omega (arith, size-spell t ts, fits-reach g (advance c w) (spaces_after sp n) (at + size_of t) ts h.1))
 
-pub width-reach : (g : ℕ) (w : NextWord) (at : ℕ) (ts : List Tok) → Sound ts
+pub width-reach : (g : ℕ) (w : Option Pixels) (at : ℕ) (ts : List Tok) → Sound ts
     → (next_width g w at ts).reach ≤ at + size (spell ts) + 1
 unfolding next_width
 width-reach g w at [] h = omega arith

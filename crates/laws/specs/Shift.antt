@@ -1,6 +1,7 @@
 -- A pass from an offset d further on answers the same, with what it draws and how far it looked moved by d (rule 8).
 -- Assumes nothing.
-use Rattle.std.specs.Prelude.{ℕ, ◌+◌, ◌*◌, ◌/◌, max, ◌≡◌, refl, Bool, true, false, ◌&&◌, ◌||◌, List, [], ◌∷◌, ◌++◌, eqb, length, take}
+use Rattle.std.specs.Prelude.{ℕ, ◌+◌, ◌*◌, ◌/◌, max, ◌≡◌, refl, Bool, true, false, ◌&&◌, ◌||◌, List, [], ◌∷◌, ◌++◌, eqb, length, take, None, Option, Some}
+use Rattle.meaning.specs.declared.counts.Pixels.{Pixels}
 use Rattle.std.proofs.Common.{ap, add-zero}
 use Rattle.std.proofs.Math.Bool.{not}
 use Rattle.std.proofs.Math.Nat.{add_assoc}
@@ -18,8 +19,6 @@ use Rattle.meaning.specs.declared.settings.Settings.{Settings}
 use Rattle.meaning.specs.declared.cursor.LineCursor.{LineCursor}
 use Rattle.meaning.specs.declared.cursor.Spaces.{Spaces}
 use Rattle.meaning.specs.declared.cursor.Place.{Place}
-use Rattle.meaning.specs.declared.cursor.NextWord.{NextWord}
-use Rattle.meaning.specs.declared.cursor.NextWord.TheVariants.{Nothing, Width}
 use Rattle.meaning.specs.declared.line.Measure.{Measure}
 use Rattle.laws.specs.Steps.{looked_of}
 
@@ -81,7 +80,7 @@ fits-shift g c sp d at (space cs n e ∷ ts) =
     rw (add_assoc d at (need_of t), add_assoc d at (size_of t), fits-shift g (advance c (spaces_width sp n)) (spaces_after sp n) d (at + size_of t) ts)
     (goes-shift _ d _ _)
 
-pub width-shift : (g : ℕ) (w : NextWord) (d at : ℕ) (ts : List Tok)
+pub width-shift : (g : ℕ) (w : Option Pixels) (d at : ℕ) (ts : List Tok)
     → next_width g w (d + at) ts ≡ shifted_ahead d (next_width g w at ts)
 unfolding next_width
 width-shift g w d at [] = rw (add_assoc d at 1)
@@ -177,10 +176,10 @@ module _ (s : Settings) (p : Place) (d at : ℕ) where
       (both (Shifted d) p.empty (record { looked = d + r; is = refl; reach = omega arith }) (record { looked = d + r; is = refl; reach = omega arith }))
       (both (Shifted d) p.empty (record { looked = d + r; is = refl; reach = omega arith }) (record { looked = d + r; is = refl; reach = omega arith })))
 
-  on_break-shift : (w : NextWord) (r : ℕ) → Shifted d (on_break s p at w r) (on_break s p (d + at) w (d + r))
+  on_break-shift : (w : Option Pixels) (r : ℕ) → Shifted d (on_break s p at w r) (on_break s p (d + at) w (d + r))
   unfolding on_break shifted
-  on_break-shift Nothing r = record { looked = d + r; is = refl; reach = omega arith }
-  on_break-shift (Width w) r =
+  on_break-shift None r = record { looked = d + r; is = refl; reach = omega arith }
+  on_break-shift (Some w) r =
       both (Shifted d) (p.empty || not (fits_in p.cursor w.0)) (hyphen-shift r)
       (record { looked = d + r; is = refl; reach = omega arith })
 
@@ -205,7 +204,7 @@ step-shift s p d at carriageReturn ts = rw (add_assoc d at 1) (record { looked =
 step-shift s p d at tab ts =
     rw (add_assoc d at (size_of tab)) (on-tab-shift s p d at _ _ (draws-shift s _ d (at + size_of tab) ts))
 step-shift s p d at softHyphen ts =
-    rw (add_assoc d at (size_of softHyphen), width-shift s.glyph.0 Nothing d (at + size_of softHyphen) ts)
+    rw (add_assoc d at (size_of softHyphen), width-shift s.glyph.0 None d (at + size_of softHyphen) ts)
     (on_break-shift s p d at _ _)
 step-shift s p d at (space cs n e) ts =
     rw (add_assoc d at (size_of (space cs n e))) (on-space-shift s p d at cs n _ _ (draws-shift s _ d (at + size_of (space cs n e)) ts))

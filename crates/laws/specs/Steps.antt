@@ -1,7 +1,8 @@
 -- What a token may do to a line: what it takes and holds where the line ends there, and how far it looks (rule 8).
 -- Assumes nothing.
 use Prim.Native.Nat.{ℕ, zero, suc, ◌+◌, ◌-◌, ◌*◌, ◌/◌, ◌≤◌, ◌<◌, min}
-use Rattle.std.specs.Prelude.{◌≡◌, true, false, ◌&&◌, ◌||◌, List, ◌∷◌, eqb}
+use Rattle.meaning.specs.declared.counts.Pixels.{Pixels}
+use Rattle.std.specs.Prelude.{◌≡◌, true, false, ◌&&◌, ◌||◌, List, ◌∷◌, eqb, None, Option, Some}
 use Rattle.std.proofs.Common.{sym, ◌∙◌}
 use Rattle.std.proofs.Math.Bool.{not}
 use Rattle.std.proofs.lemmas.Bool.{false≢true}
@@ -20,8 +21,6 @@ use Rattle.meaning.specs.declared.settings.Settings.{Settings}
 use Rattle.meaning.specs.declared.cursor.LineCursor.{LineCursor}
 use Rattle.meaning.specs.declared.cursor.Spaces.{Spaces}
 use Rattle.meaning.specs.declared.cursor.Place.{Place}
-use Rattle.meaning.specs.declared.cursor.NextWord.{NextWord}
-use Rattle.meaning.specs.declared.cursor.NextWord.TheVariants.{Nothing, Width}
 use Rattle.meaning.specs.declared.line.LineEnd.{LineEnd}
 use Rattle.meaning.specs.declared.line.LineEnd.TheVariants.{NewLine, CarriageReturn, EndOfText, LineBreak}
 use Rattle.laws.specs.Spell.{spell, SoundTok, Sound}
@@ -117,10 +116,10 @@ module _ (s : Settings) (p : Place) (at : ℕ) where
       (λ _. pick_cases P p.empty (λ _. tt) (λ _. stops 1 break_inside (omega arith) (λ _. omega arith)))
       (λ _. pick_cases P p.empty (λ _. tt) (λ d. waits 1 d))
 
-  on_break_lem : (w : NextWord) (reach : ℕ) → SoundStep 1 p (on_break s p at w reach)
+  on_break_lem : (w : Option Pixels) (reach : ℕ) → SoundStep 1 p (on_break s p at w reach)
   unfolding on_break
-  on_break_lem Nothing reach = tt
-  on_break_lem (Width w) reach =
+  on_break_lem None reach = tt
+  on_break_lem (Some w) reach =
       pick_cases (SoundStep 1 p) (p.empty || not (fits_in p.cursor w.0)) (λ _. on-hyphen reach) (λ _. tt)
 
   cut_word_lem : (cs : List ℕ) → 1 ≤ length cs → room_of p.cursor < length cs * s.glyph.0
@@ -180,10 +179,10 @@ module _ (s : Settings) (p : Place) (at m : ℕ) where
       pick_cases (Near m) (fits_in p.cursor s.glyph.0) (λ _. pick_cases (Near m) p.empty (λ _. g) (λ _. g))
       (λ _. pick_cases (Near m) p.empty (λ _. g) (λ _. g))
 
-  break_reach : (w : NextWord) (r : ℕ) → r ≤ m → looked_of (on_break s p at w r) ≤ m
+  break_reach : (w : Option Pixels) (r : ℕ) → r ≤ m → looked_of (on_break s p at w r) ≤ m
   unfolding on_break
-  break_reach Nothing r g = g
-  break_reach (Width w) r g =
+  break_reach None r g = g
+  break_reach (Some w) r g =
       pick_cases (Near m) (p.empty || not (fits_in p.cursor w.0)) (λ _. hyphen-reach r g) (λ _. g)
 
   word-reach : (cs : List ℕ) → looked_of (on_word s p at cs) ≤ m
@@ -207,7 +206,7 @@ step-reach s p at tab ts h =
     (omega (arith, size-spell tab ts, draws-reach s (moved_on p (tab_width p.cursor)) (at + size_of tab) ts h))
 step-reach s p at softHyphen ts h =
     break_reach s p at _ _ _
-    (omega (arith, size-spell softHyphen ts, width-reach s.glyph.0 Nothing (at + size_of softHyphen) ts h))
+    (omega (arith, size-spell softHyphen ts, width-reach s.glyph.0 None (at + size_of softHyphen) ts h))
 step-reach s p at (space cs n e) ts h =
     let t = space cs n e in
     space-reach s p at _ cs n _

@@ -1,6 +1,6 @@
 -- The layout of a text is a well formed table of it (refusal 5).
 -- Assumes nothing.
-use Rattle.std.specs.Prelude.{ℕ, suc, ◌+◌, ◌-◌, ◌≤◌, ◌<◌, ◌≡◌, true, length, take, drop}
+use Rattle.std.specs.Prelude.{ℕ, suc, ◌+◌, ◌-◌, ◌≤◌, ◌<◌, ◌≡◌, true, length, take, drop, Ok}
 use Rattle.std.proofs.Math.Path.{refl}
 use Rattle.std.proofs.Common.{◌∙◌, subst, take-append-drop, take-add}
 use mathlib.Core.List.{List, [], ◌∷◌, map}
@@ -19,7 +19,6 @@ use Rattle.meaning.specs.declared.settings.Settings.{Settings}
 use Rattle.meaning.specs.declared.line.LineEnd.{LineEnd}
 use Rattle.meaning.specs.declared.line.LineEnd.TheVariants.{NewLine, CarriageReturn, EndOfText, LineBreak}
 use Rattle.meaning.specs.declared.line.Entry.{Entry}
-use Rattle.meaning.specs.declared.refusals.Checked.TheVariants.{Good}
 use Rattle.laws.specs.Suffixes.{take-size}
 use Rattle.laws.specs.PassBounds.{size-take}
 use Rattle.laws.specs.LineBounds.{line-chars, line-takes, line-reach-low, line-reach-high, line-end}
@@ -95,7 +94,7 @@ ending-more LineBreak x es d = refl
 
 -- The lines from anywhere on are good, wherever they are numbered from and whatever line they follow.
 abbrev LinesGood : ℕ → ℕ → Held → List ℕ → List Row → Type 0
-LinesGood start before h cs rs = (k : ℕ) (b : Before) → Follows b start before h cs → check_lines (start + size cs) k b (map entry_of_row rs) ≡ Good
+LinesGood start before h cs rs = (k : ℕ) (b : Before) → Follows b start before h cs → check_lines (start + size cs) k b (map entry_of_row rs) ≡ Ok tt
 
 abbrev Reaches : ℕ → ℕ → Held → List ℕ → List Row → Type 0
 Reaches start before h cs rs = last_reach (map entry_of_row rs) ≡ start + size cs + 1
@@ -139,7 +138,7 @@ module _ (s : Settings) where
         pick_true _ _ _
         (entry-good start before h cs laid b (map entry_of_row (r ∷ rs)) f p (ending-more laid.ended r.entry (map entry_of_row rs) d)
         (line-reach-high s h cs f.0 f.1))
-        ∙ subst (λ (t : ℕ). check_lines t (suc k) (line start (start + laid.reach) before) (map entry_of_row (r ∷ rs)) ≡ Good) next-size (more (suc k) (line start (start + laid.reach) before) (next-follows d (no_more b start before h cs p)))
+        ∙ subst (λ (t : ℕ). check_lines t (suc k) (line start (start + laid.reach) before) (map entry_of_row (r ∷ rs)) ≡ Ok tt) next-size (more (suc k) (line start (start + laid.reach) before) (next-follows d (no_more b start before h cs p)))
 
     last_reaches : laid.ended ≡ EndOfText → Reaches start before h cs (row_at start before h cs laid ∷ [])
     unfolding row_at entry_at last_reach
@@ -162,13 +161,13 @@ module _ (s : Settings) where
     layout-length = omega (arith, layout-reach)
 
     -- Every line is good, wherever lines are numbered from.
-    pub layout-lines : (k : ℕ) → check_lines (size cs) k nothing (layout s cs) ≡ Good
+    pub layout-lines : (k : ℕ) → check_lines (size cs) k nothing (layout s cs) ≡ Ok tt
     unfolding layout rows
     layout-lines k =
         rw zero-add at
         (each_row s LinesGood last-good more-good (suc (length cs)) 0 0 nothing_held cs (omega arith) (omega arith, omega arith) k nothing (refl, refl, refl))
 
-    pub layout-good : size cs ≤ 65535 → check_entries (layout s cs) ≡ Good
+    pub layout-good : size cs ≤ 65535 → check_entries (layout s cs) ≡ Ok tt
     unfolding check_entries
     layout-good h =
         pick_true _ _ _ (within-is 1 65536 (last_reach (layout s cs)) (omega (arith, layout-reach)) (omega (arith, layout-reach)))
@@ -182,7 +181,7 @@ Rising [] = Unit {0}
 Rising (e ∷ []) = Unit {0}
 Rising (e ∷ f ∷ es) = (e.start.0 < f.start.0) × Rising (f ∷ es)
 
-pub lines-rise : (n k : ℕ) (b : Before) (es : List Entry) → check_lines n k b es ≡ Good → Rising es
+pub lines-rise : (n k : ℕ) (b : Before) (es : List Entry) → check_lines n k b es ≡ Ok tt → Rising es
 lines-rise n k b [] h = tt
 lines-rise n k b (e ∷ []) h = tt
 lines-rise n k b (e ∷ f ∷ es) h =

@@ -1,10 +1,10 @@
 -- Lines that are found, drawn one after the other.
 -- Assumes nothing.
-use Rattle.std.specs.Prelude.{ℕ, ◌+◌, ◌-◌, ◌*◌, ◌/◌, ◌≤◌, ◌≡◌, refl, Bool, true, false, List, ◌++◌, length, eqb}
+use Rattle.std.specs.Prelude.{ℕ, ◌+◌, ◌-◌, ◌*◌, ◌/◌, ◌≤◌, ◌≡◌, refl, true, false, List, ◌++◌, length, eqb, Option, Some, None}
 use native.Mathlib.Omega.{arith}
-use Rattle.std.proofs.Common.{sym, ◌∙◌, length-append}
+use Rattle.std.proofs.Common.{sym, subst, ◌∙◌, length-append}
 use Rattle.std.proofs.Math.Path.{ap}
-use Rattle.std.proofs.lemmas.Bool.{false≢true}
+use Rattle.std.proofs.lemmas.Option.{none-some, same_Some}
 use Rattle.basis.specs.Choice.{pick_cases}
 use Rattle.meaning.specs.Checks.{text_limit}
 use Rattle.meaning.specs.Alignment.{plain_spaces}
@@ -31,8 +31,8 @@ use Rattle.layout.specs.DrawTurns.{Drew, line-room}
 use Rattle.layout.specs.DrawGoing.{DrewTo, FewFrom}
 use Rattle.layout.specs.declared.found.Drawn.{Drawn}
 
-abbrev pub drawn_at : (lines events at before : ℕ) → Bool → Drawn
-drawn_at lines events at before done = record { lines = lines; events = events; stand = plain_stand at before; done = done }
+abbrev pub drawn_at : (lines events at before : ℕ) → Drawn
+drawn_at lines events at before = record { lines = lines; events = events; stand = Some (plain_stand at before) }
 
 -- All lines from the stand p on are drawn, behind n events in the buffer u: it is v now, and has m events.
 pub record AllDrawn (s : Settings) (t u : List ℕ) (n : ℕ) (p : Stand) (v : List ℕ) (m : ℕ) : Type 0 where
@@ -40,17 +40,17 @@ pub record AllDrawn (s : Settings) (t u : List ℕ) (n : ℕ) (p : Stand) (v : L
   pub put : v ≡ put_events u n (events_after s t p)
 
 -- They are, or those from the stand q on are left.
-pub record DrawReaches (s : Settings) (t u : List ℕ) (n : ℕ) (p : Stand) (v : List ℕ) (m : ℕ) (q : Stand) (done : Bool) : Type 0 where
+pub record DrawReaches (s : Settings) (t u : List ℕ) (n : ℕ) (p : Stand) (v : List ℕ) (m : ℕ) (q : Option Stand) : Type 0 where
   pub same : length v ≡ length u
-  pub on : done ≡ false → DrewTo s t u n p v m q
-  pub all : done ≡ true → AllDrawn s t u n p v m
+  pub on : (next : Stand) → q ≡ Some next → DrewTo s t u n p v m next
+  pub all : q ≡ None → AllDrawn s t u n p v m
 
-module _ (s : Settings) (t u : List ℕ) (n : ℕ) (p : Stand) (v : List ℕ) (m : ℕ) (q : Stand) where
-  pub draws-on : DrewTo s t u n p v m q → DrawReaches s t u n p v m q false
-  draws-on g = record { same = g.same; on = λ _. g; all = λ e. absurd (false≢true e) }
+module _ (s : Settings) (t u : List ℕ) (n : ℕ) (p : Stand) (v : List ℕ) (m : ℕ) where
+  pub draws-on : (q : Stand) → DrewTo s t u n p v m q → DrawReaches s t u n p v m (Some q)
+  draws-on q g = record { same = g.same; on = λ next e. subst (DrewTo s t u n p v m) (same_Some q next e) g; all = λ e. absurd (none-some q (sym e)) }
 
-  pub draws-all : length v ≡ length u → AllDrawn s t u n p v m → DrawReaches s t u n p v m q true
-  draws-all same a = record { same = same; on = λ e. absurd (false≢true (sym e)); all = λ _. a }
+  pub draws-all : length v ≡ length u → AllDrawn s t u n p v m → DrawReaches s t u n p v m None
+  draws-all same a = record { same = same; on = λ next e. absurd (none-some next e); all = λ _. a }
 
 -- Where all lines are drawn the loop over them is done.
 pub drew-all : (s : Settings) (t ev₀ u : List ℕ) (n : ℕ) (p : Stand) (v : List ℕ) (m : ℕ) → Drew s t ev₀ u n p → AllDrawn s t u n p v m
@@ -188,7 +188,7 @@ module _ (s : Settings) (t : List ℕ) (p : Stand) (c : StandReady s t p) (none 
   all_here : (u : List ℕ) (n : ℕ) (v : List ℕ) (m : ℕ) → AllDrawn s t u n from v m → AllDrawn s t u n p v m
   all_here u n v m a = record { count = rw (sym events-here) a.count; put = rw (sym events-here) a.put }
 
-  pub draws-here : (u : List ℕ) (n : ℕ) (v : List ℕ) (m : ℕ) (q : Stand) (done : Bool) → DrawReaches s t u n from v m q done
-      → DrawReaches s t u n p v m q done
-  draws-here u n v m q done r =
-      record { same = r.same; on = λ e. drew-here u n v m q (r.on e); all = λ e. all_here u n v m (r.all e) }
+  pub draws-here : (u : List ℕ) (n : ℕ) (v : List ℕ) (m : ℕ) (q : Option Stand) → DrawReaches s t u n from v m q
+      → DrawReaches s t u n p v m q
+  draws-here u n v m q r =
+      record { same = r.same; on = λ next e. drew-here u n v m next (r.on next e); all = λ e. all_here u n v m (r.all e) }

@@ -50,11 +50,10 @@ pub fn draw_cuts(
     let mut at = start;
     let mut before = chars;
     let mut left = word.chars.0;
-    let reach = word.reach;
     let gluing = word.weight.0;
     while most < left {
         let next = cut_row(text, at as usize, word, left, most);
-        let entry = plain_entry(s, Offset(at), most, reach, Chars(before));
+        let entry = plain_entry(s, Offset(at), most, word.reach, Chars(before));
         let x = entry.left.0;
         write_entry(table, n, entry);
         k = draw_part(text, s, at as usize, next, most, gluing, x, events, k);
@@ -89,15 +88,14 @@ pub fn draw_long(
     ensures went { Went s text.now table.old lines (plain_stand start chars) table.new result.lines (plain_stand result.at result.before) }
     ensures drew_to { DrewTo s text.now events.old drawn (plain_stand start chars) events.new result.events (plain_stand result.at result.before) }
 {
-    let word = long_word(text, start as usize, most);
-    if word.chars.0 == 0 {
+    let Some(word) = long_word(text, start as usize, most) else {
         return DrawnTo {
             lines,
             events: drawn,
             at: start,
             before: chars,
         };
-    }
+    };
     draw_cuts(
         text, s, table, lines, events, drawn, start, chars, most, word,
     )

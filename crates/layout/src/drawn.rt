@@ -4,8 +4,8 @@ ghost use Rattle.meaning.specs.Calls.{drawing_answer, drawing_table, drawing_eve
 
 use crate::checked::{check_events, check_layout};
 use crate::events::write_and_draw;
-use meaning::answers::LaidWithEvents;
-use meaning::refusals::Checked;
+use meaning::answers::Drawing;
+use meaning::refusals::Refusal;
 use meaning::settings::Settings;
 
 // Each line's eleven numbers and each event's six; or refusal 1, 2, 3, 4 or 8, of the table before the event buffer. A refusal writes
@@ -15,19 +15,16 @@ pub fn layout_with_events(
     text: &[u8],
     table: &mut [u32],
     events: &mut [u32],
-) -> LaidWithEvents
+) -> Result<Drawing, Refusal>
     ensures value { result ≡ drawing_answer s text.now table.old events.old }
     ensures table_after { table.new ≡ drawing_table s text.now table.old events.old }
     ensures events_after { events.new ≡ drawing_events s text.now table.old events.old }
 {
-    let checked = check_layout(s, text, table);
-    if let Checked::Refused(refusal) = checked {
-        return LaidWithEvents::Refused(refusal);
-    }
-    let room = check_events(s, text, events);
-    if let Checked::Refused(refusal) = room {
-        return LaidWithEvents::Refused(refusal);
-    }
+    check_layout(s, text, table)?;
+    check_events(s, text, events)?;
     let both = write_and_draw(text, s, table, events);
-    LaidWithEvents::Lines(both.lines as u64, both.events as u64)
+    Ok(Drawing {
+        lines: both.lines as u64,
+        events: both.events as u64,
+    })
 }

@@ -22,8 +22,7 @@ pub fn draw_lines(text: &[u8], s: Settings, events: &mut [u32]) -> usize
     let mut stand = at_start(text);
     loop {
         let row = lay_row(text, s, stand);
-        let entry = row.entry;
-        k = draw_line(text, s, stand, entry, events, k);
+        k = draw_line(text, s, stand, row.entry, events, k);
         if row.last {
             return k;
         }
@@ -62,10 +61,9 @@ fn draw_each(text: &[u8], s: Settings, table: &mut [u32], events: &mut [u32]) ->
     let mut stand = at_start(text);
     loop {
         let row = lay_row(text, s, stand);
-        let entry = row.entry;
-        write_entry(table, lines, entry);
+        write_entry(table, lines, row.entry);
         lines += 1;
-        drawn = draw_line(text, s, stand, entry, events, drawn);
+        drawn = draw_line(text, s, stand, row.entry, events, drawn);
         if row.last {
             return Both {
                 lines,
@@ -93,19 +91,22 @@ fn draw_found(text: &[u8], s: Settings, table: &mut [u32], events: &mut [u32]) -
             let far = draw_on(text, s, table, lines, events, drawn, stand);
             lines = far.lines;
             drawn = far.events;
-            if far.done {
-                return Both {
-                    lines,
-                    events: drawn,
-                };
+            match far.stand {
+                Some(next) => {
+                    stand = next;
+                }
+                None => {
+                    return Both {
+                        lines,
+                        events: drawn,
+                    };
+                }
             }
-            stand = far.stand;
         }
         let row = lay_row(text, s, stand);
-        let entry = row.entry;
-        write_entry(table, lines, entry);
+        write_entry(table, lines, row.entry);
         lines += 1;
-        drawn = draw_line(text, s, stand, entry, events, drawn);
+        drawn = draw_line(text, s, stand, row.entry, events, drawn);
         if row.last {
             return Both {
                 lines,

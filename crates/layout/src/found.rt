@@ -25,24 +25,23 @@ use rows::plain::plain_stand;
 use stands::stand::Stand;
 use table::entries::write_entry;
 
-// How many lines are in the table, how many events in the buffer, and where the next line is to be laid; or that none is left.
+// How many lines are in the table, how many events in the buffer, and where the next line is to be laid, if any is
+// left.
 #[derive(Clone, Copy)]
 pub struct Drawn {
     pub lines: usize,
     pub events: usize,
-    pub stand: Stand,
-    pub done: bool,
+    pub stand: Option<Stand>,
 }
 
-fn drawn_at(lines: usize, events: usize, at: u32, before: u32, done: bool) -> Drawn
-    ensures { result ≡ drawn_at lines events at before done }
+fn drawn_at(lines: usize, events: usize, at: u32, before: u32) -> Drawn
+    ensures { result ≡ drawn_at lines events at before }
 {
     let stand = plain_stand(Offset(at), Chars(before));
     Drawn {
         lines,
         events,
-        stand,
-        done,
+        stand: Some(stand),
     }
 }
 
@@ -65,9 +64,7 @@ fn draw_told(
     ensures value { result ≡ k + length (line_events s text.now (plain_stand at before) (row_entry s at before row)) }
 {
     let columns = row.columns.0;
-    let reach = row.reach;
-    let ended = row.ended;
-    let entry = ended_entry(s, Offset(at), columns, reach, Chars(before), ended);
+    let entry = ended_entry(s, Offset(at), columns, row.reach, Chars(before), row.ended);
     write_entry(table, n, entry);
     let stand = plain_stand(Offset(at), Chars(before));
     draw_line(text, s, stand, entry, events, k)
@@ -88,8 +85,8 @@ fn draw_told_lines(
     requires stand_ready { StandReady s text.now (plain_stand start.0 chars.0) × (s.alignment ≤ 2) }
     requires room_from { RoomFrom s text.now table.old lines (plain_stand start.0 chars.0) }
     requires few_from { FewFrom s text.now drawn (plain_stand start.0 chars.0) }
-    ensures reaches { Reaches s text.now table.old lines (plain_stand start.0 chars.0) table.new result.lines result.stand result.done }
-    ensures draw_reaches { DrawReaches s text.now events.old drawn (plain_stand start.0 chars.0) events.new result.events result.stand result.done }
+    ensures reaches { Reaches s text.now table.old lines (plain_stand start.0 chars.0) table.new result.lines result.stand }
+    ensures draw_reaches { DrawReaches s text.now events.old drawn (plain_stand start.0 chars.0) events.new result.events result.stand }
 {
     let most = s.width.0 / s.glyph.0;
     let mut n = lines;
@@ -110,16 +107,18 @@ fn draw_told_lines(
         if far.at.0 < at {
             continue;
         }
-        let row = told_row(text, at as usize, most);
+        let Some(row) = told_row(text, at as usize, most) else {
+            return drawn_at(n, k, at, before);
+        };
         let next = row.next.0;
-        if next == 0 {
-            return drawn_at(n, k, at, before, false);
-        }
         k = draw_told(text, s, table, n, events, k, at, before, row);
         n += 1;
-        let ended = row.ended;
-        if is_last(ended) {
-            return drawn_at(n, k, at, before, true);
+        if is_last(row.ended) {
+            return Drawn {
+                lines: n,
+                events: k,
+                stand: None,
+            };
         }
         at = next;
         before += row.columns.0 + 1;
@@ -138,24 +137,21 @@ fn draw_known(
 ) -> Drawn
     requires stand_ready { StandReady s text.now stand × RoomFrom s text.now table.old lines stand × FewFrom s text.now drawn stand × (s.alignment ≤ 2) }
     requires chars_value { stand.rest.chars.0 ≡ 0 }
-    ensures reaches { Reaches s text.now table.old lines stand table.new result.lines result.stand result.done }
-    ensures draw_reaches { DrawReaches s text.now events.old drawn stand events.new result.events result.stand result.done }
+    ensures reaches { Reaches s text.now table.old lines stand table.new result.lines result.stand }
+    ensures draw_reaches { DrawReaches s text.now events.old drawn stand events.new result.events result.stand }
 {
     let most = s.width.0 / s.glyph.0;
     let at = stand.at.0;
-    let known = stand.known;
-    let word = long_known(text, at as usize, known, most);
-    if word.chars.0 == 0 {
+    let Some(word) = long_known(text, at as usize, stand.known, most) else {
         return Drawn {
             lines,
             events: drawn,
-            stand,
-            done: false,
+            stand: Some(stand),
         };
-    }
+    };
     let before = stand.before.0;
     let far = draw_cuts(text, s, table, lines, events, drawn, at, before, most, word);
-    drawn_at(far.lines, far.events, far.at, far.before, false)
+    drawn_at(far.lines, far.events, far.at, far.before)
 }
 
 // As many such lines as follow from a stand on where nothing is resumed. There may be none.
@@ -170,13 +166,11 @@ pub fn draw_on(
 ) -> Drawn
     requires stand_ready { StandReady s text.now stand × RoomFrom s text.now table.old lines stand × FewFrom s text.now drawn stand × (s.alignment ≤ 2) }
     requires chars_value { stand.rest.chars.0 ≡ 0 }
-    ensures reaches { Reaches s text.now table.old lines stand table.new result.lines result.stand result.done }
-    ensures draw_reaches { DrawReaches s text.now events.old drawn stand events.new result.events result.stand result.done }
+    ensures reaches { Reaches s text.now table.old lines stand table.new result.lines result.stand }
+    ensures draw_reaches { DrawReaches s text.now events.old drawn stand events.new result.events result.stand }
 {
     if is_known(stand.known) {
         return draw_known(text, s, table, lines, events, drawn, stand);
     }
-    let at = stand.at;
-    let before = stand.before;
-    draw_told_lines(text, s, table, lines, events, drawn, at, before)
+    draw_told_lines(text, s, table, lines, events, drawn, stand.at, stand.before)
 }

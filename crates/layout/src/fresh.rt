@@ -3,19 +3,15 @@ ghost use Rattle.std.specs.Prelude.{◌≡◌};
 ghost use Rattle.meaning.specs.Calls.{layout_answer, layout_table};
 
 use crate::checked::check_layout;
-use meaning::answers::Laid;
-use meaning::refusals::Checked;
+use meaning::refusals::Refusal;
 use meaning::settings::Settings;
 use rows::lines::write_lines;
 
 // Each line's eleven numbers; or refusal 1, 2, 3, 4 or 8, of which none writes anything.
-pub fn layout(s: Settings, text: &[u8], table: &mut [u32]) -> Laid
+pub fn layout(s: Settings, text: &[u8], table: &mut [u32]) -> Result<u64, Refusal>
     ensures value { result ≡ layout_answer s text.now table.old }
     ensures table_after { table.new ≡ layout_table s text.now table.old }
 {
-    let checked = check_layout(s, text, table);
-    if let Checked::Refused(refusal) = checked {
-        return Laid::Refused(refusal);
-    }
-    Laid::Lines(write_lines(text, s, table) as u64)
+    check_layout(s, text, table)?;
+    Ok(write_lines(text, s, table) as u64)
 }

@@ -23,16 +23,21 @@ pub fn draw_line(
     ensures events_after { events.new ≡ put_events events.old k (line_events s text.now stand e) }
     ensures value { result ≡ k + length (line_events s text.now stand e) }
 {
-    let left = e.left;
-    let space = e.space;
-    let extra = e.extra;
     let spaces = Spaces {
-        width: space,
-        extra,
+        width: e.space,
+        extra: e.extra,
     };
-    let start = start_place(s, left, spaces);
+    let start = start_place(s, e.left, spaces);
     let at = stand.at.0 as usize;
-    let rest = stand.rest;
-    let known = stand.known;
-    draw_pass(text, s, start, at, rest, known, left.0, events, k)
+    draw_pass(
+        text,
+        s,
+        start,
+        at,
+        stand.rest,
+        stand.known,
+        e.left.0,
+        events,
+        k,
+    )
 }

@@ -43,19 +43,17 @@ pub fn draw_plain_lines(
     let mut at = start.0;
     let mut before = chars.0;
     loop {
-        let line = plain_row(text, at as usize, most);
-        let end = line.end.0;
-        if end == 0 {
+        let Some(line) = plain_row(text, at as usize, most) else {
             return Passed {
                 lines: n,
                 events: k,
                 at: Offset(at),
                 before: Chars(before),
             };
-        }
+        };
+        let end = line.end.0;
         let columns = end - at;
-        let reach = line.reach;
-        let entry = plain_entry(s, Offset(at), columns, reach, Chars(before));
+        let entry = plain_entry(s, Offset(at), columns, line.reach, Chars(before));
         let left = entry.left.0;
         write_entry(table, n, entry);
         k = draw_plain(text, s, at as usize, end as usize, left, events, k);

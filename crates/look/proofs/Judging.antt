@@ -3,11 +3,9 @@
 use Rattle.std.proofs.Common.{◌≡◌, ℕ, ◌+◌, ◌-◌, ◌<◌, ◌≤◌, Bool, true, false, ◌&&◌, eqb, leb, add-one, le-ltb, lt-ltb}
 use Rattle.meaning.specs.WellFormed.{start_good, no_rest, rest_good, count_good}
 use Rattle.meaning.specs.declared.line.Entry.{Entry}
-use Rattle.meaning.specs.declared.counts.Offset.{Offset}
-use Rattle.meaning.specs.declared.counts.Chars.{Chars}
 use Rattle.look.specs.OneLine.{before_of, start_fits, rest_stands, count_fits, ending_at, line_good}
 use Rattle.look.specs.declared.one_line.LineBefore.{LineBefore}
-use Rattle.look.specs.declared.one_line.LineBefore.TheVariants.{Nothing, Line}
+use Rattle.std.specs.Prelude.{Option, Some, None}
 
 module _ (n reached start end count : ℕ) where
   pub stands-none : eqb end 0 && eqb count 0 ≡ true → true ≡ rest_stands n reached start end count
@@ -23,34 +21,34 @@ module _ (n reached start end count : ℕ) where
   unfolding rest_stands
   stands-tested h p = rw (h, lt-ltb _ _ p)
 
-module _ (e : Entry) (b : LineBefore) where
-  pub count-first : b ≡ Nothing → eqb e.before.0 0 ≡ count_good (before_of b) e
+module _ (e : Entry) (b : Option LineBefore) where
+  pub count-first : b ≡ None → eqb e.before.0 0 ≡ count_good (before_of b) e
   unfolding count_good
   count-first q = rw q
 
-  pub count-after : (from reach : Offset) (chars : Chars) → b ≡ Line from reach chars
-      → count_fits chars.0 e.start.0 e.before.0 ≡ count_good (before_of b) e
+  pub count-after : (l : LineBefore) → b ≡ Some l
+      → count_fits l.before.0 e.start.0 e.before.0 ≡ count_good (before_of b) e
   unfolding count_good count_fits
-  count-after from reach chars q = rw q
+  count-after l q = rw q
 
-module _ (n : ℕ) (e : Entry) (b : LineBefore) where
-  pub start_first : b ≡ Nothing → eqb e.start.0 0 ≡ start_good n (before_of b) e
+module _ (n : ℕ) (e : Entry) (b : Option LineBefore) where
+  pub start_first : b ≡ None → eqb e.start.0 0 ≡ start_good n (before_of b) e
   unfolding start_good
   start_first q = rw q
 
-  pub start-after : (from reach : Offset) (chars : Chars) → b ≡ Line from reach chars
-      → start_fits n from.0 reach.0 e.start.0 ≡ start_good n (before_of b) e
+  pub start-after : (l : LineBefore) → b ≡ Some l
+      → start_fits n l.start.0 l.reach.0 e.start.0 ≡ start_good n (before_of b) e
   unfolding start_good start_fits
-  start-after from reach chars q = rw q
+  start-after l q = rw q
 
-  pub rest-first : b ≡ Nothing → no_rest e ≡ rest_good n (before_of b) e
+  pub rest-first : b ≡ None → no_rest e ≡ rest_good n (before_of b) e
   unfolding rest_good
   rest-first q = rw q
 
-  pub rest-after : (from reach : Offset) (chars : Chars) → b ≡ Line from reach chars
-      → rest_stands n reach.0 e.start.0 e.rest.end.0 e.rest.count.0 ≡ rest_good n (before_of b) e
+  pub rest-after : (l : LineBefore) → b ≡ Some l
+      → rest_stands n l.reach.0 e.start.0 e.rest.end.0 e.rest.count.0 ≡ rest_good n (before_of b) e
   unfolding rest_good no_rest rest_stands
-  rest-after from reach chars q = rw q
+  rest-after l q = rw q
 
   pub all-tests : (last start rest ending count : Bool) → start ≡ start_good n (before_of b) e → rest ≡ rest_good n (before_of b) e
       → ending ≡ ending_at last e.ending → count ≡ count_good (before_of b) e

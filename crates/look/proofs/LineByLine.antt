@@ -1,6 +1,7 @@
 -- The check of a table, line by line, and what it answers before any line is looked at.
 -- Assumes nothing.
 use Rattle.std.proofs.Common.{◌≡◌, ℕ, zero, suc, ◌+◌, ◌-◌, ◌*◌, ◌/◌, ◌<◌, ◌≤◌, true, false, eqb, List, ◌∷◌, length, get_or, drop, sym, refl, ap, ◌∙◌, add-one, arith, eq-eqb, ne_eqb, le-leb}
+use Rattle.std.specs.Prelude.{Err, Ok}
 use borrow.Author.Tests.{lt-leb}
 use Rattle.basis.specs.Choice.{pick_true, pick-false}
 use Rattle.basis.specs.Order.{by_eq, within-is, within-not}
@@ -8,7 +9,6 @@ use Rattle.meaning.specs.Table.{entry_numbers, capacity_of, entry_in, entries_in
 use Rattle.meaning.specs.WellFormed.{last_reach, text_length, Before, nothing, line, entry_good, check_lines, check_entries, check_table}
 use Rattle.meaning.specs.declared.line.Entry.{Entry}
 use Rattle.meaning.specs.declared.refusals.Refusal.TheVariants.{BadLine}
-use Rattle.meaning.specs.declared.refusals.Checked.TheVariants.{Good, Refused}
 use Rattle.table.specs.LinesFrom.{lines_from, lines_more, lines_end, last-reach}
 use Rattle.look.specs.OneLine.{line_good, is_last, line-good}
 
@@ -19,7 +19,7 @@ module _ (t : List ℕ) (lines k : ℕ) where
       by_eq (k + 1) lines (λ e. rw (lines_end t lines (k + 1) (omega arith), eq-eqb _ _ e))
       (λ d. rw (lines_more t lines (k + 1) (omega arith), ne_eqb _ _ d))
 
-  pub lines-done : (n : ℕ) (b : Before) → lines ≤ k → check_lines n k b (lines_from t lines k) ≡ Good
+  pub lines-done : (n : ℕ) (b : Before) → lines ≤ k → check_lines n k b (lines_from t lines k) ≡ Ok tt
   unfolding check_lines
   lines-done n b h = rw (lines_end t lines k h)
 
@@ -41,7 +41,7 @@ module _ (t : List ℕ) (lines k : ℕ) where
         ∙ pick_true _ _ _ (tested ∙ g)
         ∙ ap (λ (j : ℕ). check_lines n j (line e.start.0 e.reach.0 e.before.0) rest) (sym (add-one k))
 
-    pub line_bad : line_good n b e (eqb (k + 1) lines) ≡ false → check_lines n k b (lines_from t lines k) ≡ Refused (BadLine k)
+    pub line_bad : line_good n b e (eqb (k + 1) lines) ≡ false → check_lines n k b (lines_from t lines k) ≡ Err (BadLine k)
     unfolding check_lines
     line_bad g = ap (check_lines n k b) here ∙ pick-false _ _ _ (tested ∙ g)
 
@@ -60,7 +60,7 @@ unfolding text_length
 text-is es r q = ap (λ (n : ℕ). n - 1) q
 
 module _ (t : List ℕ) (lines : ℕ) where
-  pub few : length t / entry_numbers < lines → Refused (BadLine 0) ≡ check_table lines t
+  pub few : length t / entry_numbers < lines → Err (BadLine 0) ≡ check_table lines t
   unfolding check_table capacity_of
   few h = sym (pick-false _ _ _ (lt-leb _ _ h))
 
@@ -70,7 +70,7 @@ module _ (t : List ℕ) (lines : ℕ) where
     by_entries = pick_true _ _ _ (le-leb _ _ h)
 
     module _ (r : ℕ) (q : r ≡ last_reach (entries_in lines t)) where
-      pub reach_bad : (1 ≤ r → r ≤ 65536 → ⊥) → Refused (BadLine 0) ≡ check_table lines t
+      pub reach_bad : (1 ≤ r → r ≤ 65536 → ⊥) → Err (BadLine 0) ≡ check_table lines t
       unfolding check_entries
       reach_bad d =
           sym (by_entries ∙ pick-false _ _ _ (within-not 1 65536 (last_reach (entries_in lines t)) (λ a b. d (rw q a) (rw q b))))

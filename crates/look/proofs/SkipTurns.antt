@@ -1,13 +1,13 @@
 -- Lines that are skipped: the tests of one line by plain numbers, and one turn of the loop over them.
 -- Assumes nothing.
 use Rattle.std.proofs.Common.{◌≡◌, ℕ, zero, suc, ◌+◌, ◌-◌, ◌*◌, ◌/◌, ◌<◌, ◌≤◌, Bool, true, false, ◌&&◌, eqb, ltb, leb, List, length, get_or, drop, sym, refl, ap, ◌∙◌, subst, add-zero, arith, ltb-false, ltb-true, lt-ltb, eq-eqb, ne_eqb, le-leb, leb-true}
+use Rattle.std.specs.Prelude.{Err}
 use Rattle.basis.specs.Choice.{pick, pick_cases, and_true}
 use Rattle.meaning.specs.Table.{entry_numbers, entry_in, entries_in}
 use Rattle.meaning.specs.WellFormed.{Before, nothing, line, start_good, no_rest, rest_good, count_good, check_lines}
 use Rattle.meaning.specs.Edit.{unaffected}
 use Rattle.meaning.specs.declared.line.Entry.{Entry}
 use Rattle.meaning.specs.declared.refusals.Refusal.TheVariants.{BadLine}
-use Rattle.meaning.specs.declared.refusals.Checked.TheVariants.{Refused}
 use Rattle.table.specs.LinesFrom.{lines_from, lines-all, start-at, reach-at, before_at}
 use Rattle.look.specs.OneLine.{start_fits, rest_stands, count_fits, ending_at, line_good}
 use Rattle.look.specs.Skipping.{before, GoodLine, PlainLine, PlainLines, check_from, Skipped}
@@ -79,7 +79,7 @@ module _ (t : List ℕ) (lines n : ℕ) (some : 1 ≤ lines) (e : Entry) (q : e 
       ∙ line-checked t lines 0 some e q n nothing g
       ∙ ap (λ (b : Before). check_lines n 1 b (lines_from t lines 1)) (before-next t lines n 0 e q)
 
-  pub first_bad : line_good n nothing e (eqb 1 lines) ≡ false → check_lines n 0 nothing (entries_in lines t) ≡ Refused (BadLine 0)
+  pub first_bad : line_good n nothing e (eqb 1 lines) ≡ false → check_lines n 0 nothing (entries_in lines t) ≡ Err (BadLine 0)
   first_bad g = ap (check_lines n 0 nothing) (sym (lines-all t lines)) ∙ line_bad t lines 0 some e q n nothing g
 
 module _ (t : List ℕ) (lines n most j : ℕ) where

@@ -1,6 +1,6 @@
 -- What a well formed table gives: it holds its lines, there are 1 to 65,536 of them, and the text is at most 65,535 bytes long.
 -- Assumes nothing.
-use Rattle.std.specs.Prelude.{◌≡◌, ℕ, zero, suc, ◌+◌, ◌-◌, ◌*◌, ◌/◌, ◌≤◌, true, List, [], ◌∷◌, length, nat_le}
+use Rattle.std.specs.Prelude.{◌≡◌, ℕ, zero, suc, ◌+◌, ◌-◌, ◌*◌, ◌/◌, ◌≤◌, true, List, [], ◌∷◌, length, nat_le, Ok}
 use Rattle.std.proofs.Common.{arith}
 use borrow.Author.Tests.{leb-true, eqb-true}
 use Rattle.basis.specs.Order.{within, within-true}
@@ -9,20 +9,19 @@ use Rattle.meaning.specs.Table.{entry_numbers, capacity_of, entries_in}
 use Rattle.meaning.specs.WellFormed.{last_reach, text_length, nothing, line, start_good, check_lines, check_entries, check_table}
 use Rattle.meaning.specs.declared.line.Entry.{Entry}
 use Rattle.meaning.specs.declared.refusals.Refusal.TheVariants.{BadLine}
-use Rattle.meaning.specs.declared.refusals.Checked.TheVariants.{Good}
 use Rattle.laws.specs.TableLaws.{entries_length}
 use Rattle.laws.specs.GoodLines.{good-both, good_more, good_start, start-after}
 
 -- ---- how many lines there are
 
-few-after : (n k start reach before : ℕ) (es : List Entry) → start ≤ n → check_lines n k (line start reach before) es ≡ Good
+few-after : (n k start reach before : ℕ) (es : List Entry) → start ≤ n → check_lines n k (line start reach before) es ≡ Ok tt
     → length es ≤ n - start
 few-after n k start reach before [] s h = omega arith
 few-after n k start reach before (e ∷ es) s h =
     let a = start-after n start reach before e (good_start n k (line start reach before) e es h) in
     omega (arith, few-after n (suc k) e.start.0 e.reach.0 e.before.0 es a.2 (good_more n k (line start reach before) e es h))
 
-pub few-lines : (n k : ℕ) (es : List Entry) → check_lines n k nothing es ≡ Good → length es ≤ n + 1
+pub few-lines : (n k : ℕ) (es : List Entry) → check_lines n k nothing es ≡ Ok tt → length es ≤ n + 1
 unfolding start_good
 few-lines n k [] h = omega arith
 few-lines n k (e ∷ es) h =
@@ -31,15 +30,15 @@ few-lines n k (e ∷ es) h =
 
 -- ---- the whole table
 
-module _ (lines : ℕ) (t : List ℕ) (h : check_table lines t ≡ Good) where
+module _ (lines : ℕ) (t : List ℕ) (h : check_table lines t ≡ Ok tt) where
   abbrev old : List Entry
   old = entries_in lines t
 
-  whole : (nat_le lines (capacity_of entry_numbers t) ≡ true) × (check_entries old ≡ Good)
+  whole : (nat_le lines (capacity_of entry_numbers t) ≡ true) × (check_entries old ≡ Ok tt)
   unfolding check_table
   whole = good-both (nat_le lines (capacity_of entry_numbers t)) (check_entries old) (BadLine 0) h
 
-  reached : (within 1 65536 (last_reach old) ≡ true) × (check_lines (text_length old) 0 nothing old ≡ Good)
+  reached : (within 1 65536 (last_reach old) ≡ true) × (check_lines (text_length old) 0 nothing old ≡ Ok tt)
   unfolding check_entries
   reached = good-both (within 1 65536 (last_reach old)) (check_lines (text_length old) 0 nothing old) (BadLine 0) whole.1
 
@@ -54,7 +53,7 @@ module _ (lines : ℕ) (t : List ℕ) (h : check_table lines t ≡ Good) where
   unfolding text_length
   table-text = omega (arith, table-reach)
 
-  pub table-lines : check_lines (text_length old) 0 nothing old ≡ Good
+  pub table-lines : check_lines (text_length old) 0 nothing old ≡ Ok tt
   table-lines = reached.1
 
   pub table-count : lines ≤ 65536

@@ -1,6 +1,6 @@
 -- The lines of a well formed table from one on that starts behind the replaced bytes can be moved.
 -- Assumes nothing.
-use Rattle.std.specs.Prelude.{◌≡◌, ℕ, zero, suc, ◌+◌, ◌-◌, ◌*◌, ◌<◌, ◌≤◌, true, ◌&&◌, List, [], ◌∷◌, length, drop, ◌==◌, nat_le, nat_lt}
+use Rattle.std.specs.Prelude.{◌≡◌, ℕ, zero, suc, ◌+◌, ◌-◌, ◌*◌, ◌<◌, ◌≤◌, true, ◌&&◌, List, [], ◌∷◌, length, drop, ◌==◌, nat_le, nat_lt, Ok}
 use Rattle.std.proofs.Common.{sym, ◌∙◌, drop-drop}
 use Rattle.std.proofs.Math.Path.{ap, subst}
 use Rattle.std.proofs.Math.Nat.{sub-zero}
@@ -12,7 +12,6 @@ use Rattle.meaning.specs.Checks.{text_limit}
 use Rattle.meaning.specs.Table.{entry_numbers, entry_in, entries_in}
 use Rattle.meaning.specs.WellFormed.{last_reach, text_length, Before, nothing, line, start_good, no_rest, rest_good, count_good, check_lines, check_table}
 use Rattle.meaning.specs.declared.line.Entry.{Entry}
-use Rattle.meaning.specs.declared.refusals.Checked.TheVariants.{Good}
 use Rattle.table.specs.LinesFrom.{lines_from, lines_more}
 use Rattle.laws.specs.GoodLines.{good_more, good_start, good-rest, good-reach, good-count, start-after, count-after}
 use Rattle.look.specs.GoodTable.{table-reach, table-text, table-lines}
@@ -65,7 +64,7 @@ module _ (n : ℕ) (e : Entry) where
 -- ---- line after line
 
 module _ (n : ℕ) (sh : Shift) (short : n ≤ text_limit) where
-  one : (k : ℕ) (b : Before) (e : Entry) (es : List Entry) → check_lines n k b (e ∷ es) ≡ Good → sh.edit.to.0 ≤ e.start.0
+  one : (k : ℕ) (b : Before) (e : Entry) (es : List Entry) → check_lines n k b (e ∷ es) ≡ Ok tt → sh.edit.to.0 ≤ e.start.0
       → e.start.0 ≤ e.reach.0 → sh.from.0 ≤ e.before.0
       → MovableEntry sh e
   one k b e es h s r f =
@@ -77,7 +76,7 @@ module _ (n : ℕ) (sh : Shift) (short : n ≤ text_limit) where
         before = (f, omega (arith, count-within n e b (good-count n k b e es h), start-within n e b (good_start n k b e es h)));
       }
 
-  lines : (k : ℕ) (b : Before) (e : Entry) (es : List Entry) → check_lines n k b (e ∷ es) ≡ Good → last_reach (e ∷ es) ≡ n + 1
+  lines : (k : ℕ) (b : Before) (e : Entry) (es : List Entry) → check_lines n k b (e ∷ es) ≡ Ok tt → last_reach (e ∷ es) ≡ n + 1
       → sh.edit.to.0 ≤ e.start.0 → sh.from.0 ≤ e.before.0
       → AllMovable sh (e ∷ es)
   unfolding last_reach
@@ -90,7 +89,7 @@ module _ (n : ℕ) (sh : Shift) (short : n ≤ text_limit) where
       (one k b e (f ∷ es) h s (omega (arith, a)) p, lines (suc k) c f es more r (omega (arith, a)) (omega (arith, d)))
 
   -- From any of the lines on.
-  pub lines-movable : (j k : ℕ) (b : Before) (es : List Entry) → check_lines n k b es ≡ Good → last_reach es ≡ n + 1
+  pub lines-movable : (j k : ℕ) (b : Before) (es : List Entry) → check_lines n k b es ≡ Ok tt → last_reach es ≡ n + 1
       → (e : Entry) (more : List Entry) → drop j es ≡ e ∷ more → sh.edit.to.0 ≤ e.start.0
       → sh.from.0 ≤ e.before.0 → AllMovable sh (e ∷ more)
   unfolding last_reach
@@ -102,7 +101,7 @@ module _ (n : ℕ) (sh : Shift) (short : n ≤ text_limit) where
       lines-movable j (suc k) (line x.start.0 x.reach.0 x.before.0) (f ∷ es) (good_more n k b x (f ∷ es) h) r e more q s p
 
 -- No more characters than bytes stand before any of them.
-lines-few : (n j k : ℕ) (b : Before) (es : List Entry) → check_lines n k b es ≡ Good → (e : Entry) (more : List Entry) → drop j es ≡ e ∷ more
+lines-few : (n j k : ℕ) (b : Before) (es : List Entry) → check_lines n k b es ≡ Ok tt → (e : Entry) (more : List Entry) → drop j es ≡ e ∷ more
     → e.before.0 ≤ n
 lines-few n zero k b es h e more q =
     let g = ap (check_lines n k b) (sym q) ∙ h in
@@ -114,7 +113,7 @@ lines-few n (suc j) k b (x ∷ es) h e more q =
 -- ---- of a table
 
 module _ (t : List ℕ) (lines j : ℕ) (sh : Shift) where
-  pub table-movable : check_table lines t ≡ Good → j < lines → sh.edit.to.0 ≤ (entry_in (drop (entry_numbers * j) t)).start.0
+  pub table-movable : check_table lines t ≡ Ok tt → j < lines → sh.edit.to.0 ≤ (entry_in (drop (entry_numbers * j) t)).start.0
       → sh.from.0 ≤ (entry_in (drop (entry_numbers * j) t)).before.0
       → AllMovable sh (entries_in (lines - j) (drop (entry_numbers * j) t))
   unfolding text_length lines_from
@@ -127,7 +126,7 @@ module _ (t : List ℕ) (lines j : ℕ) (sh : Shift) where
 
 module _ (t : List ℕ) (lines j : ℕ) where
   -- No more characters than the text has bytes stand before a line.
-  pub table-few : check_table lines t ≡ Good → j < lines → (entry_in (drop (entry_numbers * j) t)).before.0 ≤ text_limit
+  pub table-few : check_table lines t ≡ Ok tt → j < lines → (entry_in (drop (entry_numbers * j) t)).before.0 ≤ text_limit
   unfolding lines_from
   table-few h k =
       let old = entries_in lines t in

@@ -1,14 +1,13 @@
 -- The tests of one line, by the line before it and whether it is the last.
 -- Assumes nothing.
-use Rattle.std.specs.Prelude.{◌≡◌, ℕ, suc, ◌-◌, Bool, true, false, not, ◌&&◌, ◌||◌, List, [], ◌∷◌, ◌==◌, nat_le, nat_lt, refl}
+use Rattle.std.specs.Prelude.{◌≡◌, ℕ, suc, ◌-◌, Bool, true, false, not, ◌&&◌, ◌||◌, List, [], ◌∷◌, ◌==◌, nat_le, nat_lt, refl, Option, Some, None}
 use Rattle.meaning.specs.WellFormed.{Before, nothing, line, start_good, rest_good, ending_good, count_good, entry_good}
 use Rattle.meaning.specs.declared.line.Entry.{Entry}
 use Rattle.look.specs.declared.one_line.LineBefore.{LineBefore}
-use Rattle.look.specs.declared.one_line.LineBefore.TheVariants.{Nothing, Line}
 
-abbrev pub before_of : LineBefore → Before
-before_of Nothing = nothing
-before_of (Line start reach chars) = line start.0 reach.0 chars.0
+abbrev pub before_of : Option LineBefore → Before
+before_of None = nothing
+before_of (Some l) = line l.start.0 l.reach.0 l.before.0
 
 -- A start, in a text of n bytes, where the line before starts at `from` and reaches `reached`.
 unfoldable pub start_fits : (n from reached start : ℕ) → Bool

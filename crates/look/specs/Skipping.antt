@@ -1,10 +1,10 @@
 -- Good lines that are not the last, skipped one after the other by plain numbers.
 -- Assumes nothing.
 use Rattle.std.specs.Prelude.{◌≡◌, ℕ, ◌+◌, ◌-◌, ◌*◌, ◌%◌, ◌<◌, ◌≤◌, true, false, List, length, drop, slice_index, slice_index_or}
+use Rattle.meaning.specs.Refusals.{Checked}
 use Rattle.meaning.specs.Table.{entry_numbers, entry_in}
 use Rattle.meaning.specs.WellFormed.{Before, line, check_lines}
 use Rattle.meaning.specs.Edit.{unaffected}
-use Rattle.meaning.specs.declared.refusals.Checked.{Checked}
 use Rattle.look.specs.OneLine.{count_fits, ending_at, line_good}
 use Rattle.table.specs.LinesFrom.{lines_from}
 

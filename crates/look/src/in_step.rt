@@ -41,9 +41,7 @@ fn all_in_step(table: &[u32], at: usize, lag: u32, most: u32) -> u32
     if high <= last {
         return 1;
     }
-    let mut i: usize = LINES;
-    while 0 < i {
-        i -= 1;
+    for i in (0..LINES).rev() {
         let told = in_step(table, at + ENTRY_NUMBERS * i, lag, last, high);
         if told != 0 {
             return told;
@@ -88,8 +86,5 @@ pub fn skip_in_step(table: &[u32], last: usize, from: usize, most: u32) -> usize
         return from;
     }
     let at = pass_blocks(table, last, before, wrapping_sub_u32(chars, start), most);
-    if at < from {
-        return from;
-    }
-    at
+    at.max(from)
 }

@@ -7,12 +7,12 @@ ghost use Rattle.look.specs.OneLine.{before_of, start_fits, rest_stands, count_f
 use meaning::counts::{Chars, Offset};
 use meaning::line::Entry;
 
-// What a line is held to of the line before it: that line's start, its reach and the characters before
-// it.
+// What a line is held to of the line before it: that line's start, its reach and the characters before it.
 #[derive(Clone, Copy)]
-pub enum LineBefore {
-    Nothing,
-    Line(Offset, Offset, Chars),
+pub struct LineBefore {
+    pub start: Offset,
+    pub reach: Offset,
+    pub before: Chars,
 }
 
 // Every test of a line is made, whatever the others say, as in the definitions.
@@ -50,24 +50,24 @@ pub fn has_no_rest(e: Entry) -> bool
     (e.rest.end.0 == 0) & (e.rest.count.0 == 0)
 }
 
-fn start_good(bytes: Offset, prior: LineBefore, e: Entry) -> bool
+fn start_good(bytes: Offset, prior: Option<LineBefore>, e: Entry) -> bool
     ensures { result ≡ start_good bytes.0 (before_of prior) e }
 {
     let start = e.start.0;
     match prior {
-        LineBefore::Nothing => start == 0,
-        LineBefore::Line(from, reach, _) => start_fits(bytes.0, from.0, reach.0, start),
+        None => start == 0,
+        Some(line) => start_fits(bytes.0, line.start.0, line.reach.0, start),
     }
 }
 
-fn rest_good(bytes: Offset, prior: LineBefore, e: Entry) -> bool
+fn rest_good(bytes: Offset, prior: Option<LineBefore>, e: Entry) -> bool
     ensures { result ≡ rest_good bytes.0 (before_of prior) e }
 {
     match prior {
-        LineBefore::Nothing => has_no_rest(e),
-        LineBefore::Line(_, reach, _) => rest_stands(
+        None => has_no_rest(e),
+        Some(line) => rest_stands(
             bytes.0,
-            reach.0,
+            line.reach.0,
             e.start.0,
             e.rest.end.0,
             e.rest.count.0,
@@ -75,13 +75,13 @@ fn rest_good(bytes: Offset, prior: LineBefore, e: Entry) -> bool
     }
 }
 
-fn count_good(prior: LineBefore, e: Entry) -> bool
+fn count_good(prior: Option<LineBefore>, e: Entry) -> bool
     ensures { result ≡ count_good (before_of prior) e }
 {
     let count = e.before.0;
     match prior {
-        LineBefore::Nothing => count == 0,
-        LineBefore::Line(_, _, from) => count_fits(from.0, e.start.0, count),
+        None => count == 0,
+        Some(line) => count_fits(line.before.0, e.start.0, count),
     }
 }
 
@@ -95,7 +95,7 @@ pub fn ending_good(last: bool, ending: u32) -> bool
 }
 
 // One line of a text of so many bytes, given the line before it and whether it is the last.
-pub fn entry_good(bytes: Offset, prior: LineBefore, e: Entry, last: bool) -> bool
+pub fn entry_good(bytes: Offset, prior: Option<LineBefore>, e: Entry, last: bool) -> bool
     requires { bytes.0 ≤ text_limit }
     ensures { result ≡ line_good bytes.0 (before_of prior) e last }
 {

@@ -131,12 +131,10 @@ pub fn all_break(table: &[u32], at: usize) -> bool
     requires { at + block_numbers ≤ length table.now }
     ensures { result ≡ true → (i : ℕ) → i < block_lines → PlainEnd table.now (at + entry_numbers * i) }
 {
-    let mut i: usize = 0;
-    while i < LINES {
+    for i in 0..LINES {
         if !breaks_softly(table, at + ENTRY_NUMBERS * i) {
             return false;
         }
-        i += 1;
     }
     true
 }
@@ -150,13 +148,11 @@ fn all_following(table: &[u32], at: usize, most: u32) -> u32
     if table[before] < table[before + BEFORE] {
         return 1;
     }
-    let mut i: usize = 0;
-    while i < LINES {
+    for i in 0..LINES {
         let told = counted_on(table, at + ENTRY_NUMBERS * i, most);
         if told != 0 {
             return told;
         }
-        i += 1;
     }
     0
 }

@@ -26,13 +26,7 @@ fn skip_runs(table: &[u32], last: usize, from: usize, most: u32) -> usize
 fn block_end(last: usize, at: usize) -> usize
     ensures { result ≤ last }
 {
-    if last < BLOCK {
-        return last;
-    }
-    if last - BLOCK <= at {
-        return last;
-    }
-    at + BLOCK
+    last.min(at.saturating_add(BLOCK))
 }
 
 // The first line from a number of the table on that is not plain, or one behind a block; the line at `last` is none.

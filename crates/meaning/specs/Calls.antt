@@ -2,7 +2,14 @@
 -- A text is a list of bytes here, and a table or buffer a list of numbers.
 -- Refusal 1, refusal 2, refusal 3, refusal 4, refusal 5, refusal 6, refusal 8, refusal 9, refusal 10, refusal 11, refusal 12, laying again.
 -- Assumes nothing.
-use Rattle.std.specs.Prelude.{ℕ, not, List, [], ◌∷◌, map, ltb, eqb, ℤ, length}
+use Rattle.std.specs.Prelude.{ℕ, not, List, [], ◌∷◌, map, ltb, eqb, ℤ, length, Err, None, Ok, Option, Result, Some}
+use Rattle.meaning.specs.Refusals.{Checked}
+use Rattle.meaning.specs.declared.answers.Drawing.{Drawing}
+use Rattle.meaning.specs.declared.answers.FileRead.{FileRead}
+use Rattle.meaning.specs.declared.answers.LineY.{LineY}
+use Rattle.meaning.specs.declared.answers.NextLine.{NextLine}
+use Rattle.meaning.specs.declared.refusals.Refusal.{Refusal}
+use Rattle.meaning.specs.declared.answers.Relaid.{Relaid}
 use Rattle.basis.specs.Choice.{pick}
 use Rattle.utf8.specs.Decoding.{decode_all}
 use Rattle.meaning.specs.Checks.{refuse_if, first_of, answered, afterwards, check_settings, check_length, check_utf8, check_room}
@@ -24,34 +31,6 @@ use Rattle.meaning.specs.declared.line.Rest.{Rest}
 use Rattle.meaning.specs.declared.line.Entry.{Entry}
 use Rattle.meaning.specs.declared.line.Event.{Event}
 use Rattle.meaning.specs.declared.refusals.Refusal.TheVariants.{BadLine}
-use Rattle.meaning.specs.declared.refusals.Checked.{Checked}
-use Rattle.meaning.specs.declared.refusals.Checked.TheVariants.{Good, Refused}
-use Rattle.meaning.specs.declared.answers.Tokenized.{Tokenized}
-use Rattle.meaning.specs.declared.answers.Tokenized.TheVariants as tokenized
-use Rattle.meaning.specs.declared.answers.Laid.{Laid}
-use Rattle.meaning.specs.declared.answers.Laid.TheVariants as laid
-use Rattle.meaning.specs.declared.answers.LaidWithEvents.{LaidWithEvents}
-use Rattle.meaning.specs.declared.answers.LaidWithEvents.TheVariants as drawing
-use Rattle.meaning.specs.declared.answers.Opened.{Opened}
-use Rattle.meaning.specs.declared.answers.Opened.TheVariants as opened
-use Rattle.meaning.specs.declared.answers.Framed.{Framed}
-use Rattle.meaning.specs.declared.answers.Framed.TheVariants as framed
-use Rattle.meaning.specs.declared.answers.Affected.{Affected}
-use Rattle.meaning.specs.declared.answers.Affected.TheVariants as affecting
-use Rattle.meaning.specs.declared.answers.Relaid.{Relaid}
-use Rattle.meaning.specs.declared.answers.Relaid.TheVariants as relaid
-use Rattle.meaning.specs.declared.answers.Height.{Height}
-use Rattle.meaning.specs.declared.answers.Height.TheVariants as height
-use Rattle.meaning.specs.declared.answers.LineY.{LineY}
-use Rattle.meaning.specs.declared.answers.LineY.TheVariants as liney
-use Rattle.meaning.specs.declared.answers.Indexed.{Indexed}
-use Rattle.meaning.specs.declared.answers.Indexed.TheVariants as indexed
-use Rattle.meaning.specs.declared.answers.FoundLine.{FoundLine}
-use Rattle.meaning.specs.declared.answers.FoundLine.TheVariants as found
-use Rattle.meaning.specs.declared.answers.FileWritten.{FileWritten}
-use Rattle.meaning.specs.declared.answers.FileWritten.TheVariants as filed
-use Rattle.meaning.specs.declared.answers.FileRead.{FileRead}
-use Rattle.meaning.specs.declared.answers.FileRead.TheVariants as fileread
 
 -- ---- tokens
 
@@ -62,8 +41,8 @@ unfoldable pub check_tokens : List ℕ → (buffer : List ℕ) → Checked
 check_tokens t buffer =
     first_of (check_length (length t) ∷ check_utf8 t ∷ check_room (capacity_of token_numbers buffer) (length (text_tokens t)) ∷ [])
 
-unfoldable pub tokens_answer : List ℕ → (buffer : List ℕ) → Tokenized
-tokens_answer t buffer = answered (check_tokens t buffer) (tokenized.Tokens (length (text_tokens t))) tokenized.Refused
+unfoldable pub tokens_answer : List ℕ → (buffer : List ℕ) → Result ℕ Refusal
+tokens_answer t buffer = answered (check_tokens t buffer) (Ok (length (text_tokens t))) Err
 
 unfoldable pub tokens_buffer : List ℕ → (buffer : List ℕ) → List ℕ
 tokens_buffer t buffer = afterwards (check_tokens t buffer) (written buffer (of_all of_token (text_tokens t))) buffer
@@ -84,8 +63,8 @@ check_layout s t table =
     first_of
     (check_settings s ∷ check_length (length t) ∷ check_utf8 t ∷ check_room (capacity_of entry_numbers table) (length (text_entries s t)) ∷ [])
 
-unfoldable pub layout_answer : Settings → List ℕ → (table : List ℕ) → Laid
-layout_answer s t table = answered (check_layout s t table) (laid.Lines (length (text_entries s t))) laid.Refused
+unfoldable pub layout_answer : Settings → List ℕ → (table : List ℕ) → Result ℕ Refusal
+layout_answer s t table = answered (check_layout s t table) (Ok (length (text_entries s t))) Err
 
 unfoldable pub layout_table : Settings → List ℕ → (table : List ℕ) → List ℕ
 layout_table s t table = afterwards (check_layout s t table) (written table (of_all of_entry (text_entries s t))) table
@@ -96,9 +75,9 @@ unfoldable pub check_drawing : Settings → List ℕ → (table events : List �
 check_drawing s t table events =
     first_of (check_layout s t table ∷ check_room (capacity_of event_numbers events) (length (text_events s t)) ∷ [])
 
-unfoldable pub drawing_answer : Settings → List ℕ → (table events : List ℕ) → LaidWithEvents
+unfoldable pub drawing_answer : Settings → List ℕ → (table events : List ℕ) → Result Drawing Refusal
 drawing_answer s t table events =
-    answered (check_drawing s t table events) (drawing.Lines (length (text_entries s t)) (length (text_events s t))) drawing.Refused
+    answered (check_drawing s t table events) (Ok (record { lines = length (text_entries s t); events = length (text_events s t) })) Err
 
 unfoldable pub drawing_table : Settings → List ℕ → (table events : List ℕ) → List ℕ
 drawing_table s t table events = afterwards (check_drawing s t table events) (written table (of_all of_entry (text_entries s t))) table
@@ -111,8 +90,8 @@ drawing_events s t table events = afterwards (check_drawing s t table events) (w
 unfoldable pub check_open : Settings → List ℕ → Checked
 check_open s t = first_of (check_settings s ∷ check_length (length t) ∷ check_utf8 t ∷ [])
 
-unfoldable pub open_answer : Settings → List ℕ → Opened
-open_answer s t = answered (check_open s t) (opened.At 0) opened.Refused
+unfoldable pub open_answer : Settings → List ℕ → Result ℕ Refusal
+open_answer s t = answered (check_open s t) (Ok 0) Err
 
 -- 5, with line 0: a start or a rest that a line cannot have.
 unfoldable pub check_stand : List ℕ → (start : ℕ) → Rest → Checked
@@ -123,10 +102,10 @@ check_frame s t start r entry =
     first_of
     (check_settings s ∷ check_length (length t) ∷ check_utf8 t ∷ check_stand t start r ∷ check_room (capacity_of entry_numbers entry) 1 ∷ [])
 
-unfoldable pub frame_answer : Settings → List ℕ → (start : ℕ) → Rest → (entry : List ℕ) → Framed
+unfoldable pub frame_answer : Settings → List ℕ → (start : ℕ) → Rest → (entry : List ℕ) → Result NextLine Refusal
 frame_answer s t start r entry =
     let o = one_line s (decode_all t) start r in
-    answered (check_frame s t start r entry) (framed.Line (record { 0 = o.next }) o.rest) framed.Refused
+    answered (check_frame s t start r entry) (Ok (record { start = record { 0 = o.next }; rest = o.rest })) Err
 
 unfoldable pub frame_entry : Settings → List ℕ → (start : ℕ) → Rest → (entry : List ℕ) → List ℕ
 frame_entry s t start r entry =
@@ -139,9 +118,9 @@ check_affected table lines ed =
     let old = entries_in lines table in
     first_of (check_whole (check_table lines table) old ed ∷ check_table lines table ∷ check_order old ed ∷ [])
 
-unfoldable pub affected_answer : List ℕ → (lines : ℕ) → Edit → Affected
+unfoldable pub affected_answer : List ℕ → (lines : ℕ) → Edit → Result ℕ Refusal
 affected_answer table lines ed =
-    answered (check_affected table lines ed) (affecting.Line (length (unaffected ed.from.0 (entries_in lines table)))) affecting.Refused
+    answered (check_affected table lines ed) (Ok (length (unaffected ed.from.0 (entries_in lines table)))) Err
 
 -- ---- laying again: the part is the new text from the first affected line's start on
 
@@ -164,10 +143,10 @@ check_relay s part table lines ed =
     ∷ check_room (capacity_of entry_numbers table) (length (lines_after s part table lines ed)) ∷ [])
 
 -- The lines that the table now holds, and how many were laid.
-unfoldable pub relay_answer : Settings → List ℕ → List ℕ → (lines : ℕ) → Edit → Relaid
+unfoldable pub relay_answer : Settings → List ℕ → List ℕ → (lines : ℕ) → Edit → Result Relaid Refusal
 relay_answer s part table lines ed =
     answered (check_relay s part table lines ed)
-    (relaid.Lines (length (lines_after s part table lines ed)) (length (lines_laid s part table lines ed))) relaid.Refused
+    (Ok (record { lines = length (lines_after s part table lines ed); laid = length (lines_laid s part table lines ed) })) Err
 
 unfoldable pub relay_table : Settings → List ℕ → List ℕ → (lines : ℕ) → Edit → List ℕ
 relay_table s part table lines ed =
@@ -178,22 +157,22 @@ relay_table s part table lines ed =
 unfoldable pub check_height : Settings → List ℕ → (lines : ℕ) → Checked
 check_height s table lines = first_of (check_settings s ∷ check_table lines table ∷ [])
 
-unfoldable pub height_answer : Settings → List ℕ → (lines : ℕ) → Height
-height_answer s table lines = answered (check_height s table lines) (height.Pixels (height_of s (entries_in lines table))) height.Refused
+unfoldable pub height_answer : Settings → List ℕ → (lines : ℕ) → Result ℕ Refusal
+height_answer s table lines = answered (check_height s table lines) (Ok (height_of s (entries_in lines table))) Err
 
-unfoldable pub y_answer : Settings → List ℕ → (lines line : ℕ) → LineY
+unfoldable pub y_answer : Settings → List ℕ → (lines line : ℕ) → Result (Option LineY) Refusal
 y_answer s table lines k =
     let y = y_of s k (entries_in lines table) in
     answered (check_height s table lines)
-    (pick (ltb k lines) (pick (shows_at s y) (liney.Shows y) (liney.Hidden y)) liney.NoLine) liney.Refused
+    (Ok (pick (ltb k lines) (Some (record { y = y; shows = shows_at s y })) None)) Err
 
 -- ---- the index of ys, made and made again: 1, 2, 5, 8
 
 unfoldable pub check_indexing : Settings → List ℕ → (lines room : ℕ) → Checked
 check_indexing s table lines room = first_of (check_settings s ∷ check_table lines table ∷ check_room room lines ∷ [])
 
-unfoldable pub index_answer : Settings → List ℕ → (lines : ℕ) → (index : List ℤ) → Indexed
-index_answer s table lines index = answered (check_indexing s table lines (length index)) (indexed.Lines lines) indexed.Refused
+unfoldable pub index_answer : Settings → List ℕ → (lines : ℕ) → (index : List ℤ) → Result ℕ Refusal
+index_answer s table lines index = answered (check_indexing s table lines (length index)) (Ok lines) Err
 
 -- The index afterwards, where the entries of so many lines are kept.
 unfoldable pub index_from : (kept : ℕ) → Settings → List ℕ → (lines : ℕ) → (index : List ℤ) → List ℤ
@@ -211,8 +190,8 @@ index_again_after s table lines first index = index_from (kept_before s first) s
 unfoldable pub check_finding : List ℕ → (lines : ℕ) → (index : List ℤ) → Checked
 check_finding table lines index = first_of (check_table lines table ∷ check_index lines index ∷ [])
 
-unfoldable pub find_answer : List ℕ → (lines : ℕ) → (index : List ℤ) → (y : ℤ) → FoundLine
-find_answer table lines index y = answered (check_finding table lines index) (find_in y index) found.Refused
+unfoldable pub find_answer : List ℕ → (lines : ℕ) → (index : List ℤ) → (y : ℤ) → Result (Option ℕ) Refusal
+find_answer table lines index y = answered (check_finding table lines index) (Ok (find_in y index)) Err
 
 -- ---- a layout written to a file: 1, 2, 5, 8 (in bytes)
 
@@ -223,9 +202,9 @@ unfoldable pub check_writing : Settings → List ℕ → (lines : ℕ) → (file
 check_writing s table lines file =
     first_of (check_settings s ∷ check_table lines table ∷ check_room (length file) (length (written_file s table lines)) ∷ [])
 
-unfoldable pub writing_answer : Settings → List ℕ → (lines : ℕ) → (file : List ℕ) → FileWritten
+unfoldable pub writing_answer : Settings → List ℕ → (lines : ℕ) → (file : List ℕ) → Result ℕ Refusal
 writing_answer s table lines file =
-    answered (check_writing s table lines file) (filed.Bytes (length (written_file s table lines))) filed.Refused
+    answered (check_writing s table lines file) (Ok (length (written_file s table lines))) Err
 
 unfoldable pub writing_file : Settings → List ℕ → (lines : ℕ) → (file : List ℕ) → List ℕ
 writing_file s table lines file = afterwards (check_writing s table lines file) (written file (written_file s table lines)) file
@@ -240,17 +219,17 @@ check_reading file settings table =
     ∷ check_lines_read (file_text_length file) (file_entries file) ∷ check_room (length settings) settings_numbers
     ∷ check_room (capacity_of entry_numbers table) (length (file_entries file)) ∷ [])
 
-unfoldable pub reading_answer : (file settings table : List ℕ) → FileRead
+unfoldable pub reading_answer : (file settings table : List ℕ) → Result FileRead Refusal
 reading_answer file settings table =
-    answered (check_reading file settings table) (fileread.Lines (length (file_entries file)) (file_text_length file)) fileread.Refused
+    answered (check_reading file settings table) (Ok (record { lines = length (file_entries file); bytes = file_text_length file })) Err
 
 unfoldable pub reading_table : (file settings table : List ℕ) → List ℕ
 reading_table file settings table = afterwards (check_reading file settings table) (written table (of_all of_entry (file_entries file))) table
 
 -- The settings are handed out where nothing is refused, and with refusal 12.
 unfoldable pub handed_out : Checked → List ℕ → List ℕ → List ℕ
-handed_out Good new old = new
-handed_out (Refused r) new old = pick (eqb (number_of r) 12) new old
+handed_out (Ok tt) new old = new
+handed_out (Err r) new old = pick (eqb (number_of r) 12) new old
 
 unfoldable pub reading_settings : (file settings table : List ℕ) → List ℕ
 reading_settings file settings table =

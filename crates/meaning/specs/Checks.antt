@@ -1,43 +1,42 @@
 -- The refusals that need no layout, 1 to 4, and how a call goes through its tests.
 -- Refusal 1, refusal 2, refusal 3, refusal 4, refusal 8.
 -- Assumes nothing.
-use Rattle.std.specs.Prelude.{ℕ, Bool, not, List, [], ◌∷◌, ltb, eqb, length}
+use Rattle.std.specs.Prelude.{ℕ, Bool, not, List, [], ◌∷◌, ltb, eqb, length, Err, Ok}
+use Rattle.meaning.specs.Refusals.{Checked}
 use Rattle.basis.specs.Choice.{pick}
 use Rattle.utf8.specs.Decoding.{valid_prefix}
 use Rattle.meaning.specs.Settings.{in_range, known_alignment, known_vertical}
 use Rattle.meaning.specs.declared.settings.Settings.{Settings}
 use Rattle.meaning.specs.declared.refusals.Refusal.{Refusal}
 use Rattle.meaning.specs.declared.refusals.Refusal.TheVariants.{SettingOutOfRange, UnknownAlignment, TextTooLong, NotUtf8, TooSmall}
-use Rattle.meaning.specs.declared.refusals.Checked.{Checked}
-use Rattle.meaning.specs.declared.refusals.Checked.TheVariants.{Good, Refused}
 
 -- Given exactly when the test holds.
 unfoldable pub refuse_if : Bool → Refusal → Checked
-refuse_if b r = pick b (Refused r) Good
+refuse_if b r = pick b (Err r) (Ok tt)
 
 -- Tested in order, the first that applies.
 unfoldable pub first_of : List Checked → Checked
-first_of [] = Good
-first_of (Good ∷ cs) = first_of cs
-first_of (Refused r ∷ cs) = Refused r
+first_of [] = Ok tt
+first_of ((Ok tt) ∷ cs) = first_of cs
+first_of (Err r ∷ cs) = Err r
 
 -- What a call answers, and what a lent buffer holds afterwards: a refusal writes nothing.
 abbrev pub answered {ℓ} : {X : Type ℓ} → Checked → X → (Refusal → X) → X
-answered Good x f = x
-answered (Refused r) x f = f r
+answered (Ok tt) x f = x
+answered (Err r) x f = f r
 
 abbrev pub afterwards {ℓ} : {X : Type ℓ} → Checked → X → X → X
-afterwards Good new old = new
-afterwards (Refused r) new old = old
+afterwards (Ok tt) new old = new
+afterwards (Err r) new old = old
 
 -- 1: a setting is out of range. 2: an alignment is unknown, the horizontal looked at first.
 unfoldable pub check_settings : Settings → Checked
 check_settings s =
     pick (in_range s)
     (pick (known_alignment s.alignment)
-    (pick (known_vertical s.vertical) Good (Refused (UnknownAlignment s.vertical)))
-    (Refused (UnknownAlignment s.alignment)))
-    (Refused SettingOutOfRange)
+    (pick (known_vertical s.vertical) (Ok tt) (Err (UnknownAlignment s.vertical)))
+    (Err (UnknownAlignment s.alignment)))
+    (Err SettingOutOfRange)
 
 -- 1: a limit of so many lines lets no line in.
 unfoldable pub check_limit : (h : ℕ) → Checked

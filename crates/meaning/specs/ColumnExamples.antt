@@ -1,7 +1,8 @@
 -- Computed examples of box widths in which a text fits whole, of the planned width, and of what both calls refuse (rule 10; refusal 1,
 -- refusal 2, refusal 4).
 -- Assumes nothing.
-use Rattle.std.specs.Prelude.{ℕ, ◌≡◌, refl, Bool, true, false, List, [], ◌∷◌, map, length}
+use Rattle.std.specs.Prelude.{ℕ, ◌≡◌, refl, Bool, true, false, List, [], ◌∷◌, map, length, Err, None, Ok, Option, Result, Some}
+use Rattle.meaning.specs.declared.refusals.Refusal.{Refusal}
 use Prim.Native.String.{String}
 use Rattle.meaning.specs.Checks.{check_limit, check_text}
 use Rattle.meaning.specs.Layout.{layout}
@@ -12,10 +13,6 @@ use Rattle.meaning.specs.Examples.{codes, laid_out, lines_of, box, waiting_box}
 use Rattle.meaning.specs.SmallExamples.{call_found, set}
 use Rattle.meaning.specs.declared.settings.Settings.{Settings}
 use Rattle.meaning.specs.declared.refusals.Refusal.TheVariants.{SettingOutOfRange, UnknownAlignment, NotUtf8}
-use Rattle.meaning.specs.declared.answers.Fitted.{Fitted}
-use Rattle.meaning.specs.declared.answers.Fitted.TheVariants as fitted
-use Rattle.meaning.specs.declared.answers.Planned.{Planned}
-use Rattle.meaning.specs.declared.answers.Planned.TheVariants as planned
 
 -- ---- a width that is tried: its lines, whether none dropped a character, and whether the text fits so
 
@@ -84,26 +81,26 @@ pub record PlanExample : Type 0 where
   pub limit : ℕ
   pub first : ℕ
   pub count : ℕ
-  pub planned : Planned
+  pub planned : Option ℕ
 
-abbrev planning : Settings → String → (limit first count : ℕ) → Planned → PlanExample
+abbrev planning : Settings → String → (limit first count : ℕ) → Option ℕ → PlanExample
 planning s t h w n p = record { settings = s; text = t; limit = h; first = w; count = n; planned = p }
 
 abbrev pub plan_examples : List PlanExample
 plan_examples =
     -- the first of all, one in the middle, the last one, and one too few of them
-    planning (box 0) "" 1 0 3 (planned.Width 0)
-    ∷ planning (box 0) "ab cde" 2 0 24 (planned.Width 18)
-    ∷ planning (box 0) "ab cde" 2 0 19 (planned.Width 18)
-    ∷ planning (box 0) "ab cde" 2 0 18 planned.NoWidth
+    planning (box 0) "" 1 0 3 (Some 0)
+    ∷ planning (box 0) "ab cde" 2 0 24 (Some 18)
+    ∷ planning (box 0) "ab cde" 2 0 19 (Some 18)
+    ∷ planning (box 0) "ab cde" 2 0 18 None
     -- none at all, and no width to try
-    ∷ planning (box 0) "a\nb" 1 0 24 planned.NoWidth
-    ∷ planning (box 0) "" 1 0 0 planned.NoWidth
+    ∷ planning (box 0) "a\nb" 1 0 24 None
+    ∷ planning (box 0) "" 1 0 0 None
     -- the smallest of all, although wider ones will not do; and the next one that does
-    ∷ planning (box 0) "     ab" 2 0 40 (planned.Width 18)
-    ∷ planning (box 0) "     ab" 2 30 10 (planned.Width 36)
-    ∷ planning (waiting_box 0) "aaa\u{ad}\u{ad}\u{ad}a" 2 0 26 (planned.Width 12)
-    ∷ planning (waiting_box 0) "aaa\u{ad}\u{ad}\u{ad}a" 2 18 8 (planned.Width 24)
+    ∷ planning (box 0) "     ab" 2 0 40 (Some 18)
+    ∷ planning (box 0) "     ab" 2 30 10 (Some 36)
+    ∷ planning (waiting_box 0) "aaa\u{ad}\u{ad}\u{ad}a" 2 0 26 (Some 12)
+    ∷ planning (waiting_box 0) "aaa\u{ad}\u{ad}\u{ad}a" 2 18 8 (Some 24)
     ∷ []
 
 unfoldable pub plan_found : PlanExample → PlanExample
@@ -122,21 +119,21 @@ pub record FitCall : Type 0 where
   pub settings : Settings
   pub limit : ℕ
   pub text : List ℕ
-  pub fitted : Fitted
+  pub fitted : Result Bool Refusal
 
-abbrev asking : Settings → ℕ → List ℕ → Fitted → FitCall
+abbrev asking : Settings → ℕ → List ℕ → Result Bool Refusal → FitCall
 asking s h t f = record { settings = s; limit = h; text = t; fitted = f }
 
 abbrev pub fit_calls : List FitCall
 fit_calls =
     -- no line, or a width outside the limits, before an unknown alignment; settings before text
-    asking (set 6 4 0) 0 (0xFF ∷ []) (fitted.Refused SettingOutOfRange)
-    ∷ asking (with_width (set 6 4 0) 4097) 1 (0xFF ∷ []) (fitted.Refused SettingOutOfRange)
-    ∷ asking (with_width (set 6 4 0) 4096) 1 (0xFF ∷ []) (fitted.Refused (UnknownAlignment 4))
-    ∷ asking (set 6 0 0) 1 (0x61 ∷ 0xFF ∷ []) (fitted.Refused (NotUtf8 (record { 0 = 1 })))
+    asking (set 6 4 0) 0 (0xFF ∷ []) (Err SettingOutOfRange)
+    ∷ asking (with_width (set 6 4 0) 4097) 1 (0xFF ∷ []) (Err SettingOutOfRange)
+    ∷ asking (with_width (set 6 4 0) 4096) 1 (0xFF ∷ []) (Err (UnknownAlignment 4))
+    ∷ asking (set 6 0 0) 1 (0x61 ∷ 0xFF ∷ []) (Err (NotUtf8 (record { 0 = 1 })))
     -- "a", LF, "b": two lines
-    ∷ asking (set 6 0 0) 1 (0x61 ∷ 0x0A ∷ 0x62 ∷ []) fitted.No
-    ∷ asking (set 6 0 0) 2 (0x61 ∷ 0x0A ∷ 0x62 ∷ []) fitted.Yes
+    ∷ asking (set 6 0 0) 1 (0x61 ∷ 0x0A ∷ 0x62 ∷ []) (Ok false)
+    ∷ asking (set 6 0 0) 2 (0x61 ∷ 0x0A ∷ 0x62 ∷ []) (Ok true)
     ∷ []
 
 unfoldable pub fit_found : FitCall → FitCall
@@ -148,7 +145,7 @@ unfolding fit_found
 fit_calls_hold = refl
 
 -- The planner refuses the same, the width that it does not use too.
-unfoldable pub planned_for : Settings → (h : ℕ) → List ℕ → Planned
+unfoldable pub planned_for : Settings → (h : ℕ) → List ℕ → Result (Option ℕ) Refusal
 unfolding call_found with_width check_limit check_text check_columns planning_answer
 planned_for s h t = planning_answer s h t
 
@@ -157,10 +154,10 @@ pub plan_calls_hold : planned_for (set 6 4 0) 0 (0xFF ∷ [])
     ∷ planned_for (set 6 4 0) 1 (0xFF ∷ [])
     ∷ planned_for (set 6 0 0) 1 (0x61 ∷ 0xFF ∷ [])
     ∷ []
-    ≡ planned.Refused SettingOutOfRange
-    ∷ planned.Refused SettingOutOfRange
-    ∷ planned.Refused (UnknownAlignment 4)
-    ∷ planned.Refused (NotUtf8 (record { 0 = 1 }))
+    ≡ Err SettingOutOfRange
+    ∷ Err SettingOutOfRange
+    ∷ Err (UnknownAlignment 4)
+    ∷ Err (NotUtf8 (record { 0 = 1 }))
     ∷ []
 unfolding planned_for
 plan_calls_hold = refl

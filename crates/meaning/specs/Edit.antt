@@ -1,6 +1,7 @@
 -- Laying again after an edit: the first affected line, refusal 3, refusal 5 and refusal 6 of an edit, and the lines afterwards.
 -- Assumes nothing.
-use Rattle.std.specs.Prelude.{ℕ, zero, suc, ◌+◌, ◌-◌, Bool, ◌&&◌, ◌||◌, not, List, [], ◌∷◌, ◌++◌, map, leb, eqb, length, take, drop}
+use Rattle.std.specs.Prelude.{ℕ, zero, suc, ◌+◌, ◌-◌, Bool, ◌&&◌, ◌||◌, not, List, [], ◌∷◌, ◌++◌, map, leb, eqb, length, take, drop, Err, Ok}
+use Rattle.meaning.specs.Refusals.{Checked}
 use Rattle.basis.specs.Choice.{pick}
 use Rattle.utf8.specs.Encoding.{bytes, size}
 use Rattle.utf8.specs.Places.{boundary}
@@ -16,8 +17,6 @@ use Rattle.meaning.specs.declared.line.LineEnd.TheVariants.{NewLine, CarriageRet
 use Rattle.meaning.specs.declared.line.Rest.{Rest}
 use Rattle.meaning.specs.declared.line.Entry.{Entry}
 use Rattle.meaning.specs.declared.refusals.Refusal.TheVariants.{BadLine, BadEdit}
-use Rattle.meaning.specs.declared.refusals.Checked.{Checked}
-use Rattle.meaning.specs.declared.refusals.Checked.TheVariants.{Good, Refused}
 
 -- The lines before the first one with reach > a, and the lines from it on.
 unfoldable pub unaffected : (a : ℕ) → List Entry → List Entry
@@ -42,8 +41,8 @@ new_length es ed = text_length es + ed.inserted.0 - (ed.to.0 - ed.from.0)
 
 -- 3: the edited whole is too long, if the table is well formed and the edit replaces bytes of the old text.
 unfoldable pub check_whole : (table : Checked) → List Entry → Edit → Checked
-check_whole (Refused r) es ed = Good
-check_whole Good es ed = pick (in_order es ed) (check_length (new_length es ed)) Good
+check_whole (Err r) es ed = Ok tt
+check_whole (Ok tt) es ed = pick (in_order es ed) (check_length (new_length es ed)) (Ok tt)
 
 -- How many characters the first n bytes hold.
 unfoldable pub chars_in : List ℕ → ℕ → ℕ
@@ -60,7 +59,7 @@ rest_fits e cs =
     no_rest e || (boundary cs n && leb e.rest.count.0 (chars_in cs n))
 
 unfoldable pub check_rest : (k : ℕ) → List Entry → List ℕ → Checked
-check_rest k [] cs = Good
+check_rest k [] cs = Ok tt
 check_rest k (e ∷ es) cs = refuse_if (not (rest_fits e cs)) (BadLine k)
 
 -- 6, of an edit alone.
@@ -76,7 +75,7 @@ part_fits es ed e n cs =
     && boundary cs (ed.from.0 + ed.inserted.0 - e.start.0)
 
 unfoldable pub check_edit : List Entry → Edit → List Entry → (length : ℕ) → List ℕ → Checked
-check_edit es ed [] n cs = Refused BadEdit
+check_edit es ed [] n cs = Err BadEdit
 check_edit es ed (e ∷ more) n cs = refuse_if (not (part_fits es ed e n cs)) BadEdit
 
 -- An offset behind the replaced bytes, moved by the change of length.

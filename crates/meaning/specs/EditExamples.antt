@@ -2,7 +2,9 @@
 -- and how many were laid, and the lines afterwards.
 -- Laying again.
 -- Assumes nothing.
-use Rattle.std.specs.Prelude.{ℕ, zero, suc, List, [], ◌∷◌, ◌++◌, map, length, take, drop}
+use Rattle.std.specs.Prelude.{ℕ, zero, suc, List, [], ◌∷◌, ◌++◌, map, length, take, drop, Ok, Result}
+use Rattle.meaning.specs.declared.refusals.Refusal.{Refusal}
+use Rattle.meaning.specs.declared.answers.Relaid.{Relaid}
 use Prim.Native.String.{String}
 use Rattle.utf8.specs.Encoding.{encode, size, encode_all}
 use Rattle.utf8.specs.WellFormed.{well_formed, rows, fits, some_fits}
@@ -19,10 +21,6 @@ use Rattle.meaning.specs.Layout.{layout}
 use Rattle.meaning.specs.declared.settings.Settings.{Settings}
 use Rattle.meaning.specs.declared.edit.Edit.{Edit}
 use Rattle.meaning.specs.declared.line.Entry.{Entry}
-use Rattle.meaning.specs.declared.answers.Affected.{Affected}
-use Rattle.meaning.specs.declared.answers.Affected.TheVariants.{Line}
-use Rattle.meaning.specs.declared.answers.Relaid.{Relaid}
-use Rattle.meaning.specs.declared.answers.Relaid.TheVariants.{Lines}
 
 -- An old text in which bytes from `from` up to `to` give way to those of an inserted text; and what comes out.
 pub record EditExample : Type 0 where
@@ -31,51 +29,51 @@ pub record EditExample : Type 0 where
   pub from : ℕ
   pub to : ℕ
   pub inserted : String
-  pub affected : Affected
-  pub answer : Relaid
+  pub affected : Result ℕ Refusal
+  pub answer : Result Relaid Refusal
   pub lines : List (List ℕ)
 
-abbrev example : Settings → String → ℕ → ℕ → String → Affected → Relaid → List (List ℕ) → EditExample
+abbrev example : Settings → String → ℕ → ℕ → String → Result ℕ Refusal → Result Relaid Refusal → List (List ℕ) → EditExample
 example s old from to new a r ls =
     record { settings = s; old = old; from = from; to = to; inserted = new; affected = a; answer = r; lines = ls }
 
 abbrev pub edit_examples : List EditExample
 edit_examples =
     -- "x" typed at 3: line 1 is affected, one line is laid, and the lines start at 0, 3, 7
-    example (box 30) "aa\nbb\ncc" 3 3 "x" (Line 1) (Lines 3 1)
+    example (box 30) "aa\nbb\ncc" 3 3 "x" (Ok 1) (Ok (record { lines = 3; laid = 1 }))
     ((0 ∷ 0 ∷ 0 ∷ 0 ∷ 0 ∷ 6 ∷ 0 ∷ 12 ∷ 0 ∷ 3 ∷ 0 ∷ []) ∷ (3 ∷ 0 ∷ 0 ∷ 0 ∷ 0 ∷ 6 ∷ 0 ∷ 18 ∷ 0 ∷ 7 ∷ 3 ∷ [])
     ∷ (7 ∷ 0 ∷ 0 ∷ 2 ∷ 0 ∷ 6 ∷ 0 ∷ 12 ∷ 0 ∷ 10 ∷ 7 ∷ []) ∷ [])
     -- the "e" deleted, which stands on line 1: line 0 is affected, since "cd" now fits there
-    ∷ example (box 30) "ab cde" 5 6 "" (Line 0) (Lines 1 1) ((0 ∷ 0 ∷ 0 ∷ 2 ∷ 0 ∷ 6 ∷ 0 ∷ 30 ∷ 0 ∷ 6 ∷ 0 ∷ []) ∷ [])
+    ∷ example (box 30) "ab cde" 5 6 "" (Ok 0) (Ok (record { lines = 1; laid = 1 })) ((0 ∷ 0 ∷ 0 ∷ 2 ∷ 0 ∷ 6 ∷ 0 ∷ 30 ∷ 0 ∷ 6 ∷ 0 ∷ []) ∷ [])
     -- an edit of nothing where a line starts: nothing is laid
-    ∷ example (box 30) "aa\nbb\ncc" 3 3 "" (Line 1) (Lines 3 0)
+    ∷ example (box 30) "aa\nbb\ncc" 3 3 "" (Ok 1) (Ok (record { lines = 3; laid = 0 }))
     ((0 ∷ 0 ∷ 0 ∷ 0 ∷ 0 ∷ 6 ∷ 0 ∷ 12 ∷ 0 ∷ 3 ∷ 0 ∷ []) ∷ (3 ∷ 0 ∷ 0 ∷ 0 ∷ 0 ∷ 6 ∷ 0 ∷ 12 ∷ 0 ∷ 6 ∷ 3 ∷ [])
     ∷ (6 ∷ 0 ∷ 0 ∷ 2 ∷ 0 ∷ 6 ∷ 0 ∷ 12 ∷ 0 ∷ 9 ∷ 6 ∷ []) ∷ [])
     -- the old lines that follow move with their rest
-    ∷ example (box 18) "zz\nabc   d" 0 0 "y" (Line 0) (Lines 3 1)
+    ∷ example (box 18) "zz\nabc   d" 0 0 "y" (Ok 0) (Ok (record { lines = 3; laid = 1 }))
     ((0 ∷ 0 ∷ 0 ∷ 0 ∷ 0 ∷ 6 ∷ 0 ∷ 18 ∷ 0 ∷ 4 ∷ 0 ∷ []) ∷ (4 ∷ 0 ∷ 0 ∷ 3 ∷ 0 ∷ 6 ∷ 0 ∷ 18 ∷ 0 ∷ 11 ∷ 4 ∷ [])
     ∷ (8 ∷ 10 ∷ 2 ∷ 2 ∷ 0 ∷ 6 ∷ 0 ∷ 18 ∷ 0 ∷ 12 ∷ 8 ∷ []) ∷ [])
     -- a line that starts right but with another rest is laid: a rest of three spaces fills it, and drops "d"
-    ∷ example (box 18) "abc   d" 4 4 " " (Line 0) (Lines 3 3)
+    ∷ example (box 18) "abc   d" 4 4 " " (Ok 0) (Ok (record { lines = 3; laid = 3 }))
     ((0 ∷ 0 ∷ 0 ∷ 3 ∷ 0 ∷ 6 ∷ 0 ∷ 18 ∷ 0 ∷ 8 ∷ 0 ∷ []) ∷ (4 ∷ 7 ∷ 3 ∷ 3 ∷ 0 ∷ 6 ∷ 0 ∷ 0 ∷ 1 ∷ 9 ∷ 4 ∷ [])
     ∷ (8 ∷ 0 ∷ 0 ∷ 2 ∷ 0 ∷ 6 ∷ 0 ∷ 0 ∷ 0 ∷ 9 ∷ 8 ∷ []) ∷ [])
     -- and so is one that has no rest where the old line had one: a line feed in place of the first space
-    ∷ example (box 18) "abc   d" 3 4 "\n" (Line 0) (Lines 2 2)
+    ∷ example (box 18) "abc   d" 3 4 "\n" (Ok 0) (Ok (record { lines = 2; laid = 2 }))
     ((0 ∷ 0 ∷ 0 ∷ 0 ∷ 0 ∷ 6 ∷ 0 ∷ 18 ∷ 0 ∷ 4 ∷ 0 ∷ []) ∷ (4 ∷ 0 ∷ 0 ∷ 2 ∷ 0 ∷ 6 ∷ 0 ∷ 18 ∷ 0 ∷ 8 ∷ 4 ∷ []) ∷ [])
     -- where the text is not all of one byte a character, the characters before the old lines that follow rise by those typed:
     -- one of two bytes for one of one byte, by none; two of three bytes, by two; and they fall by those deleted
-    ∷ example (box 30) "aé\nbü\ncc" 0 1 "ä" (Line 0) (Lines 3 1)
+    ∷ example (box 30) "aé\nbü\ncc" 0 1 "ä" (Ok 0) (Ok (record { lines = 3; laid = 1 }))
     ((0 ∷ 0 ∷ 0 ∷ 0 ∷ 0 ∷ 6 ∷ 0 ∷ 12 ∷ 0 ∷ 5 ∷ 0 ∷ []) ∷ (5 ∷ 0 ∷ 0 ∷ 0 ∷ 0 ∷ 6 ∷ 0 ∷ 12 ∷ 0 ∷ 9 ∷ 3 ∷ [])
     ∷ (9 ∷ 0 ∷ 0 ∷ 2 ∷ 0 ∷ 6 ∷ 0 ∷ 12 ∷ 0 ∷ 12 ∷ 6 ∷ []) ∷ [])
-    ∷ example (box 30) "aé\nbü\ncc" 4 4 "猫犬" (Line 1) (Lines 3 1)
+    ∷ example (box 30) "aé\nbü\ncc" 4 4 "猫犬" (Ok 1) (Ok (record { lines = 3; laid = 1 }))
     ((0 ∷ 0 ∷ 0 ∷ 0 ∷ 0 ∷ 6 ∷ 0 ∷ 12 ∷ 0 ∷ 4 ∷ 0 ∷ []) ∷ (4 ∷ 0 ∷ 0 ∷ 0 ∷ 0 ∷ 6 ∷ 0 ∷ 24 ∷ 0 ∷ 14 ∷ 3 ∷ [])
     ∷ (14 ∷ 0 ∷ 0 ∷ 2 ∷ 0 ∷ 6 ∷ 0 ∷ 12 ∷ 0 ∷ 17 ∷ 8 ∷ []) ∷ [])
-    ∷ example (box 30) "aé\nbü\ncc" 1 3 "" (Line 0) (Lines 3 1)
+    ∷ example (box 30) "aé\nbü\ncc" 1 3 "" (Ok 0) (Ok (record { lines = 3; laid = 1 }))
     ((0 ∷ 0 ∷ 0 ∷ 0 ∷ 0 ∷ 6 ∷ 0 ∷ 6 ∷ 0 ∷ 2 ∷ 0 ∷ []) ∷ (2 ∷ 0 ∷ 0 ∷ 0 ∷ 0 ∷ 6 ∷ 0 ∷ 12 ∷ 0 ∷ 6 ∷ 2 ∷ [])
     ∷ (6 ∷ 0 ∷ 0 ∷ 2 ∷ 0 ∷ 6 ∷ 0 ∷ 12 ∷ 0 ∷ 9 ∷ 5 ∷ []) ∷ [])
     -- all of a text replaced, and a text emptied
-    ∷ example (box 30) "ab" 0 2 "c d" (Line 0) (Lines 1 1) ((0 ∷ 0 ∷ 0 ∷ 2 ∷ 0 ∷ 6 ∷ 0 ∷ 18 ∷ 0 ∷ 4 ∷ 0 ∷ []) ∷ [])
-    ∷ example (box 30) "ab cde" 0 6 "" (Line 0) (Lines 1 1) ((0 ∷ 0 ∷ 0 ∷ 2 ∷ 0 ∷ 6 ∷ 0 ∷ 0 ∷ 0 ∷ 1 ∷ 0 ∷ []) ∷ [])
+    ∷ example (box 30) "ab" 0 2 "c d" (Ok 0) (Ok (record { lines = 1; laid = 1 })) ((0 ∷ 0 ∷ 0 ∷ 2 ∷ 0 ∷ 6 ∷ 0 ∷ 18 ∷ 0 ∷ 4 ∷ 0 ∷ []) ∷ [])
+    ∷ example (box 30) "ab cde" 0 6 "" (Ok 0) (Ok (record { lines = 1; laid = 1 })) ((0 ∷ 0 ∷ 0 ∷ 2 ∷ 0 ∷ 6 ∷ 0 ∷ 0 ∷ 0 ∷ 1 ∷ 0 ∷ []) ∷ [])
     ∷ []
 
 -- Eleven numbers each of n lines, all 7: a table that nothing was written to.

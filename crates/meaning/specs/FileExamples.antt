@@ -1,7 +1,9 @@
 -- Layout files, computed: the smallest one byte by byte, and which files are refused, and why.
 -- Refusal 1, refusal 2, refusal 3, refusal 5, refusal 8, refusal 9, refusal 11, refusal 12.
 -- Assumes nothing.
-use Rattle.std.specs.Prelude.{ℕ, ◌≡◌, refl, List, [], ◌∷◌, ◌++◌, map, negsuc}
+use Rattle.std.specs.Prelude.{ℕ, ◌≡◌, refl, List, [], ◌∷◌, ◌++◌, map, negsuc, Err, Result, Ok}
+use Rattle.meaning.specs.declared.answers.FileRead.{FileRead}
+use Rattle.meaning.specs.declared.refusals.Refusal.{Refusal}
 use Rattle.basis.specs.Choice.{pick}
 use Rattle.meaning.specs.Settings.{top_in_range, sizes_in_range, in_range, settings_of}
 use Rattle.meaning.specs.Checks.{refuse_if, first_of, check_settings, check_length, check_room}
@@ -14,8 +16,6 @@ use Rattle.meaning.specs.Calls.{check_reading, reading_answer, handed_out, readi
 use Rattle.meaning.specs.Examples.{lines_of}
 use Rattle.meaning.specs.declared.settings.Settings.{Settings}
 use Rattle.meaning.specs.declared.refusals.Refusal.TheVariants.{SettingOutOfRange, UnknownAlignment, TextTooLong, BadLine, TooSmall, BadField, OldEntry, RetiredSetting}
-use Rattle.meaning.specs.declared.answers.FileRead.{FileRead}
-use Rattle.meaning.specs.declared.answers.FileRead.TheVariants as fileread
 
 -- Thirteen different numbers, but for those that can only be few; the box top is -5.
 abbrev known : Settings
@@ -71,51 +71,51 @@ pub record FileExample : Type 0 where
   pub file : List ℕ
   pub settings : List ℕ
   pub table : List ℕ
-  pub answer : FileRead
+  pub answer : Result FileRead Refusal
 
-abbrev reads : List ℕ → List ℕ → List ℕ → FileRead → FileExample
+abbrev reads : List ℕ → List ℕ → List ℕ → Result FileRead Refusal → FileExample
 reads file settings table answer = record { file = file; settings = settings; table = table; answer = answer }
 
 abbrev pub file_examples : List FileExample
 file_examples =
-    reads smallest thirteen_nines roomy (fileread.Lines 1 0)
+    reads smallest thirteen_nines roomy (Ok (record { lines = 1; bytes = 0 }))
     -- 9 at the file's length where a field is missing: the settings, the text's length, the end
-    ∷ reads [] thirteen_nines roomy (fileread.Refused (BadField 0))
-    ∷ reads (settings_bytes 6 1 0) thirteen_nines roomy (fileread.Refused (BadField 55))
-    ∷ reads (settings_bytes 6 1 0 ++ length_bytes 0 0 0) thirteen_nines roomy (fileread.Refused (BadField 62))
+    ∷ reads [] thirteen_nines roomy (Err (BadField 0))
+    ∷ reads (settings_bytes 6 1 0) thirteen_nines roomy (Err (BadField 55))
+    ∷ reads (settings_bytes 6 1 0 ++ length_bytes 0 0 0) thirteen_nines roomy (Err (BadField 62))
     -- and at the field that stands in its place; a header that is cut short
-    ∷ reads (length_bytes 0 0 0) thirteen_nines roomy (fileread.Refused (BadField 0))
-    ∷ reads (settings_bytes 6 1 0 ++ end_bytes) thirteen_nines roomy (fileread.Refused (BadField 55))
-    ∷ reads (settings_bytes 6 1 0 ++ (length_bytes 0 0 0 ++ (3 ∷ 44 ∷ []))) thirteen_nines roomy (fileread.Refused (BadField 62))
+    ∷ reads (length_bytes 0 0 0) thirteen_nines roomy (Err (BadField 0))
+    ∷ reads (settings_bytes 6 1 0 ++ end_bytes) thirteen_nines roomy (Err (BadField 55))
+    ∷ reads (settings_bytes 6 1 0 ++ (length_bytes 0 0 0 ++ (3 ∷ 44 ∷ []))) thirteen_nines roomy (Err (BadField 62))
     -- a wrong length with the bytes exchanged; a line of no number
-    ∷ reads (settings_bytes 6 1 0 ++ (length_bytes 0 0 0 ++ (3 ∷ 0 ∷ 40 ∷ []))) thirteen_nines roomy (fileread.Refused (BadField 62))
-    ∷ reads (settings_bytes 6 1 0 ++ (length_bytes 0 0 0 ++ (3 ∷ 0 ∷ 0 ∷ end_bytes))) thirteen_nines roomy (fileread.Refused (BadField 62))
+    ∷ reads (settings_bytes 6 1 0 ++ (length_bytes 0 0 0 ++ (3 ∷ 0 ∷ 40 ∷ []))) thirteen_nines roomy (Err (BadField 62))
+    ∷ reads (settings_bytes 6 1 0 ++ (length_bytes 0 0 0 ++ (3 ∷ 0 ∷ 0 ∷ end_bytes))) thirteen_nines roomy (Err (BadField 62))
     -- 11: a line of ten numbers, whole and in its place; cut short it is 9
     ∷ reads (settings_bytes 6 1 0 ++ (length_bytes 0 0 0 ++ (old_line ++ (ten_zeros ++ (ten_zeros ++ (ten_zeros ++ ten_zeros)))))) thirteen_nines roomy
-    (fileread.Refused (OldEntry 62))
+    (Err (OldEntry 62))
     ∷ reads (settings_bytes 6 1 0 ++ (length_bytes 0 0 0 ++ (old_line ++ (ten_zeros ++ (ten_zeros ++ ten_zeros))))) thirteen_nines roomy
-    (fileread.Refused (BadField 62))
+    (Err (BadField 62))
     -- a length behind a line; a second text's length
-    ∷ reads (settings_bytes 6 1 0 ++ (length_bytes 0 0 0 ++ (length_bytes 0 0 0 ++ end_bytes))) thirteen_nines roomy (fileread.Refused (BadField 62))
+    ∷ reads (settings_bytes 6 1 0 ++ (length_bytes 0 0 0 ++ (length_bytes 0 0 0 ++ end_bytes))) thirteen_nines roomy (Err (BadField 62))
     -- a byte behind the end
-    ∷ reads (settings_bytes 6 1 0 ++ (length_bytes 0 0 0 ++ (255 ∷ 0 ∷ 0 ∷ 0 ∷ []))) thirteen_nines roomy (fileread.Refused (BadField 65))
+    ∷ reads (settings_bytes 6 1 0 ++ (length_bytes 0 0 0 ++ (255 ∷ 0 ∷ 0 ∷ 0 ∷ []))) thirteen_nines roomy (Err (BadField 65))
     -- fields before settings, 1 before 2 before 12, and 8 with 13 in 12's place
-    ∷ reads (settings_bytes 0 4 1 ++ (length_bytes 0 0 1 ++ (255 ∷ []))) thirteen_nines roomy (fileread.Refused (BadField 62))
-    ∷ reads (settings_bytes 0 4 1 ++ (length_bytes 0 0 1 ++ end_bytes)) thirteen_nines roomy (fileread.Refused SettingOutOfRange)
-    ∷ reads (settings_bytes 6 4 1 ++ (length_bytes 0 0 1 ++ end_bytes)) thirteen_nines roomy (fileread.Refused (UnknownAlignment 4))
-    ∷ reads (settings_bytes 6 1 1 ++ (length_bytes 0 0 1 ++ end_bytes)) thirteen_nines roomy (fileread.Refused RetiredSetting)
-    ∷ reads (settings_bytes 6 1 1 ++ (length_bytes 0 0 1 ++ end_bytes)) ten_zeros roomy (fileread.Refused (TooSmall 13))
-    ∷ reads (settings_bytes 6 1 2 ++ (length_bytes 0 0 1 ++ end_bytes)) ten_zeros roomy (fileread.Refused SettingOutOfRange)
+    ∷ reads (settings_bytes 0 4 1 ++ (length_bytes 0 0 1 ++ (255 ∷ []))) thirteen_nines roomy (Err (BadField 62))
+    ∷ reads (settings_bytes 0 4 1 ++ (length_bytes 0 0 1 ++ end_bytes)) thirteen_nines roomy (Err SettingOutOfRange)
+    ∷ reads (settings_bytes 6 4 1 ++ (length_bytes 0 0 1 ++ end_bytes)) thirteen_nines roomy (Err (UnknownAlignment 4))
+    ∷ reads (settings_bytes 6 1 1 ++ (length_bytes 0 0 1 ++ end_bytes)) thirteen_nines roomy (Err RetiredSetting)
+    ∷ reads (settings_bytes 6 1 1 ++ (length_bytes 0 0 1 ++ end_bytes)) ten_zeros roomy (Err (TooSmall 13))
+    ∷ reads (settings_bytes 6 1 2 ++ (length_bytes 0 0 1 ++ end_bytes)) ten_zeros roomy (Err SettingOutOfRange)
     -- then the text's length, then the lines: none, a length that disagrees before any bad line, the first bad line
-    ∷ reads (settings_bytes 6 1 0 ++ (length_bytes 0 0 1 ++ end_bytes)) ten_zeros [] (fileread.Refused (TextTooLong 65536))
-    ∷ reads (settings_bytes 6 1 0 ++ (length_bytes 255 255 0 ++ end_bytes)) ten_zeros [] (fileread.Refused (BadLine 0))
-    ∷ reads (settings_bytes 6 1 0 ++ (length_bytes 0 0 0 ++ end_bytes)) ten_zeros [] (fileread.Refused (BadLine 0))
-    ∷ reads (settings_bytes 6 1 0 ++ (length_bytes 2 0 0 ++ (line_bytes 0 3 2 ++ (line_bytes 1 3 2 ++ end_bytes)))) ten_zeros [] (fileread.Refused (BadLine 0))
-    ∷ reads (settings_bytes 6 1 0 ++ (length_bytes 1 0 0 ++ (line_bytes 0 3 2 ++ (line_bytes 1 3 2 ++ end_bytes)))) ten_zeros [] (fileread.Refused (BadLine 1))
+    ∷ reads (settings_bytes 6 1 0 ++ (length_bytes 0 0 1 ++ end_bytes)) ten_zeros [] (Err (TextTooLong 65536))
+    ∷ reads (settings_bytes 6 1 0 ++ (length_bytes 255 255 0 ++ end_bytes)) ten_zeros [] (Err (BadLine 0))
+    ∷ reads (settings_bytes 6 1 0 ++ (length_bytes 0 0 0 ++ end_bytes)) ten_zeros [] (Err (BadLine 0))
+    ∷ reads (settings_bytes 6 1 0 ++ (length_bytes 2 0 0 ++ (line_bytes 0 3 2 ++ (line_bytes 1 3 2 ++ end_bytes)))) ten_zeros [] (Err (BadLine 0))
+    ∷ reads (settings_bytes 6 1 0 ++ (length_bytes 1 0 0 ++ (line_bytes 0 3 2 ++ (line_bytes 1 3 2 ++ end_bytes)))) ten_zeros [] (Err (BadLine 1))
     -- then the room: of the settings first
-    ∷ reads (settings_bytes 6 1 0 ++ (length_bytes 1 0 0 ++ (line_bytes 0 3 2 ++ (line_bytes 1 2 2 ++ end_bytes)))) ten_zeros [] (fileread.Refused (TooSmall 13))
-    ∷ reads (settings_bytes 6 1 0 ++ (length_bytes 1 0 0 ++ (line_bytes 0 3 2 ++ (line_bytes 1 2 2 ++ end_bytes)))) thirteen_nines ten_zeros (fileread.Refused (TooSmall 2))
-    ∷ reads (settings_bytes 6 1 0 ++ (length_bytes 1 0 0 ++ (line_bytes 0 3 2 ++ (line_bytes 1 2 2 ++ end_bytes)))) thirteen_nines roomy (fileread.Lines 2 1)
+    ∷ reads (settings_bytes 6 1 0 ++ (length_bytes 1 0 0 ++ (line_bytes 0 3 2 ++ (line_bytes 1 2 2 ++ end_bytes)))) ten_zeros [] (Err (TooSmall 13))
+    ∷ reads (settings_bytes 6 1 0 ++ (length_bytes 1 0 0 ++ (line_bytes 0 3 2 ++ (line_bytes 1 2 2 ++ end_bytes)))) thirteen_nines ten_zeros (Err (TooSmall 2))
+    ∷ reads (settings_bytes 6 1 0 ++ (length_bytes 1 0 0 ++ (line_bytes 0 3 2 ++ (line_bytes 1 2 2 ++ end_bytes)))) thirteen_nines roomy (Ok (record { lines = 2; bytes = 1 }))
     ∷ []
 
 unfoldable pub file_found : FileExample → FileExample

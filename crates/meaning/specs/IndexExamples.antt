@@ -2,7 +2,8 @@
 -- an edit (rule 11, refusal 10).
 -- Assumes nothing.
 use Prim.Native.String.{String}
-use Rattle.std.specs.Prelude.{◌≡◌, refl, List, [], ◌∷◌, map, ℤ, pos, negsuc}
+use Rattle.meaning.specs.declared.refusals.Refusal.{Refusal}
+use Rattle.std.specs.Prelude.{◌≡◌, refl, List, [], ◌∷◌, map, ℤ, pos, negsuc, Err, None, Ok, Option, Result, Some, ℕ}
 use Rattle.basis.specs.Choice.{pick}
 use Rattle.meaning.specs.Layout.{layout}
 use Rattle.meaning.specs.WellFormed.{last_reach, text_length}
@@ -12,9 +13,6 @@ use Rattle.meaning.specs.Examples.{codes, lines_of}
 use Rattle.meaning.specs.SmallExamples.{standing}
 use Rattle.meaning.specs.declared.settings.Settings.{Settings}
 use Rattle.meaning.specs.declared.refusals.Refusal.TheVariants.{BadIndex}
-use Rattle.meaning.specs.declared.refusals.Checked.TheVariants.{Good, Refused}
-use Rattle.meaning.specs.declared.answers.FoundLine.{FoundLine}
-use Rattle.meaning.specs.declared.answers.FoundLine.TheVariants.{Line, NoLine}
 
 -- ---- the index of a text, and the line under a y: spacing 10, paragraph 3, base 8, a box at -5
 
@@ -23,28 +21,28 @@ pub record IndexExample : Type 0 where
   pub text : String
   pub index : List ℤ
   pub y : ℤ
-  pub under : FoundLine
+  pub under : Option ℕ
 
-abbrev tap : Settings → String → List ℤ → ℤ → FoundLine → IndexExample
+abbrev tap : Settings → String → List ℤ → ℤ → Option ℕ → IndexExample
 tap s t index y k = record { settings = s; text = t; index = index; y = y; under = k }
 
 abbrev pub index_examples : List IndexExample
 index_examples =
     -- above the first line, at it, just above the second, at it, and far below the last
-    tap (standing 40 0) "aa\nbb" (negsuc 4 ∷ pos 8 ∷ []) (negsuc 5) NoLine
-    ∷ tap (standing 40 0) "aa\nbb" (negsuc 4 ∷ pos 8 ∷ []) (negsuc 4) (Line 0)
-    ∷ tap (standing 40 0) "aa\nbb" (negsuc 4 ∷ pos 8 ∷ []) (pos 7) (Line 0)
-    ∷ tap (standing 40 0) "aa\nbb" (negsuc 4 ∷ pos 8 ∷ []) (pos 8) (Line 1)
-    ∷ tap (standing 40 0) "aa\nbb" (negsuc 4 ∷ pos 8 ∷ []) (pos 4000) (Line 1)
+    tap (standing 40 0) "aa\nbb" (negsuc 4 ∷ pos 8 ∷ []) (negsuc 5) None
+    ∷ tap (standing 40 0) "aa\nbb" (negsuc 4 ∷ pos 8 ∷ []) (negsuc 4) (Some 0)
+    ∷ tap (standing 40 0) "aa\nbb" (negsuc 4 ∷ pos 8 ∷ []) (pos 7) (Some 0)
+    ∷ tap (standing 40 0) "aa\nbb" (negsuc 4 ∷ pos 8 ∷ []) (pos 8) (Some 1)
+    ∷ tap (standing 40 0) "aa\nbb" (negsuc 4 ∷ pos 8 ∷ []) (pos 4000) (Some 1)
     -- lines joined by a carriage return share a y, and the last of them is found
-    ∷ tap (standing 40 0) "aa\rbb\ncc\rdd" (negsuc 4 ∷ negsuc 4 ∷ pos 8 ∷ pos 8 ∷ []) (pos 0) (Line 1)
-    ∷ tap (standing 40 0) "aa\rbb\ncc\rdd" (negsuc 4 ∷ negsuc 4 ∷ pos 8 ∷ pos 8 ∷ []) (pos 8) (Line 3)
+    ∷ tap (standing 40 0) "aa\rbb\ncc\rdd" (negsuc 4 ∷ negsuc 4 ∷ pos 8 ∷ pos 8 ∷ []) (pos 0) (Some 1)
+    ∷ tap (standing 40 0) "aa\rbb\ncc\rdd" (negsuc 4 ∷ negsuc 4 ∷ pos 8 ∷ pos 8 ∷ []) (pos 8) (Some 3)
     -- in the middle and at the bottom every line moves with the height; half of -21 toward zero is -10
-    ∷ tap (standing 40 1) "aa\nbb" (pos 4 ∷ pos 17 ∷ []) (pos 16) (Line 0)
-    ∷ tap (standing 40 2) "aa\nbb" (pos 14 ∷ pos 27 ∷ []) (pos 13) NoLine
-    ∷ tap (standing 0 1) "aa\nbb" (negsuc 14 ∷ negsuc 1 ∷ []) (negsuc 1) (Line 1)
+    ∷ tap (standing 40 1) "aa\nbb" (pos 4 ∷ pos 17 ∷ []) (pos 16) (Some 0)
+    ∷ tap (standing 40 2) "aa\nbb" (pos 14 ∷ pos 27 ∷ []) (pos 13) None
+    ∷ tap (standing 0 1) "aa\nbb" (negsuc 14 ∷ negsuc 1 ∷ []) (negsuc 1) (Some 1)
     -- a LineBreak before an empty last line counts in that line's y
-    ∷ tap (standing 40 0) "     ab" (negsuc 4 ∷ pos 5 ∷ []) (pos 5) (Line 1)
+    ∷ tap (standing 40 0) "     ab" (negsuc 4 ∷ pos 5 ∷ []) (pos 5) (Some 1)
     ∷ []
 
 unfoldable pub index_found : IndexExample → IndexExample
@@ -63,7 +61,7 @@ indexes_hold = refl
 -- at first.
 pub index_checks_hold : check_index 2 (pos 0 ∷ []) ∷ check_index 2 (pos 9 ∷ pos 8 ∷ pos 7 ∷ []) ∷ check_index 2 [] ∷ check_index 3 (pos 0 ∷ pos 8 ∷ pos 7 ∷ [])
     ∷ check_index 3 (pos 0 ∷ negsuc 0 ∷ negsuc 1 ∷ []) ∷ check_index 3 (negsuc 8 ∷ negsuc 8 ∷ pos 0 ∷ []) ∷ []
-    ≡ Refused (BadIndex 1) ∷ Refused (BadIndex 3) ∷ Refused (BadIndex 0) ∷ Refused (BadIndex 2) ∷ Refused (BadIndex 1) ∷ Good ∷ []
+    ≡ Err (BadIndex 1) ∷ Err (BadIndex 3) ∷ Err (BadIndex 0) ∷ Err (BadIndex 2) ∷ Err (BadIndex 1) ∷ (Ok tt) ∷ []
 unfolding pick check_rising check_ys check_index
 index_checks_hold = refl
 

@@ -1,6 +1,7 @@
 -- Rule 7, rule 8 and rule 9, `process`: one pass over a line, token by token.
 -- Assumes nothing.
-use Rattle.std.specs.Prelude.{ℕ, ◌+◌, ◌-◌, ◌*◌, ◌/◌, max, min, Bool, true, false, ◌&&◌, ◌||◌, not, List, [], ◌∷◌, ◌++◌, eqb, length, take}
+use Rattle.std.specs.Prelude.{ℕ, ◌+◌, ◌-◌, ◌*◌, ◌/◌, max, min, Bool, true, false, ◌&&◌, ◌||◌, not, List, [], ◌∷◌, ◌++◌, eqb, length, take, None, Option, Some}
+use Rattle.meaning.specs.declared.counts.Pixels.{Pixels}
 use Rattle.basis.specs.Choice.{pick}
 use Rattle.utf8.specs.Encoding.{size}
 use Rattle.meaning.specs.Tokens.{Tok, newLine, carriageReturn, tab, softHyphen, space, word, chars_of, size_of, need_of}
@@ -10,8 +11,6 @@ use Rattle.meaning.specs.Lookahead.{Looked, next_fits, next_width}
 use Rattle.meaning.specs.Words.{Drawn, drawn, glues, drawn_word}
 use Rattle.meaning.specs.declared.settings.Settings.{Settings}
 use Rattle.meaning.specs.declared.cursor.Place.{Place}
-use Rattle.meaning.specs.declared.cursor.NextWord.{NextWord}
-use Rattle.meaning.specs.declared.cursor.NextWord.TheVariants.{Nothing, Width}
 use Rattle.meaning.specs.declared.line.LineEnd.{LineEnd}
 use Rattle.meaning.specs.declared.line.LineEnd.TheVariants.{NewLine, CarriageReturn, EndOfText, LineBreak}
 use Rattle.meaning.specs.declared.line.EventKind.TheVariants.{Space, Printed, Move}
@@ -103,9 +102,9 @@ hyphenated s p at reach =
     (pick p.empty (go p [] reach) (stop LineBreak [] 0 nothing_held 0 reach))
 
 -- A soft hyphen shows only if a word follows, and if that word does not fit or the line is still empty.
-unfoldable pub on_break : Settings → Place → (at : ℕ) → NextWord → (reach : ℕ) → Step
-on_break s p at Nothing reach = go p [] reach
-on_break s p at (Width w) reach = pick (p.empty || not (fits_in p.cursor w.0)) (hyphenated s p at reach) (go p [] reach)
+unfoldable pub on_break : Settings → Place → (at : ℕ) → Option Pixels → (reach : ℕ) → Step
+on_break s p at None reach = go p [] reach
+on_break s p at (Some w) reach = pick (p.empty || not (fits_in p.cursor w.0)) (hyphenated s p at reach) (go p [] reach)
 
 -- A word waits for the next line, or is dropped whole.
 abbrev pub waiting_word : Step
@@ -144,7 +143,7 @@ step s p at newLine ts = stop NewLine (drawn Space at (at + 1) 0 0 ∷ []) 1 not
 step s p at carriageReturn ts = stop CarriageReturn (drawn Space at (at + 1) 0 0 ∷ []) 1 nothing_held 0 0
 step s p at tab ts = on_tab s p at (draws_space s (moved_on p (tab_width p.cursor)) (at + size_of tab) ts)
 step s p at softHyphen ts =
-    let ahead = next_width s.glyph.0 Nothing (at + size_of softHyphen) ts in
+    let ahead = next_width s.glyph.0 None (at + size_of softHyphen) ts in
     on_break s p at ahead.width ahead.reach
 step s p at (space cs n e) ts =
     on_space s p at cs n (draws_space s (moved_on (used_up p n) (spaces_width p.spaces n)) (at + size_of (space cs n e)) ts)

@@ -1,14 +1,13 @@
 -- Rule 8: what a pass looks at beyond the token at hand. `at` is the offset from the line's start where the looking begins, and
 -- `reach` the offset after the furthest character examined (rule 12).
 -- Assumes nothing.
-use Rattle.std.specs.Prelude.{ℕ, ◌+◌, ◌*◌, max, Bool, true, false, List, [], ◌∷◌, length}
+use Rattle.std.specs.Prelude.{ℕ, ◌+◌, ◌*◌, max, Bool, true, false, List, [], ◌∷◌, length, None, Option, Some}
+use Rattle.meaning.specs.declared.counts.Pixels.{Pixels}
 use Rattle.meaning.specs.Tokens.{Tok, newLine, carriageReturn, tab, softHyphen, space, word, size_of, need_of}
 use Rattle.meaning.specs.Cursor.{fits_in, advance, tab_width}
 use Rattle.meaning.specs.SpaceConfig.{spaces_width, spaces_after}
 use Rattle.meaning.specs.declared.cursor.LineCursor.{LineCursor}
 use Rattle.meaning.specs.declared.cursor.Spaces.{Spaces}
-use Rattle.meaning.specs.declared.cursor.NextWord.{NextWord}
-use Rattle.meaning.specs.declared.cursor.NextWord.TheVariants.{Nothing, Width}
 
 -- Whether the next word fits, and how far was looked.
 pub record Looked : Type 0 where
@@ -35,19 +34,19 @@ next_fits g c sp at (space cs n e ∷ ts) =
 
 -- The next word's width, and how far was looked.
 pub record Ahead : Type 0 where
-  pub width : NextWord
+  pub width : Option Pixels
   pub reach : ℕ
 
 abbrev pub further : ℕ → Ahead → Ahead
 further here r = record { width = r.width; reach = max here r.reach }
 
 -- One width more.
-unfoldable pub added : NextWord → ℕ → NextWord
-added Nothing w = Width (record { 0 = w })
-added (Width v) w = Width (record { 0 = v.0 + w })
+unfoldable pub added : Option Pixels → ℕ → Option Pixels
+added None w = Some (record { 0 = w })
+added (Some v) w = Some (record { 0 = v.0 + w })
 
 -- `next_word_width`: words add up; a soft hyphen adds its "-" and ends the looking, anything else ends it.
-unfoldable pub next_width : (glyph : ℕ) → NextWord → (at : ℕ) → List Tok → Ahead
+unfoldable pub next_width : (glyph : ℕ) → Option Pixels → (at : ℕ) → List Tok → Ahead
 next_width g w at [] = record { width = w; reach = at + 1 }
 next_width g w at (newLine ∷ ts) = record { width = w; reach = at + need_of newLine }
 next_width g w at (carriageReturn ∷ ts) = record { width = w; reach = at + need_of carriageReturn }

@@ -1,7 +1,8 @@
 -- A month of clues in numbers: the clues in a stream of bytes, and the figures of texts that are laid with the same settings.
 -- Rule 10, refusal 3, refusal 4.
 -- Assumes nothing.
-use Rattle.std.specs.Prelude.{ℕ, ◌+◌, max, List, [], ◌∷◌, map, eqb, length, take}
+use Rattle.std.specs.Prelude.{ℕ, ◌+◌, max, List, [], ◌∷◌, map, eqb, length, take, Err, Ok}
+use Rattle.meaning.specs.Refusals.{Checked}
 use Rattle.basis.specs.Choice.{pick}
 use Rattle.meaning.specs.Checks.{check_text}
 use Rattle.meaning.specs.Refusals.{number_of}
@@ -9,8 +10,6 @@ use Rattle.meaning.specs.Columns.{with_width}
 use Rattle.meaning.specs.Calls.{text_entries}
 use Rattle.meaning.specs.declared.settings.Settings.{Settings}
 use Rattle.meaning.specs.declared.line.Entry.{Entry}
-use Rattle.meaning.specs.declared.refusals.Checked.{Checked}
-use Rattle.meaning.specs.declared.refusals.Checked.TheVariants.{Good, Refused}
 use Rattle.meaning.specs.declared.figures.Figures.{Figures}
 
 -- ---- the lines of a stream: each is ended by LF (10), and a last one with no LF counts too
@@ -45,7 +44,7 @@ dropped_in (e ∷ es) = e.dropped.0 + dropped_in es
 
 -- Of one text: of its lines, or that it was refused.
 unfoldable pub figures_by : Checked → List Entry → Figures
-figures_by Good es =
+figures_by (Ok tt) es =
     record {
       texts = 1;
       lines = length es;
@@ -55,7 +54,7 @@ figures_by Good es =
       invalid = 0;
       most = length es;
     }
-figures_by (Refused r) es =
+figures_by (Err r) es =
     record {
       texts = 1;
       lines = 0;

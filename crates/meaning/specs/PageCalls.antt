@@ -2,7 +2,12 @@
 -- lent alone. A text is a list of bytes here, and a table or list of pages a list of numbers.
 -- Refusal 1, refusal 2, refusal 3, refusal 4, refusal 5, refusal 8.
 -- Assumes nothing.
-use Rattle.std.specs.Prelude.{ℕ, ◌*◌, List, [], ◌∷◌, length, take}
+use Rattle.std.specs.Prelude.{ℕ, ◌*◌, List, [], ◌∷◌, length, take, Err, Ok, Result}
+use Rattle.meaning.specs.declared.answers.Chosen.TheVariants as chosen
+use Rattle.meaning.specs.Refusals.{Checked}
+use Rattle.meaning.specs.declared.answers.Chosen.{Chosen}
+use Rattle.meaning.specs.declared.answers.Paged.{Paged}
+use Rattle.meaning.specs.declared.refusals.Refusal.{Refusal}
 use Rattle.basis.specs.Choice.{pick}
 use Rattle.utf8.specs.Decoding.{decode_all}
 use Rattle.meaning.specs.Checks.{first_of, answered, afterwards, check_limit, check_settings, check_text, check_room}
@@ -12,13 +17,6 @@ use Rattle.meaning.specs.Pages.{within_lines, taken_bytes, left_out, pages_of, p
 use Rattle.meaning.specs.Calls.{text_entries, check_layout}
 use Rattle.meaning.specs.declared.settings.Settings.{Settings}
 use Rattle.meaning.specs.declared.page.Page.{Page}
-use Rattle.meaning.specs.declared.refusals.Checked.{Checked}
-use Rattle.meaning.specs.declared.answers.Chosen.{Chosen}
-use Rattle.meaning.specs.declared.answers.Chosen.TheVariants as chosen
-use Rattle.meaning.specs.declared.answers.Paged.{Paged}
-use Rattle.meaning.specs.declared.answers.Paged.TheVariants as paged
-use Rattle.meaning.specs.declared.answers.PagedAgain.{PagedAgain}
-use Rattle.meaning.specs.declared.answers.PagedAgain.TheVariants as pagedagain
 
 -- ---- the long text or the short one: 1 (the limit too), 2, then 3 and 4 of the long text, then of the short one
 
@@ -37,8 +35,8 @@ chosen_of s h long short =
     pick (within_lines s h (decode_all long)) (chosen.Long (length long))
     (chosen.Short (taken_bytes s h (decode_all short)) (left_out s h (decode_all short)))
 
-unfoldable pub choosing_answer : Settings → (h : ℕ) → (long short : List ℕ) → Chosen
-choosing_answer s h long short = answered (check_choosing s h long short) (chosen_of s h long short) chosen.Refused
+unfoldable pub choosing_answer : Settings → (h : ℕ) → (long short : List ℕ) → Result Chosen Refusal
+choosing_answer s h long short = answered (check_choosing s h long short) (Ok (chosen_of s h long short)) Err
 
 -- ---- a text laid and its pages listed: 1 (the limit too), 2, 3, 4, 8 of the table, then of the list
 
@@ -49,9 +47,9 @@ unfoldable pub check_paging : Settings → (h : ℕ) → List ℕ → (table pag
 check_paging s h t table pages =
     first_of (check_limit h ∷ check_layout s t table ∷ check_room (capacity_of page_numbers pages) (length (text_pages s h t)) ∷ [])
 
-unfoldable pub paging_answer : Settings → (h : ℕ) → List ℕ → (table pages : List ℕ) → Paged
+unfoldable pub paging_answer : Settings → (h : ℕ) → List ℕ → (table pages : List ℕ) → Result Paged Refusal
 paging_answer s h t table pages =
-    answered (check_paging s h t table pages) (paged.Pages (length (text_entries s t)) (length (text_pages s h t))) paged.Refused
+    answered (check_paging s h t table pages) (Ok (record { lines = length (text_entries s t); pages = length (text_pages s h t) })) Err
 
 unfoldable pub paging_table : Settings → (h : ℕ) → List ℕ → (table pages : List ℕ) → List ℕ
 paging_table s h t table pages =
@@ -70,9 +68,9 @@ check_paging_again table lines h pages =
     first_of
     (check_limit h ∷ check_table lines table ∷ check_room (capacity_of page_numbers pages) (length (table_pages table lines h)) ∷ [])
 
-unfoldable pub paging_again_answer : List ℕ → (lines h : ℕ) → (pages : List ℕ) → PagedAgain
+unfoldable pub paging_again_answer : List ℕ → (lines h : ℕ) → (pages : List ℕ) → Result ℕ Refusal
 paging_again_answer table lines h pages =
-    answered (check_paging_again table lines h pages) (pagedagain.Pages (length (table_pages table lines h))) pagedagain.Refused
+    answered (check_paging_again table lines h pages) (Ok (length (table_pages table lines h))) Err
 
 unfoldable pub paging_again_list : List ℕ → (lines h first : ℕ) → (pages : List ℕ) → List ℕ
 paging_again_list table lines h first pages =

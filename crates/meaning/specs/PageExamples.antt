@@ -1,7 +1,11 @@
 -- Computed examples of pages, of the text that fits so many lines, and of what is written when pages are listed again (rule 10; refusal 1,
 -- refusal 3, refusal 4, refusal 8).
 -- Assumes nothing.
-use Rattle.std.specs.Prelude.{ℕ, ◌≡◌, refl, List, [], ◌∷◌, map}
+use Rattle.std.specs.Prelude.{ℕ, ◌≡◌, refl, List, [], ◌∷◌, map, Err, Ok, Result}
+use Rattle.meaning.specs.declared.answers.Chosen.TheVariants as chosen
+use Rattle.meaning.specs.declared.answers.Chosen.{Chosen}
+use Rattle.meaning.specs.declared.answers.Paged.{Paged}
+use Rattle.meaning.specs.declared.refusals.Refusal.{Refusal}
 use Prim.Native.String.{String}
 use Rattle.basis.specs.Choice.{pick}
 use Rattle.utf8.specs.Encoding.{encode, encode_all}
@@ -17,10 +21,6 @@ use Rattle.meaning.specs.Examples.{codes, lines_of, box, waiting_box}
 use Rattle.meaning.specs.SmallExamples.{call_found, set, eleven}
 use Rattle.meaning.specs.declared.settings.Settings.{Settings}
 use Rattle.meaning.specs.declared.refusals.Refusal.TheVariants.{SettingOutOfRange, UnknownAlignment, NotUtf8, TooSmall}
-use Rattle.meaning.specs.declared.answers.Chosen.{Chosen}
-use Rattle.meaning.specs.declared.answers.Chosen.TheVariants as chosen
-use Rattle.meaning.specs.declared.answers.Paged.{Paged}
-use Rattle.meaning.specs.declared.answers.Paged.TheVariants as paged
 
 -- ---- the pages of a text: first line, start, end
 
@@ -70,26 +70,26 @@ pub record ChoiceExample : Type 0 where
   pub limit : ℕ
   pub long : String
   pub short : String
-  pub chosen : Chosen
+  pub chosen : Result Chosen Refusal
 
-abbrev choosing : Settings → ℕ → (long short : String) → Chosen → ChoiceExample
+abbrev choosing : Settings → ℕ → (long short : String) → Result Chosen Refusal → ChoiceExample
 choosing s h long short c = record { settings = s; limit = h; long = long; short = short; chosen = c }
 
 abbrev pub choice_examples : List ChoiceExample
 choice_examples =
     -- the long text at exactly its two lines, and with room to spare
-    choosing (box 30) 2 "ab cde" "x" (chosen.Long 6)
-    ∷ choosing (box 30) 3 "ab cde" "x" (chosen.Long 6)
+    choosing (box 30) 2 "ab cde" "x" (Ok (chosen.Long 6))
+    ∷ choosing (box 30) 3 "ab cde" "x" (Ok (chosen.Long 6))
     -- one line too few for it: the short text whole, an empty one too
-    ∷ choosing (box 30) 1 "ab cde" "ab" (chosen.Short 2 0)
-    ∷ choosing (box 30) 1 "ab cde" "" (chosen.Short 0 0)
+    ∷ choosing (box 30) 1 "ab cde" "ab" (Ok (chosen.Short 2 0))
+    ∷ choosing (box 30) 1 "ab cde" "" (Ok (chosen.Short 0 0))
     -- the short one is too long as well: its first line takes "é ", of three bytes, and three characters of four bytes are left out
-    ∷ choosing (box 12) 1 "ab cde" "é bcé" (chosen.Short 3 3)
+    ∷ choosing (box 12) 1 "ab cde" "é bcé" (Ok (chosen.Short 3 3))
     -- a space run that its last line cuts: two of three spaces are taken
-    ∷ choosing (box 18) 1 "ab cde" "abc   d" (chosen.Short 4 3)
+    ∷ choosing (box 18) 1 "ab cde" "abc   d" (Ok (chosen.Short 4 3))
     -- the limit, before the settings
-    ∷ choosing (set 6 4 0) 0 "" "" (chosen.Refused SettingOutOfRange)
-    ∷ choosing (set 6 4 0) 1 "" "" (chosen.Refused (UnknownAlignment 4))
+    ∷ choosing (set 6 4 0) 0 "" "" (Err SettingOutOfRange)
+    ∷ choosing (set 6 4 0) 1 "" "" (Err (UnknownAlignment 4))
     ∷ []
 
 unfoldable pub choice_found : ChoiceExample → ChoiceExample
@@ -103,22 +103,22 @@ unfolding choice_found
 choices_hold = refl
 
 -- A text that is not UTF-8: the long one first, then the short one, which is looked at even if it is not needed.
-unfoldable pub bytes_chosen : (long short : List ℕ) → Chosen
+unfoldable pub bytes_chosen : (long short : List ℕ) → Result Chosen Refusal
 unfolding call_found chars_in onward end_before within_lines taken_bytes left_out check_limit check_text check_choosing chosen_of choosing_answer
 bytes_chosen long short = choosing_answer (set 6 0 0) 9 long short
 
 pub bad_texts_hold : bytes_chosen (0x61 ∷ 0xFF ∷ []) (0xFF ∷ []) ∷ bytes_chosen (0x61 ∷ []) (0xFF ∷ []) ∷ []
-    ≡ chosen.Refused (NotUtf8 (record { 0 = 1 })) ∷ chosen.Refused (NotUtf8 (record { 0 = 0 })) ∷ []
+    ≡ Err (NotUtf8 (record { 0 = 1 })) ∷ Err (NotUtf8 (record { 0 = 0 })) ∷ []
 unfolding bytes_chosen
 bad_texts_hold = refl
 
 -- Pages: the limit before all, the table's room before the list's; a list with room for one page.
-unfoldable pub listed : (h : ℕ) → (text table pages : List ℕ) → Paged
+unfoldable pub listed : (h : ℕ) → (text table pages : List ℕ) → Result Paged Refusal
 unfolding call_found last_reach text_length end_before pages_by pages_of check_limit text_pages check_paging paging_answer
 listed h text table pages = paging_answer (set 6 0 0) h text table pages
 
 pub listed_hold : listed 0 (0xFF ∷ []) [] [] ∷ listed 1 (0x61 ∷ 0x0A ∷ []) eleven [] ∷ listed 1 (0x61 ∷ []) eleven (7 ∷ 8 ∷ []) ∷ listed 1 (0x61 ∷ []) eleven (7 ∷ 8 ∷ 9 ∷ []) ∷ []
-    ≡ paged.Refused SettingOutOfRange ∷ paged.Refused (TooSmall 2) ∷ paged.Refused (TooSmall 1) ∷ paged.Pages 1 1 ∷ []
+    ≡ Err SettingOutOfRange ∷ Err (TooSmall 2) ∷ Err (TooSmall 1) ∷ Ok (record { lines = 1; pages = 1 }) ∷ []
 unfolding listed
 listed_hold = refl
 

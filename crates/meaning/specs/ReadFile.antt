@@ -1,7 +1,8 @@
 -- What is read from the bytes of a layout file: its fields, one after the other, of which the first fault decides (refusal 9, refusal 11),
 -- and then its settings, its text's length and its lines (refusal 1, refusal 2, refusal 3, refusal 5, refusal 12).
 -- Assumes nothing.
-use Rattle.std.specs.Prelude.{ℕ, zero, suc, ◌+◌, ◌-◌, ◌*◌, ◌/◌, Bool, ◌&&◌, List, [], ◌∷◌, leb, ltb, eqb, ℤ, pos, negsuc, length, get_or, drop}
+use Rattle.std.specs.Prelude.{ℕ, zero, suc, ◌+◌, ◌-◌, ◌*◌, ◌/◌, Bool, ◌&&◌, List, [], ◌∷◌, leb, ltb, eqb, ℤ, pos, negsuc, length, get_or, drop, Err, Ok}
+use Rattle.meaning.specs.Refusals.{Checked}
 use Rattle.basis.specs.Choice.{pick}
 use Rattle.meaning.specs.Checks.{refuse_if, first_of, check_settings, check_room}
 use Rattle.meaning.specs.Settings.{settings_of}
@@ -11,8 +12,6 @@ use Rattle.meaning.specs.LayoutFile.{header_bytes, number_bytes, settings_number
 use Rattle.meaning.specs.declared.settings.Settings.{Settings}
 use Rattle.meaning.specs.declared.line.Entry.{Entry}
 use Rattle.meaning.specs.declared.refusals.Refusal.TheVariants.{BadLine, BadField, OldEntry, RetiredSetting}
-use Rattle.meaning.specs.declared.refusals.Checked.{Checked}
-use Rattle.meaning.specs.declared.refusals.Checked.TheVariants.{Good, Refused}
 
 -- ---- fields
 
@@ -26,18 +25,18 @@ is_field tag size f = leb (header_bytes + size) (length f) && eqb (get_or f 0 0)
 
 -- Nothing follows the end.
 unfoldable pub check_end : (at : ℕ) → List ℕ → Checked
-check_end at [] = Good
-check_end at (b ∷ f) = Refused (BadField at)
+check_end at [] = Ok tt
+check_end at (b ∷ f) = Err (BadField at)
 
 -- Lines and the end, where the bytes f stand at an offset of the file. A whole line of the old length has a name of its own; any other
 -- field in its place is bad, and so is none. `fuel` is as much as there are bytes.
 unfoldable pub check_line_fields : (fuel at : ℕ) → List ℕ → Checked
-check_line_fields zero at f = Refused (BadField at)
+check_line_fields zero at f = Err (BadField at)
 check_line_fields (suc fuel) at f =
     let more = check_line_fields fuel (at + line_bytes) (drop line_bytes f) in
     pick (is_field line_tag line_size f) more
-    (pick (is_field line_tag old_line_size f) (Refused (OldEntry at))
-    (pick (is_field end_tag 0 f) (check_end (at + header_bytes) (drop header_bytes f)) (Refused (BadField at))))
+    (pick (is_field line_tag old_line_size f) (Err (OldEntry at))
+    (pick (is_field end_tag 0 f) (check_end (at + header_bytes) (drop header_bytes f)) (Err (BadField at))))
 
 -- 9 and 11: the settings, the text's length, lines, the end; nothing else, and in that order.
 unfoldable pub check_fields : List ℕ → Checked
@@ -45,8 +44,8 @@ check_fields f =
     pick (is_field settings_tag settings_size f)
     (pick (is_field length_tag number_bytes (drop length_at f))
     (check_line_fields (length f) lines_at (drop lines_at f))
-    (Refused (BadField length_at)))
-    (Refused (BadField 0))
+    (Err (BadField length_at)))
+    (Err (BadField 0))
 
 -- ---- numbers
 
@@ -100,8 +99,8 @@ unretired s =
 
 -- 12: the retired setting is on. The other settings are then handed out, where there is room for them: else 8.
 unfoldable pub check_retired : (room : ℕ) → Settings → Checked
-check_retired room s = pick (eqb s.trailing 1) (first_of (check_room room settings_numbers ∷ Refused RetiredSetting ∷ [])) Good
+check_retired room s = pick (eqb s.trailing 1) (first_of (check_room room settings_numbers ∷ Err RetiredSetting ∷ [])) (Ok tt)
 
 -- 5: no line, or lines of a text of another length, are bad at line 0; then the first bad line.
 unfoldable pub check_lines_read : (bytes : ℕ) → List Entry → Checked
-check_lines_read n es = pick (eqb (text_length es) n) (check_entries es) (Refused (BadLine 0))
+check_lines_read n es = pick (eqb (text_length es) n) (check_entries es) (Err (BadLine 0))

@@ -1,11 +1,9 @@
 -- The scope's table of refusals: the number of each, and what goes besides it.
 -- Refusal 1, refusal 2, refusal 3, refusal 4, refusal 5, refusal 6, refusal 8, refusal 9, refusal 10, refusal 11, refusal 12.
 -- Assumes nothing.
-use Rattle.std.specs.Prelude.{ℕ}
+use Rattle.std.specs.Prelude.{ℕ, Result, Ok, Err, ⊤}
 use Rattle.meaning.specs.declared.refusals.Refusal.{Refusal}
 use Rattle.meaning.specs.declared.refusals.Refusal.TheVariants.{SettingOutOfRange, UnknownAlignment, TextTooLong, NotUtf8, BadLine, BadEdit, TooSmall, BadField, BadIndex, OldEntry, RetiredSetting}
-use Rattle.meaning.specs.declared.refusals.Checked.{Checked}
-use Rattle.meaning.specs.declared.refusals.Checked.TheVariants.{Good, Refused}
 
 -- Number 7 was given where a line takes no character. None does (laws: `lines-take`), so it is not used any more.
 abbrev pub number_of : Refusal → ℕ
@@ -37,11 +35,11 @@ besides (BadField at) = at
 besides (OldEntry at) = at
 besides RetiredSetting = 0
 
--- A check's number and value: 0 and 0 where nothing is refused.
-abbrev pub checked_number : Checked → ℕ
-checked_number Good = 0
-checked_number (Refused r) = number_of r
+-- What a check answers: nothing more where it holds.
+abbrev pub Checked : Type 0
+Checked = Result ⊤ Refusal
 
+-- What goes besides a check's number: 0 where nothing is refused.
 abbrev pub checked_value : Checked → ℕ
-checked_value Good = 0
-checked_value (Refused r) = besides r
+checked_value (Ok tt) = 0
+checked_value (Err r) = besides r

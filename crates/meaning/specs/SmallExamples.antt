@@ -1,7 +1,9 @@
 -- Computed examples of the rules that no layout shows: tokens, the cursor's moves, bad tables, height and y, and the order of the
 -- refusals. A table of each kind, and one theorem over it.
 -- Assumes nothing.
-use Rattle.std.specs.Prelude.{ℕ, ◌≡◌, refl, List, [], ◌∷◌, map, ℤ, pos, negsuc}
+use Rattle.std.specs.Prelude.{ℕ, ◌≡◌, refl, List, [], ◌∷◌, map, ℤ, pos, negsuc, Err, Ok, Result}
+use Rattle.meaning.specs.Refusals.{Checked}
+use Rattle.meaning.specs.declared.refusals.Refusal.{Refusal}
 use Prim.Native.String.{String}
 use Rattle.basis.specs.Choice.{pick}
 use Rattle.utf8.specs.WellFormed.{well_formed, rows, fits, some_fits}
@@ -20,10 +22,6 @@ use Rattle.meaning.specs.declared.settings.Settings.{Settings}
 use Rattle.meaning.specs.declared.cursor.LineCursor.{LineCursor}
 use Rattle.meaning.specs.declared.cursor.Moved.TheVariants.{By, Room}
 use Rattle.meaning.specs.declared.refusals.Refusal.TheVariants.{SettingOutOfRange, UnknownAlignment, NotUtf8, BadLine, TooSmall}
-use Rattle.meaning.specs.declared.refusals.Checked.{Checked}
-use Rattle.meaning.specs.declared.refusals.Checked.TheVariants.{Good, Refused}
-use Rattle.meaning.specs.declared.answers.Laid.{Laid}
-use Rattle.meaning.specs.declared.answers.Laid.TheVariants as laid
 
 -- ---- tokens: kind, start, end, count (rule 2 and rule 3)
 
@@ -91,37 +89,37 @@ entry start end count ending reach = counted start end count ending reach start
 
 abbrev pub table_examples : List TableExample
 table_examples =
-    table_is 2 (entry 0 0 0 3 7 (entry 4 6 2 2 8 [])) Good
+    table_is 2 (entry 0 0 0 3 7 (entry 4 6 2 2 8 [])) (Ok tt)
     -- no line, more lines than the table holds, a last reach of 0 or past 65,536
-    ∷ table_is 0 (entry 0 0 0 2 1 []) (Refused (BadLine 0))
-    ∷ table_is 2 (entry 0 0 0 2 1 []) (Refused (BadLine 0))
-    ∷ table_is 1 (entry 0 0 0 2 0 []) (Refused (BadLine 0))
-    ∷ table_is 1 (entry 0 0 0 2 65537 []) (Refused (BadLine 0))
-    ∷ table_is 1 (entry 0 0 0 2 65536 []) Good
+    ∷ table_is 0 (entry 0 0 0 2 1 []) (Err (BadLine 0))
+    ∷ table_is 2 (entry 0 0 0 2 1 []) (Err (BadLine 0))
+    ∷ table_is 1 (entry 0 0 0 2 0 []) (Err (BadLine 0))
+    ∷ table_is 1 (entry 0 0 0 2 65537 []) (Err (BadLine 0))
+    ∷ table_is 1 (entry 0 0 0 2 65536 []) (Ok tt)
     -- a first start that is not 0, a start that does not rise, one past the reach before it, one past the text
-    ∷ table_is 1 (entry 1 0 0 2 8 []) (Refused (BadLine 0))
-    ∷ table_is 2 (entry 0 0 0 3 7 (entry 0 0 0 2 8 [])) (Refused (BadLine 1))
-    ∷ table_is 2 (entry 0 0 0 3 3 (entry 4 0 0 2 8 [])) (Refused (BadLine 1))
-    ∷ table_is 2 (entry 0 0 0 3 8 (entry 8 0 0 2 8 [])) (Refused (BadLine 1))
+    ∷ table_is 1 (entry 1 0 0 2 8 []) (Err (BadLine 0))
+    ∷ table_is 2 (entry 0 0 0 3 7 (entry 0 0 0 2 8 [])) (Err (BadLine 1))
+    ∷ table_is 2 (entry 0 0 0 3 3 (entry 4 0 0 2 8 [])) (Err (BadLine 1))
+    ∷ table_is 2 (entry 0 0 0 3 8 (entry 8 0 0 2 8 [])) (Err (BadLine 1))
     -- end types: 2 on the last line and only there, none above 3
-    ∷ table_is 2 (entry 0 0 0 2 7 (entry 4 0 0 2 8 [])) (Refused (BadLine 0))
-    ∷ table_is 2 (entry 0 0 0 3 7 (entry 4 0 0 3 8 [])) (Refused (BadLine 1))
-    ∷ table_is 2 (entry 0 0 0 4 7 (entry 4 0 0 2 8 [])) (Refused (BadLine 0))
+    ∷ table_is 2 (entry 0 0 0 2 7 (entry 4 0 0 2 8 [])) (Err (BadLine 0))
+    ∷ table_is 2 (entry 0 0 0 3 7 (entry 4 0 0 3 8 [])) (Err (BadLine 1))
+    ∷ table_is 2 (entry 0 0 0 4 7 (entry 4 0 0 2 8 [])) (Err (BadLine 0))
     -- a reach past the last one
-    ∷ table_is 2 (entry 0 0 0 3 9 (entry 4 0 0 2 8 [])) (Refused (BadLine 0))
+    ∷ table_is 2 (entry 0 0 0 3 9 (entry 4 0 0 2 8 [])) (Err (BadLine 0))
     -- a rest on line 0; at its start; past the reach before it; past the text; of more than its bytes; a count and no end
-    ∷ table_is 1 (entry 0 2 1 2 8 []) (Refused (BadLine 0))
-    ∷ table_is 2 (entry 0 0 0 3 7 (entry 4 4 0 2 8 [])) (Refused (BadLine 1))
-    ∷ table_is 2 (entry 0 0 0 3 5 (entry 4 6 2 2 8 [])) (Refused (BadLine 1))
-    ∷ table_is 2 (entry 0 0 0 3 8 (entry 4 8 2 2 8 [])) (Refused (BadLine 1))
-    ∷ table_is 2 (entry 0 0 0 3 7 (entry 4 6 3 2 8 [])) (Refused (BadLine 1))
-    ∷ table_is 2 (entry 0 0 0 3 7 (entry 4 0 1 2 8 [])) (Refused (BadLine 1))
+    ∷ table_is 1 (entry 0 2 1 2 8 []) (Err (BadLine 0))
+    ∷ table_is 2 (entry 0 0 0 3 7 (entry 4 4 0 2 8 [])) (Err (BadLine 1))
+    ∷ table_is 2 (entry 0 0 0 3 5 (entry 4 6 2 2 8 [])) (Err (BadLine 1))
+    ∷ table_is 2 (entry 0 0 0 3 8 (entry 4 8 2 2 8 [])) (Err (BadLine 1))
+    ∷ table_is 2 (entry 0 0 0 3 7 (entry 4 6 3 2 8 [])) (Err (BadLine 1))
+    ∷ table_is 2 (entry 0 0 0 3 7 (entry 4 0 1 2 8 [])) (Err (BadLine 1))
     -- characters before a line: from one up to its bytes; not 0 before line 0; not risen; above the bytes before the line
-    ∷ table_is 2 (entry 0 0 0 3 7 (counted 4 0 0 2 8 1 [])) Good
-    ∷ table_is 2 (counted 0 0 0 3 7 1 (entry 4 0 0 2 8 [])) (Refused (BadLine 0))
-    ∷ table_is 2 (entry 0 0 0 3 7 (counted 4 0 0 2 8 0 [])) (Refused (BadLine 1))
-    ∷ table_is 3 (entry 0 0 0 3 7 (counted 4 0 0 3 7 2 (counted 5 0 0 2 8 2 []))) (Refused (BadLine 2))
-    ∷ table_is 2 (entry 0 0 0 3 7 (counted 4 0 0 2 8 5 [])) (Refused (BadLine 1))
+    ∷ table_is 2 (entry 0 0 0 3 7 (counted 4 0 0 2 8 1 [])) (Ok tt)
+    ∷ table_is 2 (counted 0 0 0 3 7 1 (entry 4 0 0 2 8 [])) (Err (BadLine 0))
+    ∷ table_is 2 (entry 0 0 0 3 7 (counted 4 0 0 2 8 0 [])) (Err (BadLine 1))
+    ∷ table_is 3 (entry 0 0 0 3 7 (counted 4 0 0 3 7 2 (counted 5 0 0 2 8 2 []))) (Err (BadLine 2))
+    ∷ table_is 2 (entry 0 0 0 3 7 (counted 4 0 0 2 8 5 [])) (Err (BadLine 1))
     ∷ []
 
 unfoldable pub table_found : TableExample → TableExample
@@ -210,9 +208,9 @@ pub record CallExample : Type 0 where
   pub settings : Settings
   pub text : List ℕ
   pub table : List ℕ
-  pub answer : Laid
+  pub answer : Result ℕ Refusal
 
-abbrev answers : Settings → List ℕ → List ℕ → Laid → CallExample
+abbrev answers : Settings → List ℕ → List ℕ → Result ℕ Refusal → CallExample
 answers s t table a = record { settings = s; text = t; table = table; answer = a }
 
 abbrev pub eleven : List ℕ
@@ -221,15 +219,15 @@ eleven = 1 ∷ 2 ∷ 3 ∷ 4 ∷ 5 ∷ 6 ∷ 7 ∷ 8 ∷ 9 ∷ 10 ∷ 11 ∷ []
 abbrev pub call_examples : List CallExample
 call_examples =
     -- a setting out of range before an unknown alignment; the horizontal alignment before the vertical; settings before text
-    answers (set 0 4 3) (0xFF ∷ []) [] (laid.Refused SettingOutOfRange)
-    ∷ answers (set 65 4 3) (0xFF ∷ []) [] (laid.Refused SettingOutOfRange)
-    ∷ answers (set 6 4 3) (0xFF ∷ []) [] (laid.Refused (UnknownAlignment 4))
-    ∷ answers (set 6 3 3) (0xFF ∷ []) [] (laid.Refused (UnknownAlignment 3))
+    answers (set 0 4 3) (0xFF ∷ []) [] (Err SettingOutOfRange)
+    ∷ answers (set 65 4 3) (0xFF ∷ []) [] (Err SettingOutOfRange)
+    ∷ answers (set 6 4 3) (0xFF ∷ []) [] (Err (UnknownAlignment 4))
+    ∷ answers (set 6 3 3) (0xFF ∷ []) [] (Err (UnknownAlignment 3))
     -- text before room: "a", the first byte of a character, and nothing after it
-    ∷ answers (set 6 3 2) (0x61 ∷ 0xC3 ∷ []) [] (laid.Refused (NotUtf8 (record { 0 = 1 })))
-    ∷ answers (set 6 3 2) (0x61 ∷ []) [] (laid.Refused (TooSmall 1))
-    ∷ answers (set 6 3 2) (0x61 ∷ 0x0A ∷ []) eleven (laid.Refused (TooSmall 2))
-    ∷ answers (set 6 3 2) (0x61 ∷ []) eleven (laid.Lines 1)
+    ∷ answers (set 6 3 2) (0x61 ∷ 0xC3 ∷ []) [] (Err (NotUtf8 (record { 0 = 1 })))
+    ∷ answers (set 6 3 2) (0x61 ∷ []) [] (Err (TooSmall 1))
+    ∷ answers (set 6 3 2) (0x61 ∷ 0x0A ∷ []) eleven (Err (TooSmall 2))
+    ∷ answers (set 6 3 2) (0x61 ∷ []) eleven (Ok 1)
     ∷ []
 
 unfoldable pub call_found : CallExample → CallExample

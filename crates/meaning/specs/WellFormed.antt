@@ -1,13 +1,12 @@
 -- Refusal 5: which tables are well formed, and which line is the first bad one.
 -- Assumes nothing.
-use Rattle.std.specs.Prelude.{ℕ, suc, ◌-◌, Bool, ◌&&◌, ◌||◌, not, List, [], ◌∷◌, leb, ltb, eqb}
+use Rattle.std.specs.Prelude.{ℕ, suc, ◌-◌, Bool, ◌&&◌, ◌||◌, not, List, [], ◌∷◌, leb, ltb, eqb, Err, Ok}
+use Rattle.meaning.specs.Refusals.{Checked}
 use Rattle.basis.specs.Choice.{pick}
 use Rattle.basis.specs.Order.{within}
 use Rattle.meaning.specs.Table.{entry_numbers, capacity_of, entries_in}
 use Rattle.meaning.specs.declared.line.Entry.{Entry}
 use Rattle.meaning.specs.declared.refusals.Refusal.TheVariants.{BadLine}
-use Rattle.meaning.specs.declared.refusals.Checked.{Checked}
-use Rattle.meaning.specs.declared.refusals.Checked.TheVariants.{Good, Refused}
 
 -- The reach of the last line, and the text's length, which is one less.
 unfoldable pub last_reach : List Entry → ℕ
@@ -57,15 +56,15 @@ entry_good n b e more = start_good n b e && rest_good n b e && ending_good more 
 
 -- The first bad line, where lines are numbered from k on.
 unfoldable pub check_lines : (length k : ℕ) → Before → List Entry → Checked
-check_lines n k b [] = Good
+check_lines n k b [] = Ok tt
 check_lines n k b (e ∷ es) =
     let more = check_lines n (suc k) (line e.start.0 e.reach.0 e.before.0) es in
-    pick (entry_good n b e es) more (Refused (BadLine k))
+    pick (entry_good n b e es) more (Err (BadLine k))
 
 -- No line, or a last reach not in 1..65,536, is bad at line 0.
 unfoldable pub check_entries : List Entry → Checked
-check_entries es = pick (within 1 65536 (last_reach es)) (check_lines (text_length es) 0 nothing es) (Refused (BadLine 0))
+check_entries es = pick (within 1 65536 (last_reach es)) (check_lines (text_length es) 0 nothing es) (Err (BadLine 0))
 
 -- So are more lines than the lent table holds.
 unfoldable pub check_table : (lines : ℕ) → List ℕ → Checked
-check_table lines t = pick (leb lines (capacity_of entry_numbers t)) (check_entries (entries_in lines t)) (Refused (BadLine 0))
+check_table lines t = pick (leb lines (capacity_of entry_numbers t)) (check_entries (entries_in lines t)) (Err (BadLine 0))

@@ -1,17 +1,15 @@
 -- The index of ys beside a table: rule 11's y of every line, and the line that stands under a y.
 -- Rule 11, refusal 10.
 -- Assumes nothing.
-use Rattle.std.specs.Prelude.{ℕ, zero, suc, List, [], ◌∷◌, eqb, ℤ, length}
+use Rattle.std.specs.Prelude.{ℕ, zero, suc, List, [], ◌∷◌, eqb, ℤ, length, Err, None, Ok, Option, Result, Some}
+use Rattle.meaning.specs.Refusals.{Checked}
+use Rattle.meaning.specs.declared.refusals.Refusal.{Refusal}
 use Rattle.std.specs.Int.Signed.{le_z}
 use Rattle.basis.specs.Choice.{pick}
 use Rattle.meaning.specs.Height.{y_of}
 use Rattle.meaning.specs.declared.settings.Settings.{Settings}
 use Rattle.meaning.specs.declared.line.Entry.{Entry}
 use Rattle.meaning.specs.declared.refusals.Refusal.TheVariants.{BadIndex}
-use Rattle.meaning.specs.declared.refusals.Checked.{Checked}
-use Rattle.meaning.specs.declared.refusals.Checked.TheVariants.{Good, Refused}
-use Rattle.meaning.specs.declared.answers.FoundLine.{FoundLine}
-use Rattle.meaning.specs.declared.answers.FoundLine.TheVariants.{Line, NoLine}
 
 -- ---- the index
 
@@ -39,25 +37,25 @@ kept_before s first = pick (eqb s.vertical 0) first 0
 
 -- The first y that is smaller than the one before it, where lines are numbered from k on and the line before them stands at `before`.
 unfoldable pub check_rising : (k : ℕ) → (before : ℤ) → List ℤ → Checked
-check_rising k before [] = Good
+check_rising k before [] = Ok tt
 check_rising k before (y ∷ ys) =
     let more = check_rising (suc k) y ys in
-    pick (le_z before y) more (Refused (BadIndex k))
+    pick (le_z before y) more (Err (BadIndex k))
 
 unfoldable pub check_ys : List ℤ → Checked
-check_ys [] = Good
+check_ys [] = Ok tt
 check_ys (y ∷ ys) = check_rising 1 y ys
 
 -- As many ys as the table has lines, and then none smaller than the one before it.
 unfoldable pub check_index : (lines : ℕ) → List ℤ → Checked
-check_index lines index = pick (eqb (length index) lines) (check_ys index) (Refused (BadIndex (length index)))
+check_index lines index = pick (eqb (length index) lines) (check_ys index) (Err (BadIndex (length index)))
 
 -- ---- the line under a y
 
 -- The last line with y at most the given one, where lines are numbered from k on; else what was found before them.
-unfoldable pub last_under : (y : ℤ) → (k : ℕ) → (before : FoundLine) → List ℤ → FoundLine
+unfoldable pub last_under : (y : ℤ) → (k : ℕ) → (before : Option ℕ) → List ℤ → Option ℕ
 last_under y k before [] = before
-last_under y k before (z ∷ zs) = last_under y (suc k) (pick (le_z z y) (Line k) before) zs
+last_under y k before (z ∷ zs) = last_under y (suc k) (pick (le_z z y) (Some k) before) zs
 
-unfoldable pub find_in : (y : ℤ) → List ℤ → FoundLine
-find_in y index = last_under y 0 NoLine index
+unfoldable pub find_in : (y : ℤ) → List ℤ → Option ℕ
+find_in y index = last_under y 0 None index

@@ -33,10 +33,3 @@ pub struct Place {
     pub spaces: Spaces,
     pub empty: bool,
 }
-
-// What a soft hyphen learns of the text after it: the next word's width, or that no word follows.
-#[derive(Clone, Copy)]
-pub enum NextWord {
-    Nothing,
-    Width(Pixels),
-}

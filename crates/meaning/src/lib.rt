@@ -1,4 +1,4 @@
-// The types that settings and answers are made of. Nothing here runs: specs/ says what each rule of the scope means.
+// The types that settings and answers are made of, and the numbers that stand for their kinds. specs/ says what each rule of the scope means.
 #![tactic(auto)]
 
 pub mod answers;

@@ -1,4 +1,8 @@
 // A line: how it ends, its measure and its place, and its numbers and events.
+ghost use Rattle.std.specs.Prelude.{◌≡◌};
+ghost use Rattle.meaning.specs.Line.{end_number};
+ghost use Rattle.meaning.specs.Table.{event_number};
+
 use crate::counts::{Chars, Offset, Pixels};
 use crate::cursor::Spaces;
 
@@ -9,6 +13,19 @@ pub enum LineEnd {
     CarriageReturn,
     EndOfText,
     LineBreak,
+}
+
+impl From<LineEnd> for u32 {
+    ghost from_gives = { λ ended number. number ≡ end_number ended };
+
+    fn from(ended: LineEnd) -> u32 {
+        match ended {
+            LineEnd::NewLine => 0,
+            LineEnd::CarriageReturn => 1,
+            LineEnd::EndOfText => 2,
+            LineEnd::LineBreak => 3,
+        }
+    }
 }
 
 // Rule 10: the pen and the spaces counted so far, and the two as they were just after the last print.
@@ -55,6 +72,18 @@ pub enum EventKind {
     Space,
     Printed,
     Move,
+}
+
+impl From<EventKind> for u32 {
+    ghost from_gives = { λ kind number. number ≡ event_number kind };
+
+    fn from(kind: EventKind) -> u32 {
+        match kind {
+            EventKind::Space => 0,
+            EventKind::Printed => 1,
+            EventKind::Move => 2,
+        }
+    }
 }
 
 // Rule 13: what is drawn, and the pen before it from the box's left.

@@ -1,7 +1,8 @@
 -- The blocks of a stream: what is held of a clue between two of them, and a clue that is too long.
 -- Assumes nothing.
 use Prim.Native.Nat.{ℕ, zero, suc, ◌+◌, ◌-◌, ◌*◌, ◌≤◌, ◌<◌}
-use Rattle.std.specs.Prelude.{◌≡◌, refl, true, false, List, [], ◌∷◌, ◌++◌, length, get_or, take, drop, replicate}
+use Rattle.meaning.specs.Refusals.{Checked}
+use Rattle.std.specs.Prelude.{◌≡◌, refl, true, false, List, [], ◌∷◌, ◌++◌, length, get_or, take, drop, replicate, Err, Ok, Result, Option, None, Some}
 use Rattle.std.proofs.Common.{sym, ◌∙◌, append_assoc, length-drop, length-append, take_all, length-take-le}
 use Rattle.std.proofs.Math.Path.{ap}
 use Rattle.std.proofs.lemmas.Bool.{false≢true}
@@ -14,9 +15,7 @@ use Rattle.meaning.specs.Checks.{text_limit}
 use Rattle.meaning.specs.Month.{most_clues, no_figures, stream_lines}
 use Rattle.meaning.specs.declared.settings.Settings.{Settings}
 use Rattle.meaning.specs.declared.refusals.Refusal.TheVariants.{TextTooLong}
-use Rattle.meaning.specs.declared.refusals.Checked.{Checked}
-use Rattle.meaning.specs.declared.refusals.Checked.TheVariants.{Good, Refused}
-use Rattle.checks.specs.TextLaws.{too_long}
+use Rattle.checks.specs.TextLaws as text
 use Rattle.moves.specs.Fine.{FineSettings}
 use Rattle.clues.specs.Summing.{Of, Narrow, EachOf, added_to, each_more}
 use Rattle.month_figures.specs.Sums.{sum_numbers, sum_at, sums_from, sums_of}
@@ -25,35 +24,33 @@ use Rattle.clues.specs.Gathering.{with_clue, none_yet}
 use Rattle.clues.specs.Feeds.{before_feed, before-most, ended-line}
 use Rattle.clues.specs.Counting.{counting, Counts, same-part}
 use Rattle.clues.specs.declared.stream.Ended.{Ended}
-use Rattle.month.specs.Pending.{long_clue, NoFeed, long-long, long_feed, feed_after, line_after, rest-after, any_long, long_same, one-counted}
+use Rattle.month.specs.Pending.{too_long, held_in, long_clue, NoFeed, long-long, long_feed, feed_after, line_after, rest-after, any_long, long_same, one-counted}
 use Rattle.month.specs.declared.block.Step.{Step}
-use Rattle.month.specs.declared.stream.Got.{Got}
-use Rattle.month.specs.declared.stream.Got.TheVariants as got
 
 -- Bytes that came after those up to a place stand within so many.
-abbrev pub Came : (end n : ℕ) → Got → Type 0
-Came end n (got.UpTo k) = (end < k) × (k ≤ n)
-Came end n got.Nothing = Unit {0}
-Came end n got.Failed = Unit {0}
+abbrev pub Came : {E : Type 0} → (end n : ℕ) → Result (Option ℕ) E → Type 0
+Came end n (Ok (Some k)) = (end < k) × (k ≤ n)
+Came end n (Ok None) = Unit {0}
+Came end n (Err e) = Unit {0}
 
 -- ---- what is left of a block
 
 -- The buffer b, read up to `end` and counted up to `at`, is b' now: it holds what is left, or what is left is all of it.
 pub record Kept (b : List ℕ) (at end clues : ℕ) (r : Step) (b' : List ℕ) : Type 0 where
   pub counted : r.clues ≡ clues
-  pub inside : r.held < length b'
-  pub held : r.long ≡ false → take r.held b' ≡ drop at (take end b)
-  pub full : r.long ≡ true → length (drop at (take end b)) ≡ length b
+  pub inside : held_in r < length b'
+  pub held : too_long r ≡ false → take (held_in r) b' ≡ drop at (take end b)
+  pub full : too_long r ≡ true → length (drop at (take end b)) ≡ length b
 
 module _ (b : List ℕ) (at end clues : ℕ) (h : at ≤ end) (f : end ≤ length b) where
   left-length : length (drop at (take end b)) ≡ end - at
   left-length = omega (arith, length-drop at (take end b), length-take-le end b f)
 
-  pub kept-long : 0 < length b → end - at ≡ length b → Kept b at end clues (record { clues = clues; held = 0; long = true }) b
+  pub kept-long : 0 < length b → end - at ≡ length b → Kept b at end clues (record { clues = clues; held = None }) b
   kept-long some e = record { counted = refl; inside = some; held = λ l. absurd (false≢true (sym l)); full = λ _. left-length ∙ e }
 
   pub kept-held : (end - at ≡ length b → ⊥) → (n : ℕ) (b' : List ℕ) → n ≡ end - at → b' ≡ paste b 0 (drop at b) (end - at) → length b' ≡ length b
-      → Kept b at end clues (record { clues = clues; held = n; long = false }) b'
+      → Kept b at end clues (record { clues = clues; held = Some n }) b'
   kept-held d n b' n-is b-is same =
       let size = end - at in
       let zero-size : 0 + size ≡ size = omega arith in
@@ -78,11 +75,11 @@ pub record LongAdded (s : Settings) (ws u : List ℕ) (clues r : ℕ) (u' : List
   pub counts : Counts s ws u' (clues + 1)
   pub added : (t : List ℕ) → text_limit < length t → sums_of ws u' ≡ with_clue s ws (sums_of ws u) t
 
-refused_bad : (n : ℕ) → Refused (TextTooLong n) ≡ Good → ⊥
+refused_bad : (n : ℕ) → ◌≡◌ {A = Checked} (Err (TextTooLong n)) (Ok tt) → ⊥
 refused_bad n e = let z : ◌≡◌ {A = ℕ} 0 1 = cc in omega arith
 
 module _ (s : Settings) (ws u : List ℕ) (n : ℕ) (c : Counts s ws u n) (t : List ℕ) where
-  pub long-ready : n < most_clues → (k : Checked) → k ≡ Refused (TextTooLong 65536) → EachReady s t k ws u
+  pub long-ready : n < most_clues → (k : Checked) → k ≡ Err (TextTooLong 65536) → EachReady s t k ws u
   long-ready h k e =
       record {
         all =
@@ -97,12 +94,12 @@ module _ (s : Settings) (ws u : List ℕ) (n : ℕ) (c : Counts s ws u n) (t : L
         room = c.room;
       }
 
-  pub long-added : (k : Checked) → k ≡ Refused (TextTooLong 65536) → (u' : List ℕ) → length u' ≡ length u → sums_of ws u' ≡ added_to s t k ws (sums_of ws u)
+  pub long-added : (k : Checked) → k ≡ Err (TextTooLong 65536) → (u' : List ℕ) → length u' ≡ length u → sums_of ws u' ≡ added_to s t k ws (sums_of ws u)
       → LongAdded s ws u n (n + 1) u'
   unfolding with_clue
   long-added k k-is u' same e =
       let one : n + 1 ≡ suc n = omega arith in
-      let all : sums_of ws u' ≡ added_to s t (Refused (TextTooLong 65536)) ws (sums_of ws u) = e ∙ ap (λ (j : Checked). added_to s t j ws (sums_of ws u)) k-is in
+      let all : sums_of ws u' ≡ added_to s t (Err (TextTooLong 65536)) ws (sums_of ws u) = e ∙ ap (λ (j : Checked). added_to s t j ws (sums_of ws u)) k-is in
       record {
         counted = refl;
         counts =
@@ -110,11 +107,11 @@ module _ (s : Settings) (ws u : List ℕ) (n : ℕ) (c : Counts s ws u n) (t : L
               settings = c.settings;
               widths = c.widths;
               room = omega (arith, c.room, same);
-              each = rw (all, one) (each_more s t (Refused (TextTooLong 65536)) n ws (sums_of ws u) (λ g. absurd (refused_bad 65536 g)) c.each);
+              each = rw (all, one) (each_more s t (Err (TextTooLong 65536)) n ws (sums_of ws u) (λ g. absurd (refused_bad 65536 g)) c.each);
             };
         added =
             λ x long.
-            all ∙ any_long s t x 65536 (length x) ws (sums_of ws u) ∙ ap (λ (j : Checked). added_to s x j ws (sums_of ws u)) (too_long x long);
+            all ∙ any_long s t x 65536 (length x) ws (sums_of ws u) ∙ ap (λ (j : Checked). added_to s x j ws (sums_of ws u)) (text.too_long x long);
       }
 
 -- It has ended before a place of the block, or not yet. The figures at the end are the same, whatever bytes follow the block.
@@ -181,9 +178,9 @@ module _ (s : Settings) (ws b u : List ℕ) (end clues stop : ℕ) (f : end ≤ 
 pub record Stepped (s : Settings) (ws u' : List ℕ) (room : ℕ) (r : Step) : Type 0 where
   pub counts : Counts s ws u' r.clues
   pub few : r.clues ≤ most_clues
-  pub inside : r.held < room
+  pub inside : held_in r < room
 
-pub stepped : (s : Settings) (ws u : List ℕ) (n room : ℕ) (r : Step) → Counts s ws u n → n ≤ most_clues → r.clues ≡ n → r.held < room
+pub stepped : (s : Settings) (ws u : List ℕ) (n room : ℕ) (r : Step) → Counts s ws u n → n ≤ most_clues → r.clues ≡ n → held_in r < room
     → Stepped s ws u room r
 stepped s ws u n room r c f e i = record { counts = rw e c; few = omega (arith, e); inside = i }
 
@@ -191,12 +188,12 @@ stepped s ws u n room r c f e i = record { counts = rw e c; few = omega (arith, 
 
 -- What is held is a clue that is too long, none, or one of the bytes that are held, though it has no line feed.
 pub record LastCounted (s : Settings) (ws b u : List ℕ) (r : Step) (u' : List ℕ) : Type 0 where
-  pub long : r.long ≡ true → (t : List ℕ) → text_limit < length t → sums_of ws u' ≡ with_clue s ws (sums_of ws u) t
-  pub none : r.long ≡ false → r.held ≡ 0 → sums_of ws u' ≡ sums_of ws u
-  pub some : r.long ≡ false → (r.held ≡ 0 → ⊥) → sums_of ws u' ≡ with_clue s ws (sums_of ws u) (take r.held b)
+  pub long : too_long r ≡ true → (t : List ℕ) → text_limit < length t → sums_of ws u' ≡ with_clue s ws (sums_of ws u) t
+  pub none : too_long r ≡ false → held_in r ≡ 0 → sums_of ws u' ≡ sums_of ws u
+  pub some : too_long r ≡ false → (held_in r ≡ 0 → ⊥) → sums_of ws u' ≡ with_clue s ws (sums_of ws u) (take (held_in r) b)
 
 module _ (s : Settings) (ws b u : List ℕ) (r : Step) where
-  pub last-long : (u' : List ℕ) → r.long ≡ true → ((t : List ℕ) → text_limit < length t → sums_of ws u' ≡ with_clue s ws (sums_of ws u) t)
+  pub last-long : (u' : List ℕ) → too_long r ≡ true → ((t : List ℕ) → text_limit < length t → sums_of ws u' ≡ with_clue s ws (sums_of ws u) t)
       → LastCounted s ws b u r u'
   last-long u' l h =
       record {
@@ -205,11 +202,11 @@ module _ (s : Settings) (ws b u : List ℕ) (r : Step) where
         some = λ e. absurd (false≢true (sym e ∙ l));
       }
 
-  module _ (short : r.long ≡ false) where
-    pub last_none : r.held ≡ 0 → LastCounted s ws b u r u
+  module _ (short : too_long r ≡ false) where
+    pub last_none : held_in r ≡ 0 → LastCounted s ws b u r u
     last_none z = record { long = λ e. absurd (false≢true (sym short ∙ e)); none = λ _ _. refl; some = λ _ d. absurd (d z) }
 
-    pub last_some : (u' : List ℕ) → (r.held ≡ 0 → ⊥) → sums_of ws u' ≡ with_clue s ws (sums_of ws u) (take r.held b) → LastCounted s ws b u r u'
+    pub last_some : (u' : List ℕ) → (held_in r ≡ 0 → ⊥) → sums_of ws u' ≡ with_clue s ws (sums_of ws u) (take (held_in r) b) → LastCounted s ws b u r u'
     last_some u' d e = record { long = λ l. absurd (false≢true (sym short ∙ l)); none = λ _ z. absurd (d z); some = λ _ _. e }
 
 -- ---- places in a buffer

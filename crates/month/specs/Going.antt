@@ -12,7 +12,7 @@ use Rattle.meaning.specs.declared.figures.Figures.{Figures}
 use Rattle.month_figures.specs.Sums.{sums_of}
 use Rattle.clues.specs.Counting.{counting, Passed}
 use Rattle.clues.specs.declared.stream.Ended.{Ended}
-use Rattle.month.specs.Pending.{long_clue, pending, block_of, ending, NoFeed, long-long, long_feed, long_same, full-same, pending-short, pending-long, block_short, block_long, ending_of_lem}
+use Rattle.month.specs.Pending.{too_long, held_in, long_clue, pending, block_of, ending, NoFeed, long-long, long_feed, long_same, full-same, pending-short, pending-long, block_short, block_long, ending_of_lem}
 use Rattle.month.specs.Blocks.{Kept, LongEnded}
 use Rattle.month.specs.declared.block.Step.{Step}
 
@@ -36,7 +36,7 @@ module _ (s : Settings) (ws b : List ℕ) (from end n : ℕ) (u : List ℕ) (at 
   abbrev left : List ℕ
   left = drop at (take end b)
 
-  left-short : r.long ≡ false → WentFrom s ws b u from end n v b' r
+  left-short : too_long r ≡ false → WentFrom s ws b u from end n v b' r
   left-short e =
       let is : pending r b' ≡ left = pending-short r b' e ∙ k.held e in
       record {
@@ -44,7 +44,7 @@ module _ (s : Settings) (ws b : List ℕ) (from end n : ℕ) (u : List ℕ) (at 
         feedless = λ h. subst NoFeed (sym is) (p.done (omega (arith, k.counted)));
       }
 
-  left-long : text_limit < length b → r.long ≡ true → WentFrom s ws b u from end n v b' r
+  left-long : text_limit < length b → too_long r ≡ true → WentFrom s ws b u from end n v b' r
   left-long room e =
       let is = pending-long r b' e in
       let fs = sums_of ws v in
@@ -61,7 +61,7 @@ module _ (s : Settings) (ws b : List ℕ) (from end n : ℕ) (u : List ℕ) (at 
       }
 
   pub went-from : text_limit < length b → WentFrom s ws b u from end n v b' r
-  went-from room = by_test r.long (left-long room) left-short
+  went-from room = by_test (too_long r) (left-long room) left-short
 
 -- ---- a block behind what is pending
 
@@ -70,29 +70,29 @@ module _ (s : Settings) (ws b u : List ℕ) (end : ℕ) (r : Step) where
   fs = sums_of ws u
 
   -- A clue that is not too long goes on in the block.
-  pub went-short : r.long ≡ false → r.held ≤ end → (u' b' : List ℕ) (r' : Step) → WentFrom s ws b u 0 end r.clues u' b' r' → WentOn s ws b u end r u' b' r'
+  pub went-short : too_long r ≡ false → held_in r ≤ end → (u' b' : List ℕ) (r' : Step) → WentFrom s ws b u 0 end r.clues u' b' r' → WentOn s ws b u end r u' b' r'
   went-short e h u' b' r' w =
       let x = take end b in
-      let both : take r.held b ++ block_of r b end ≡ x =
-      (let front = sym (take-take r.held end b h) in let behind = block_short r b e end in λ i. front i ++ behind i) ∙ take-append-drop r.held x
+      let both : take (held_in r) b ++ block_of r b end ≡ x =
+      (let front = sym (take-take (held_in r) end b h) in let behind = block_short r b e end in λ i. front i ++ behind i) ∙ take-append-drop (held_in r) x
       in
       record {
         goes =
             λ more.
             w.goes more ∙ ap (λ (l : List ℕ). counting s ws r.clues fs (l ++ more)) (sym both)
-            ∙ ap (counting s ws r.clues fs) (append_assoc (take r.held b) (block_of r b end) more)
-            ∙ sym (ending_of_lem s ws u b r r.clues (take r.held b) (block_of r b end ++ more) refl (pending-short r b e));
+            ∙ ap (counting s ws r.clues fs) (append_assoc (take (held_in r) b) (block_of r b end) more)
+            ∙ sym (ending_of_lem s ws u b r r.clues (take (held_in r) b) (block_of r b end ++ more) refl (pending-short r b e));
         feedless = w.feedless;
       }
 
-  module _ (e : r.long ≡ true) (u₁ : List ℕ) (d : Ended) (l : LongEnded s ws b u end r.clues d u₁) where
+  module _ (e : too_long r ≡ true) (u₁ : List ℕ) (d : Ended) (l : LongEnded s ws b u end r.clues d u₁) where
     behind-long : (more : List ℕ) → counting s ws r.clues fs (long_clue ++ (take end b ++ more)) ≡ ending s ws u b r (block_of r b end ++ more)
     behind-long more =
         ap (λ (x : List ℕ). counting s ws r.clues fs (long_clue ++ (x ++ more))) (sym (block_long r b e end))
         ∙ sym (ending_of_lem s ws u b r r.clues long_clue (block_of r b end ++ more) refl (pending-long r b e))
 
     -- One that is too long does not end in it.
-    pub went-still : d.at ≡ 0 → (r' : Step) → r'.clues ≡ d.clues → r'.long ≡ true → WentOn s ws b u end r u₁ b r'
+    pub went-still : d.at ≡ 0 → (r' : Step) → r'.clues ≡ d.clues → too_long r' ≡ true → WentOn s ws b u end r u₁ b r'
     went-still z r' n-is e' =
         let is = pending-long r' b e' in
         record {

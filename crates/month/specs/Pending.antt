@@ -2,7 +2,8 @@
 -- stream as they follow from it (rule 10, refusal 3).
 -- Assumes nothing.
 use Prim.Native.Nat.{ℕ, zero, suc, ◌+◌, ◌-◌, ◌≤◌, ◌<◌}
-use Rattle.std.specs.Prelude.{◌≡◌, true, false, eqb, length, drop, replicate}
+use Rattle.meaning.specs.Refusals.{Checked}
+use Rattle.std.specs.Prelude.{◌≡◌, Bool, true, false, eqb, length, drop, replicate, Err, not, is_some, unwrap_or}
 use Rattle.std.proofs.Math.Path.{refl, ap}
 use Rattle.std.proofs.Common.{sym, ◌∙◌, zero-add}
 use mathlib.Core.List.{List, [], ◌∷◌, ◌++◌}
@@ -16,9 +17,7 @@ use Rattle.meaning.specs.Month.{most_clues, figures_by, together, onto_first, st
 use Rattle.meaning.specs.declared.settings.Settings.{Settings}
 use Rattle.meaning.specs.declared.figures.Figures.{Figures}
 use Rattle.meaning.specs.declared.refusals.Refusal.TheVariants.{TextTooLong}
-use Rattle.meaning.specs.declared.refusals.Checked.{Checked}
-use Rattle.meaning.specs.declared.refusals.Checked.TheVariants.{Refused}
-use Rattle.checks.specs.TextLaws.{too_long}
+use Rattle.checks.specs.TextLaws as text
 use Rattle.clues.specs.Summing.{added_to}
 use Rattle.month_figures.specs.Sums.{sums_of}
 use Rattle.clues.specs.Gathering.{with_clue, with_clues}
@@ -30,13 +29,20 @@ use Rattle.month.specs.declared.block.Step.{Step}
 unfoldable pub long_clue : List ℕ
 long_clue = replicate 65536 0
 
+-- Is the next clue too long already; and how many bytes of it are held, none where it is.
+abbrev pub too_long : Step → Bool
+too_long r = not (is_some r.held)
+
+abbrev pub held_in : Step → ℕ
+held_in r = unwrap_or r.held 0
+
 -- The bytes that are read of the next clue: those at the buffer's front, or too many.
 unfoldable pub pending : Step → (buffer : List ℕ) → List ℕ
-pending r b = pick r.long long_clue (take r.held b)
+pending r b = pick (too_long r) long_clue (take (held_in r) b)
 
 -- The block that was read behind them, up to a place.
 unfoldable pub block_of : Step → (buffer : List ℕ) → (end : ℕ) → List ℕ
-block_of r b end = pick r.long (take end b) (drop r.held (take end b))
+block_of r b end = pick (too_long r) (take end b) (drop (held_in r) (take end b))
 
 -- The figures at the end, where these are the sums, this is pending, and the stream goes on with these bytes.
 unfoldable pub ending : Settings → (widths sums buffer : List ℕ) → Step → (more : List ℕ) → List Figures
@@ -95,18 +101,18 @@ module _ (p more : List ℕ) (h : NoFeed p) where
 -- ---- figures
 
 pub any_long : (s : Settings) (t t' : List ℕ) (m n : ℕ) (ws : List ℕ) (fs : List Figures)
-    → added_to s t (Refused (TextTooLong m)) ws fs ≡ added_to s t' (Refused (TextTooLong n)) ws fs
+    → added_to s t (Err (TextTooLong m)) ws fs ≡ added_to s t' (Err (TextTooLong n)) ws fs
 unfolding added_to figures_by
 any_long s t t' m n [] fs = refl
 any_long s t t' m n (w ∷ ws) [] = refl
-any_long s t t' m n (w ∷ ws) (f ∷ fs) = ap (λ (gs : List Figures). together f (figures_by (Refused (TextTooLong m)) []) ∷ gs) (any_long s t t' m n ws fs)
+any_long s t t' m n (w ∷ ws) (f ∷ fs) = ap (λ (gs : List Figures). together f (figures_by (Err (TextTooLong m)) []) ∷ gs) (any_long s t t' m n ws fs)
 
 module _ (s : Settings) (ws : List ℕ) where
   with_long : (fs : List Figures) (t t' : List ℕ) → text_limit < length t → text_limit < length t' → with_clue s ws fs t ≡ with_clue s ws fs t'
   unfolding with_clue
   with_long fs t t' h h' =
-      ap (λ (k : Checked). added_to s t k ws fs) (sym (too_long t h)) ∙ any_long s t t' (length t) (length t') ws fs
-      ∙ ap (λ (k : Checked). added_to s t' k ws fs) (too_long t' h')
+      ap (λ (k : Checked). added_to s t k ws fs) (sym (text.too_long t h)) ∙ any_long s t t' (length t) (length t') ws fs
+      ∙ ap (λ (k : Checked). added_to s t' k ws fs) (text.too_long t' h')
 
   first-long : (k : ℕ) (fs : List Figures) (t t' : List ℕ) (ts : List (List ℕ)) → text_limit < length t → text_limit < length t'
       → with_clues s ws fs (take k (t ∷ ts)) ≡ with_clues s ws fs (take k (t' ∷ ts))
@@ -139,23 +145,23 @@ module _ (s : Settings) (ws : List ℕ) where
 -- ---- the state of a step
 
 module _ (r : Step) (b : List ℕ) where
-  module _ (e : r.long ≡ false) where
-    pub pending-short : pending r b ≡ take r.held b
+  module _ (e : too_long r ≡ false) where
+    pub pending-short : pending r b ≡ take (held_in r) b
     unfolding pending
-    pending-short = pick-false r.long long_clue (take r.held b) e
+    pending-short = pick-false (too_long r) long_clue (take (held_in r) b) e
 
-    pub block_short : (end : ℕ) → block_of r b end ≡ drop r.held (take end b)
+    pub block_short : (end : ℕ) → block_of r b end ≡ drop (held_in r) (take end b)
     unfolding block_of
-    block_short end = pick-false r.long (take end b) (drop r.held (take end b)) e
+    block_short end = pick-false (too_long r) (take end b) (drop (held_in r) (take end b)) e
 
-  module _ (e : r.long ≡ true) where
+  module _ (e : too_long r ≡ true) where
     pub pending-long : pending r b ≡ long_clue
     unfolding pending
-    pending-long = pick_true r.long long_clue (take r.held b) e
+    pending-long = pick_true (too_long r) long_clue (take (held_in r) b) e
 
     pub block_long : (end : ℕ) → block_of r b end ≡ take end b
     unfolding block_of
-    block_long end = pick_true r.long (take end b) (drop r.held (take end b)) e
+    block_long end = pick_true (too_long r) (take end b) (drop (held_in r) (take end b)) e
 
 -- The figures at the end, where what is pending is known.
 pub ending_of_lem : (s : Settings) (ws u b : List ℕ) (r : Step) (n : ℕ) (p more : List ℕ) → r.clues ≡ n → pending r b ≡ p

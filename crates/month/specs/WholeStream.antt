@@ -1,6 +1,6 @@
 -- The whole stream: whatever blocks it comes in, what is counted at its end is the month of its clues (rule 10).
 -- Assumes nothing.
-use Rattle.std.specs.Prelude.{ℕ, ◌+◌, ◌-◌, ◌≤◌, ◌<◌, ◌≡◌, refl, true, false, length, take, replicate}
+use Rattle.std.specs.Prelude.{ℕ, ◌+◌, ◌-◌, ◌≤◌, ◌<◌, ◌≡◌, refl, true, false, length, take, replicate, Some}
 use Rattle.std.proofs.Math.Path.{sym, ap, subst}
 use Rattle.std.proofs.Common.{◌∙◌, arith, length-take-le}
 use mathlib.Core.List.{List, [], ◌∷◌, ◌++◌, append_assoc, append-nil}
@@ -14,7 +14,7 @@ use Rattle.month_figures.specs.Sums.{sums_of}
 use Rattle.clues.specs.Gathering.{with_clue, with_clues, none_yet, month_is}
 use Rattle.clues.specs.Feeds.{before_feed}
 use Rattle.clues.specs.Counting.{counting}
-use Rattle.month.specs.Pending.{long_clue, pending, block_of, ending, NoFeed, long-long, long_feed, begun-line, full-same, one-counted, pending-short, pending-long, ending_of_lem}
+use Rattle.month.specs.Pending.{too_long, held_in, long_clue, pending, block_of, ending, NoFeed, long-long, long_feed, begun-line, full-same, one-counted, pending-short, pending-long, ending_of_lem}
 use Rattle.month.specs.Blocks.{LastCounted, zero-sums}
 use Rattle.month.specs.Going.{WentOn}
 use Rattle.month.specs.declared.block.Step.{Step}
@@ -37,7 +37,7 @@ pub record Turn : Type 0 where
 abbrev pub Ran : Settings → (widths : List ℕ) → State → List Turn → Type 0
 Ran s ws h [] = Unit {0}
 Ran s ws h (t ∷ ts) =
-    (take h.step.held t.read ≡ take h.step.held h.buffer)
+    (take (held_in h.step) t.read ≡ take (held_in h.step) h.buffer)
     × WentOn s ws t.read h.sums t.end h.step t.left.sums t.left.buffer t.left.step
     × Ran s ws t.left ts
 
@@ -54,10 +54,10 @@ bytes_of h (t ∷ ts) = block_of h.step t.read t.end ++ bytes_of t.left ts
 abbrev pub ending_of : Settings → (widths : List ℕ) → State → (more : List ℕ) → List Figures
 ending_of s ws h more = ending s ws h.sums h.buffer h.step more
 
-module _ (r : Step) (b b' : List ℕ) (front : take r.held b' ≡ take r.held b) where
+module _ (r : Step) (b b' : List ℕ) (front : take (held_in r) b' ≡ take (held_in r) b) where
   front-pending : pending r b' ≡ pending r b
   unfolding pending
-  front-pending = ap (pick r.long long_clue) front
+  front-pending = ap (pick (too_long r) long_clue) front
 
   front-ending : (s : Settings) (ws u more : List ℕ) → ending s ws u b' r more ≡ ending s ws u b r more
   unfolding ending
@@ -95,39 +95,39 @@ module _ (s : Settings) (ws : List ℕ) where
       sym (none_left_lem (n + 1) gs) ∙ one-counted s ws n fs gs p (p ++ []) [] few e lines
 
   module _ (b u : List ℕ) (r : Step) (u' : List ℕ) (l : LastCounted s ws b u r u') (few : r.clues < most_clues) where
-    last-long : r.long ≡ true → sums_of ws u' ≡ ending s ws u b r []
+    last-long : too_long r ≡ true → sums_of ws u' ≡ ending s ws u b r []
     last-long e =
         one_left r.clues (sums_of ws u) (sums_of ws u') long_clue few (omega (arith, long-long)) long_feed (l.long e long_clue long-long)
         ∙ sym (ending_of_lem s ws u b r r.clues long_clue [] refl (pending-long r b e))
 
-    last-short : r.held ≤ length b → NoFeed (pending r b) → r.long ≡ false → sums_of ws u' ≡ ending s ws u b r []
+    last-short : held_in r ≤ length b → NoFeed (pending r b) → too_long r ≡ false → sums_of ws u' ≡ ending s ws u b r []
     last-short inside f e =
         let is = pending-short r b e in
-        let p = take r.held b in
+        let p = take (held_in r) b in
         let figures : sums_of ws u' ≡ counting s ws r.clues (sums_of ws u) (p ++ []) =
-        by_eq r.held 0
+        by_eq (held_in r) 0
         (λ z.
         l.none e z ∙ sym (none_left_lem r.clues (sums_of ws u)) ∙ ap (λ (k : ℕ). counting s ws r.clues (sums_of ws u) (take k b ++ [])) (sym z))
         (λ d.
-        one_left r.clues (sums_of ws u) (sums_of ws u') p few (omega (arith, length-take-le r.held b inside, d)) (subst NoFeed is f) (l.some e d))
+        one_left r.clues (sums_of ws u) (sums_of ws u') p few (omega (arith, length-take-le (held_in r) b inside, d)) (subst NoFeed is f) (l.some e d))
         in
         figures ∙ sym (ending_of_lem s ws u b r r.clues p [] refl is)
 
     -- `count_last` leaves the figures at the end.
-    pub last-is : r.held ≤ length b → NoFeed (pending r b) → sums_of ws u' ≡ ending s ws u b r []
-    last-is inside f = by_test r.long last-long (last-short inside f)
+    pub last-is : held_in r ≤ length b → NoFeed (pending r b) → sums_of ws u' ≡ ending s ws u b r []
+    last-is inside f = by_test (too_long r) last-long (last-short inside f)
 
 -- ---- from the start
 
 -- No clue is counted, nothing is held, and the sums are those of no clue.
 pub record Begun (ws : List ℕ) (h : State) : Type 0 where
   pub clues : h.step.clues ≡ 0
-  pub held : h.step.held ≡ 0
-  pub long : h.step.long ≡ false
+  pub held : held_in h.step ≡ 0
+  pub long : too_long h.step ≡ false
   pub sums : sums_of ws h.sums ≡ none_yet ws
 
 -- So it is with an array of zeros.
-pub begun_zeros : (ws : List ℕ) (n : ℕ) (b : List ℕ) → Begun ws (record { sums = replicate n 0; buffer = b; step = record { clues = 0; held = 0; long = false } })
+pub begun_zeros : (ws : List ℕ) (n : ℕ) (b : List ℕ) → Begun ws (record { sums = replicate n 0; buffer = b; step = record { clues = 0; held = Some 0 } })
 begun_zeros ws n b = record { clues = refl; held = refl; long = refl; sums = zero-sums ws n }
 
 module _ (s : Settings) (ws : List ℕ) (h : State) (begun : Begun ws h) where
@@ -147,7 +147,7 @@ module _ (s : Settings) (ws : List ℕ) (h : State) (begun : Begun ws h) where
     last = after h ts
 
     -- The stream has ended: the last read left the buffer b, and what is held was counted. The sums are the month of all bytes that were read.
-    pub whole-counted : last.step.clues < most_clues → (b : List ℕ) → take last.step.held b ≡ take last.step.held last.buffer → last.step.held ≤ length b
+    pub whole-counted : last.step.clues < most_clues → (b : List ℕ) → take (held_in last.step) b ≡ take (held_in last.step) last.buffer → held_in last.step ≤ length b
         → (u' : List ℕ) → LastCounted s ws b last.sums last.step u' → sums_of ws u' ≡ month_of s ws (clues_in (bytes_of h ts))
     unfolding before_feed
     whole-counted few b front inside u' l =

@@ -1,6 +1,6 @@
 -- One turn of the loop over the lines of the file of widths (refusal 13).
 -- Assumes nothing.
-use Rattle.std.specs.Prelude.{ℕ, suc, ◌+◌, ◌-◌, ◌≤◌, ◌<◌, ◌≡◌, refl, length, set}
+use Rattle.std.specs.Prelude.{ℕ, suc, ◌+◌, ◌-◌, ◌≤◌, ◌<◌, ◌≡◌, refl, length, set, None, Some, Ok, Err}
 use Rattle.std.proofs.Math.Path.{sym, ap}
 use Rattle.std.proofs.Common.{◌∙◌, add-one, arith, length-drop, drop-drop, take_all}
 use mathlib.Core.List.{List, [], ◌∷◌, ◌++◌, append_assoc, append-nil}
@@ -10,9 +10,9 @@ use Rattle.std.proofs.Math.Seq.{take-suc-set}
 use Rattle.basis.specs.Choice.{pick}
 use Rattle.meaning.specs.Month.{stream_lines}
 use Rattle.clues.specs.Feeds.{before_feed, line-off}
-use Rattle.console.specs.declared.digits.Decimal.TheVariants.{Number, NoNumber}
 use Rattle.month.specs.WidthFile.{width_of, widths_from, widths_in, listed, listed_in, Held}
-use Rattle.month.specs.declared.width_lines.Widths.TheVariants.{Listed, Bad}
+use Rattle.month.specs.declared.width_lines.WidthsError.{WidthsError}
+use Rattle.month.specs.declared.width_lines.WidthsError.TheVariants.{Bad}
 
 -- k lines are widths, which stand at the front of u, and the others start at a place.
 pub record Reading (file u₀ : List ℕ) (at k : ℕ) (u : List ℕ) : Type 0 where
@@ -27,7 +27,7 @@ unfolding widths_in listed_in
 reading_start file u = record { goes = refl; front = refl; few = omega arith; same = refl; within = omega arith }
 
 module _ (file u₀ : List ℕ) (at k : ℕ) (u : List ℕ) (r : Reading file u₀ at k u) where
-  pub reading_end : length file ≤ at → (Listed k ≡ widths_in (length u₀) file) × (take k u ≡ listed_in file)
+  pub reading_end : length file ≤ at → (Ok k ≡ widths_in (length u₀) file) × (take k u ≡ listed_in file)
   unfolding widths_from listed stream_lines
   reading_end h =
       let none : drop at file ≡ [] = drop_of_length-le file h in
@@ -50,7 +50,7 @@ module _ (file u₀ : List ℕ) (at k : ℕ) (u : List ℕ) (r : Reading file u�
         in
         line-off xs (omega (arith, length-drop at file)) ∙ (λ i. take (size i) xs ∷ stream_lines (next i))
 
-    pub reading_full : length u ≤ k → Bad k ≡ widths_in (length u₀) file
+    pub reading_full : length u ≤ k → Err (Bad k) ≡ widths_in (length u₀) file
     unfolding widths_from pick
     reading_full full =
         sym (ap (widths_from (length u₀) k) lines_are ∙ rw (le-ltb k (length u₀) (omega (arith, r.same)))) ∙ r.goes
@@ -59,11 +59,11 @@ module _ (file u₀ : List ℕ) (at k : ℕ) (u : List ℕ) (r : Reading file u�
       more : k < length u₀
       more = omega (arith, r.same)
 
-      pub reading_bad : width_of line ≡ NoNumber → Bad k ≡ widths_in (length u₀) file
+      pub reading_bad : width_of line ≡ None → Err (Bad k) ≡ widths_in (length u₀) file
       unfolding widths_from pick
       reading_bad e = sym (ap (widths_from (length u₀) k) lines_are ∙ rw (lt-ltb k (length u₀) more, e)) ∙ r.goes
 
-      pub reading_next : (w : ℕ) → width_of line ≡ Number w → stop ≤ length file → Reading file u₀ (stop + 1) (k + 1) (set u k w)
+      pub reading_next : (w : ℕ) → width_of line ≡ Some w → stop ≤ length file → Reading file u₀ (stop + 1) (k + 1) (set u k w)
       unfolding widths_from listed pick
       reading_next w e b =
           let rest = stream_lines (drop (stop + 1) file) in

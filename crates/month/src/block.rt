@@ -6,20 +6,20 @@ ghost use Rattle.meaning.specs.Month.{most_clues};
 ghost use Rattle.clues.specs.Counting.{Counts};
 ghost use Rattle.month.specs.Blocks.{Kept, Stepped, LongAdded, LongEnded, LastCounted};
 ghost use Rattle.month.specs.Going.{WentFrom, WentOn};
+ghost use Rattle.month.specs.Pending.{held_in};
 
 use clues::each::add_text;
 use clues::feeds::find_feed;
 use clues::stream::{Ended, add_clue, count_ended};
 use console::front::to_front;
-use meaning::refusals::{Checked, Refusal};
+use meaning::refusals::Refusal;
 use meaning::settings::Settings;
 
-// How many clues are counted, how many bytes of the next one are held at the buffer's front, and whether it is too long already.
+// How many clues are counted, and how many bytes of the next one are held at the buffer's front, unless it is too long already.
 #[derive(Clone, Copy)]
 pub struct Step {
     pub clues: u64,
-    pub held: usize,
-    pub long: bool,
+    pub held: Option<usize>,
 }
 
 // What is left of a block is held, or is too long where it is all of the buffer.
@@ -30,17 +30,11 @@ fn keep(buffer: &mut [u8], at: usize, end: usize, clues: u64) -> Step
     ensures { Kept buffer.old at end clues result buffer.new }
 {
     if end - at == buffer.len() {
-        return Step {
-            clues,
-            held: 0,
-            long: true,
-        };
+        return Step { clues, held: None };
     }
-    let held = to_front(buffer, at, end);
     Step {
         clues,
-        held,
-        long: false,
+        held: Some(to_front(buffer, at, end)),
     }
 }
 
@@ -50,7 +44,7 @@ fn add_long(text: &[u8], s: Settings, widths: &[u32], sums: &mut [u64], clues: u
     requires clues_lt_most_clues { clues < most_clues }
     ensures { LongAdded s widths.now sums.old clues result sums.new }
 {
-    let checked = Checked::Refused(Refusal::TextTooLong(65536));
+    let checked = Err(Refusal::TextTooLong(65536));
     add_text(text, checked, s, widths, sums);
     clues + 1
 }
@@ -115,12 +109,12 @@ pub fn count_block(
     requires text_limit_in_bounds { text_limit < length buffer.old }
     requires counts { Counts s widths.now sums.old step.clues }
     requires clues_lt_most_clues { step.clues < most_clues }
-    requires held_le_end { step.held ≤ end }
+    requires held_le_end { held_in step ≤ end }
     ensures stepped { Stepped s widths.now sums.new (length buffer.new) result }
     ensures went_on { WentOn s widths.now buffer.old sums.old end step sums.new buffer.new result }
 {
     let clues = step.clues;
-    if !step.long {
+    if step.held.is_some() {
         return count_from(buffer, 0, end, s, widths, sums, clues);
     }
     let first = end_long(buffer, end, s, widths, sums, clues);
@@ -129,8 +123,7 @@ pub fn count_block(
     if from == 0 {
         return Step {
             clues: n,
-            held: 0,
-            long: true,
+            held: None,
         };
     }
     count_from(buffer, from, end, s, widths, sums, n)
@@ -138,19 +131,20 @@ pub fn count_block(
 
 // The input has ended: what is held is a clue, though it has no line feed.
 pub fn count_last(buffer: &[u8], step: Step, s: Settings, widths: &[u32], sums: &mut [u64])
-    requires held_in_bounds { step.held ≤ length buffer.now }
+    requires held_in_bounds { held_in step ≤ length buffer.now }
     requires counts { Counts s widths.now sums.old step.clues }
     requires clues_lt_most_clues { step.clues < most_clues }
     ensures { LastCounted s widths.now buffer.now sums.old step sums.new }
 {
     let clues = step.clues;
-    let held = step.held;
-    if step.long {
-        add_long(buffer, s, widths, sums, clues);
-        return;
+    match step.held {
+        None => {
+            add_long(buffer, s, widths, sums, clues);
+        }
+        Some(held) => {
+            if held != 0 {
+                add_clue(&buffer[..held], s, widths, sums, clues);
+            }
+        }
     }
-    if held == 0 {
-        return;
-    }
-    add_clue(&buffer[..held], s, widths, sums, clues);
 }

@@ -7,14 +7,14 @@ mod say;
 mod stream;
 mod width_lines;
 
-ghost use Rattle.std.specs.Prelude.{◌≤◌, ◌≡◌, length, IfOk};
+ghost use Rattle.std.specs.Prelude.{◌≤◌, ◌≡◌, length};
 ghost use Rattle.moves.specs.Fine.{FineSettings};
 ghost use Rattle.clues.specs.Summing.{Narrow};
 ghost use Rattle.month.specs.WidthFile.{Read};
 
 use crate::say::{say_bad_width, say_failed, say_month, say_usage};
 use crate::stream::{Count, count_stream};
-use crate::width_lines::{MOST_WIDTHS, Widths, parse_widths};
+use crate::width_lines::{MOST_WIDTHS, WidthsError, parse_widths};
 use console::buffers::buffer;
 use console::input::fill;
 use console::words::{word, word_count};
@@ -69,23 +69,14 @@ fn count_month(
     }
 }
 
-// The widths of a file that is open, with its name.
-fn widths_of(
-    rt: &(impl Eprint + Alloc),
-    file: &mut impl io::Read,
-    path: &str,
-    widths: &mut [u32],
-) -> io::Result<Widths>
-    ensures { IfOk result (λ listed. Read listed widths.new) }
+// The widths of the file with this name.
+fn widths_of(rt: &impl Files, path: &str, widths: &mut [u32]) -> Result<usize, WidthsError>
+    ensures { Read result widths.new }
 {
     let mut text = buffer();
-    let read = fill(file, &mut text);
-    if let Some(error) = read.failed {
-        say_failed(rt, path, error)?;
-        return Ok(Widths::Unread);
-    }
-    let n = read.bytes;
-    Ok(parse_widths(&text[..n], widths))
+    let mut file = fs::open(rt, path)?;
+    let n = fill(&mut file, &mut text)?;
+    parse_widths(&text[..n], widths)
 }
 
 fn run<R: Print + Eprint + Alloc + Files>(
@@ -95,56 +86,32 @@ fn run<R: Print + Eprint + Alloc + Files>(
     path: &str,
     people: bool,
 ) -> io::Result<()> {
-    let mut file = match fs::open(rt, path) {
-        Ok(file) => file,
-        Err(error) => {
-            return say_failed(rt, path, error);
-        }
-    };
     let mut widths = [0u32; MOST_WIDTHS];
-    match widths_of(rt, &mut file, path, &mut widths)? {
-        Widths::Listed(n) => count_month(rt, input, terminal, &widths[..n], people),
-        Widths::Bad(line) => say_bad_width(rt, line),
-        Widths::Unread => Ok(()),
+    match widths_of(rt, path, &mut widths) {
+        Ok(n) => count_month(rt, input, terminal, &widths[..n], people),
+        Err(WidthsError::Bad(line)) => say_bad_width(rt, line),
+        Err(WidthsError::Unread(error)) => say_failed(rt, path, error),
     }
-}
-
-fn is_people(word: &[u8]) -> bool {
-    if word.len() != 6 {
-        return false;
-    }
-    word[0] == b'p'
-        && word[1] == b'e'
-        && word[2] == b'o'
-        && word[3] == b'p'
-        && word[4] == b'l'
-        && word[5] == b'e'
 }
 
 // Whether the last word asks for the table for people.
 fn asks_for_people(rt: &impl Env) -> bool {
     let mut bytes = buffer();
     let n = word(rt, 2, &mut bytes);
-    is_people(&bytes[..n])
+    bytes[..n] == b"people"[..]
 }
 
 // More words than the program knows.
 const MOST_WORDS: usize = 4;
 
 fn main(rt: HostRuntime) -> io::Result<()> {
-    let words = word_count(&rt, MOST_WORDS);
-    if words < 2 {
-        return say_usage(&rt);
-    }
-    if 3 < words {
-        return say_usage(&rt);
-    }
-    let people = asks_for_people(&rt);
-    if words == 3 {
-        if !people {
+    let people = match word_count(&rt, MOST_WORDS) {
+        2 => false,
+        3 if asks_for_people(&rt) => true,
+        _ => {
             return say_usage(&rt);
         }
-    }
+    };
     let mut path = buffer();
     let Ok(n) = rt.arg(1, &mut path) else {
         return rt.eprintln("month: File name too long");

@@ -11,8 +11,7 @@ pub fn say_usage(rt: &impl Eprint) -> io::Result<()> {
 }
 
 pub fn say_bad_width(rt: &impl Print, line: usize) -> io::Result<()> {
-    rt.write_all(b"refused 13 ")?;
-    say_number(rt, line as u64, b"\n")
+    println!(rt; "refused 13 {line}")
 }
 
 // What an error is, as the C library says it: without the number that std puts behind it.
@@ -30,48 +29,24 @@ pub fn say_failed(rt: &(impl Eprint + Alloc), path: &str, error: io::Error) -> i
     eprintln!(rt; "{path}: {why}")
 }
 
-fn say_number(rt: &impl Print, n: u64, after: &[u8]) -> io::Result<()> {
-    rt.print(n)?;
-    rt.write_all(after)
-}
-
-fn say_named(rt: &impl Print, name: &[u8], n: u64) -> io::Result<()> {
-    rt.write_all(name)?;
-    rt.print(n)
-}
-
 fn say_figures(rt: &impl Print, width: u32, f: Figures) -> io::Result<()> {
-    say_named(rt, b"width ", width as u64)?;
-    say_named(rt, b" texts ", f.texts)?;
-    say_named(rt, b" lines ", f.lines)?;
-    say_named(rt, b" broken ", f.broken)?;
-    say_named(rt, b" dropped ", f.dropped)?;
-    say_named(rt, b" refused ", f.long)?;
-    say_named(rt, b" ", f.invalid)?;
-    say_named(rt, b" most ", f.most)?;
-    rt.write_all(b"\n")
+    println!(rt;
+        "width {width} texts {} lines {} broken {} dropped {} refused {} {} most {}",
+        f.texts, f.lines, f.broken, f.dropped, f.long, f.invalid, f.most
+    )
 }
 
-// A number at the right end of a column, which is 12 wide.
-fn say_column(rt: &impl Print, n: u64) -> io::Result<()> {
-    print!(rt; "{n:>12}")
-}
-
+// Each number at the right end of a column, which is 12 wide.
 fn say_row(rt: &impl Print, width: u32, f: Figures) -> io::Result<()> {
-    say_column(rt, width as u64)?;
-    say_column(rt, f.texts)?;
-    say_column(rt, f.lines)?;
-    say_column(rt, f.broken)?;
-    say_column(rt, f.dropped)?;
-    say_column(rt, f.long)?;
-    say_column(rt, f.invalid)?;
-    say_column(rt, f.most)?;
-    rt.write_all(b"\n")
+    println!(rt;
+        "{width:>12}{:>12}{:>12}{:>12}{:>12}{:>12}{:>12}{:>12}",
+        f.texts, f.lines, f.broken, f.dropped, f.long, f.invalid, f.most
+    )
 }
 
 fn say_headings(rt: &impl Print) -> io::Result<()> {
-    rt.write_all(
-        b"       width       texts       lines      broken     dropped    too long   not UTF-8  most lines\n",
+    rt.println(
+        "       width       texts       lines      broken     dropped    too long   not UTF-8  most lines",
     )
 }
 
@@ -88,11 +63,8 @@ pub fn say_month(rt: &impl Print, widths: &[u32], sums: &[u64], people: bool) ->
     if people {
         say_headings(rt)?;
     }
-    let mut k: usize = 0;
-    while k < widths.len() {
-        let width = widths[k];
-        say_one(rt, width, read_sum(sums, k), people)?;
-        k += 1;
+    for (k, width) in widths.iter().enumerate() {
+        say_one(rt, *width, read_sum(sums, k), people)?;
     }
     Ok(())
 }

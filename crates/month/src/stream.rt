@@ -17,29 +17,17 @@ pub enum Count {
     Failed,
 }
 
-// What one read gave: bytes up to a place, or no more.
-#[derive(Clone, Copy)]
-pub enum Got {
-    UpTo(usize),
-    Nothing,
-    Failed,
-}
-
-// Reads once, into the buffer from a place on. What stands before it stays.
-fn read_more(input: &mut impl io::Read, buffer: &mut [u8], end: usize) -> Got
+// Reads once, into the buffer from a place on, and answers where the bytes end that came, if any did. What stands before it stays.
+fn read_more(input: &mut impl io::Read, buffer: &mut [u8], end: usize) -> io::Result<Option<usize>>
     requires { end < length buffer.old }
     ensures came { Came end (length buffer.new) result }
     ensures buffer_unchanged { take end buffer.new ≡ take end buffer.old }
 {
-    match input.read(&mut buffer[end..]) {
-        Ok(more) => {
-            if more == 0 {
-                return Got::Nothing;
-            }
-            Got::UpTo(end + more)
-        }
-        Err(_) => Got::Failed,
+    let more = input.read(&mut buffer[end..])?;
+    if more == 0 {
+        return Ok(None);
     }
+    Ok(Some(end + more))
 }
 
 // How often progress is shown, in clues.
@@ -47,10 +35,7 @@ const OFTEN: u64 = 10000;
 
 // On a terminal, how many clues are counted, where that has passed a multiple of so many.
 fn show(rt: &impl Eprint, terminal: bool, before: u64, after: u64) -> io::Result<()> {
-    if !terminal {
-        return Ok(());
-    }
-    if before / OFTEN < after / OFTEN {
+    if terminal && before / OFTEN < after / OFTEN {
         eprint!(rt; "\r{after} clues")?;
     }
     Ok(())
@@ -58,10 +43,8 @@ fn show(rt: &impl Eprint, terminal: bool, before: u64, after: u64) -> io::Result
 
 // The line that progress was shown on is ended.
 fn end_show(rt: &impl Eprint, terminal: bool, clues: u64) -> io::Result<()> {
-    if OFTEN <= clues {
-        if terminal {
-            rt.eprint("\n")?;
-        }
+    if terminal && OFTEN <= clues {
+        rt.eprint("\n")?;
     }
     Ok(())
 }
@@ -85,29 +68,25 @@ pub fn count_stream(
     let mut buffer = large_buffer();
     let mut step = Step {
         clues: 0,
-        held: 0,
-        long: false,
+        held: Some(0),
     };
-    let mut reads: u64 = 0;
-    while reads < MANY {
-        let held = step.held;
+    for reads in 0..MANY {
         let clues = step.clues;
-        match read_more(input, &mut buffer, held) {
-            Got::UpTo(end) => {
+        match read_more(input, &mut buffer, step.held.unwrap_or(0)) {
+            Ok(Some(end)) => {
                 step = count_block(&mut buffer, end, step, s, widths, sums);
                 show(rt, terminal, clues, step.clues)?;
                 if MOST_CLUES <= step.clues {
                     end_show(rt, terminal, clues)?;
                     return Ok(Count::Stopped);
                 }
-                reads += 1;
             }
-            Got::Nothing => {
+            Ok(None) => {
                 count_last(&buffer, step, s, widths, sums);
                 end_show(rt, terminal, clues)?;
                 return Ok(Count::Whole);
             }
-            Got::Failed => {
+            Err(_) => {
                 return Ok(Count::Failed);
             }
         }

@@ -4,7 +4,8 @@ ghost use Rattle.month.specs.WidthFile.{width_of, widths_in, Held};
 
 use clues::feeds::find_feed;
 use columns::width::WIDEST_BOX;
-use console::digits::{Decimal, decimal_in};
+use console::digits::decimal_in;
+use std::io;
 
 // The most widths that are listed.
 pub const MOST_WIDTHS: usize = 64;
@@ -12,25 +13,30 @@ pub const MOST_WIDTHS: usize = 64;
 // The most digits of a width.
 const DIGITS: usize = 4;
 
-// The file: so many widths; the first bad line, counted from 0; or it could not be read.
+// Why the file gives no widths: its first bad line, counted from 0; or it cannot be read.
 #[derive(Clone, Copy)]
-pub enum Widths {
-    Listed(usize),
+pub enum WidthsError {
     Bad(usize),
-    Unread,
+    Unread(io::Error),
 }
 
-pub fn parse_width(line: &[u8]) -> Decimal
+impl From<io::Error> for WidthsError {
+    fn from(error: io::Error) -> WidthsError {
+        WidthsError::Unread(error)
+    }
+}
+
+pub fn parse_width(line: &[u8]) -> Option<u32>
     ensures { result ≡ width_of line.now }
 {
     if DIGITS < line.len() {
-        return Decimal::NoNumber;
+        return None;
     }
     decimal_in(line, WIDEST_BOX)
 }
 
-// All widths of a file, at the array's front.
-pub fn parse_widths(file: &[u8], widths: &mut [u32]) -> Widths
+// All widths of a file, at the array's front, and how many they are. `split` would give one line more behind the last line feed.
+pub fn parse_widths(file: &[u8], widths: &mut [u32]) -> Result<usize, WidthsError>
     ensures value { result ≡ widths_in (length widths.old) file.now }
     ensures held { Held file.now result widths.new }
 {
@@ -38,15 +44,13 @@ pub fn parse_widths(file: &[u8], widths: &mut [u32]) -> Widths
     let mut at: usize = 0;
     while at < file.len() {
         if widths.len() <= k {
-            return Widths::Bad(k);
+            return Err(WidthsError::Bad(k));
         }
         let stop = find_feed(file, at, file.len());
-        let Decimal::Number(w) = parse_width(&file[at..stop]) else {
-            return Widths::Bad(k);
-        };
+        let w = parse_width(&file[at..stop]).ok_or(WidthsError::Bad(k))?;
         widths[k] = w;
         k += 1;
         at = stop + 1;
     }
-    Widths::Listed(k)
+    Ok(k)
 }

@@ -1,15 +1,9 @@
 // The figures of some texts and of others, together.
-ghost use Rattle.std.specs.Prelude.{max, ◌≡◌};
+ghost use Rattle.std.specs.Prelude.{◌≡◌};
 ghost use Rattle.meaning.specs.Month.{together};
 ghost use Rattle.month_figures.specs.Rooms.{Room};
 
 use meaning::figures::Figures;
-
-fn larger(a: u64, b: u64) -> u64
-    ensures { result ≡ max a b }
-{
-    if a <= b { b } else { a }
-}
 
 // Those of some texts and of others.
 pub fn both(f: Figures, g: Figures) -> Figures
@@ -23,6 +17,6 @@ pub fn both(f: Figures, g: Figures) -> Figures
         dropped: f.dropped + g.dropped,
         long: f.long + g.long,
         invalid: f.invalid + g.invalid,
-        most: larger(f.most, g.most),
+        most: f.most.max(g.most),
     }
 }

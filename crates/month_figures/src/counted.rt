@@ -1,9 +1,7 @@
 // The figures of one text: its lines counted one by one, or its refusal (refusal 3, refusal 4).
-ghost use Rattle.std.specs.Prelude.{◌+◌, ◌≤◌, ◌≡◌, [], eqb};
-ghost use Rattle.basis.specs.Choice.{pick};
+ghost use Rattle.std.specs.Prelude.{◌+◌, ◌≤◌, ◌≡◌, [], Err};
 ghost use Rattle.meaning.specs.Checks.{text_limit};
 ghost use Rattle.meaning.specs.Month.{figures_by};
-ghost use Rattle.meaning.specs.declared.refusals.Checked.TheVariants.{Refused};
 ghost use Rattle.month_figures.specs.Tallies.{no_lines, with_line, tally_figures};
 
 use checks::refusals::number;
@@ -26,15 +24,6 @@ pub struct Tally {
     pub dropped: u64,
 }
 
-pub fn one_where(a: u32, b: u32) -> u64
-    ensures { result ≡ pick (eqb a b) 1 0 }
-{
-    if a == b {
-        return 1;
-    }
-    0
-}
-
 pub fn no_lines() -> Tally
     ensures { result ≡ no_lines }
 {
@@ -50,13 +39,10 @@ pub fn with_line(t: Tally, ending: u32, dropped: u32) -> Tally
     requires { (t.lines ≤ text_limit) × (t.broken ≤ text_limit + 1) × (t.dropped ≤ text_limit) }
     ensures { result ≡ with_line t ending dropped }
 {
-    let lines = t.lines + 1;
-    let broken = t.broken + one_where(ending, LINE_BREAK);
-    let dropped = t.dropped + dropped as u64;
     Tally {
-        lines,
-        broken,
-        dropped,
+        lines: t.lines + 1,
+        broken: t.broken + u64::from(ending == LINE_BREAK),
+        dropped: t.dropped + u64::from(dropped),
     }
 }
 
@@ -77,18 +63,16 @@ pub fn tally_figures(t: Tally) -> Figures
 
 // Of a text that is refused. Its check gives 3 or 4, and no other number.
 pub fn refused_figures(refusal: Refusal) -> Figures
-    ensures { result ≡ figures_by (Refused refusal) [] }
+    ensures { result ≡ figures_by (Err refusal) [] }
 {
     let n = number(refusal);
-    let long = one_where(n, TEXT_TOO_LONG);
-    let invalid = one_where(n, NOT_UTF8);
     Figures {
         texts: 1,
         lines: 0,
         broken: 0,
         dropped: 0,
-        long,
-        invalid,
+        long: u64::from(n == TEXT_TOO_LONG),
+        invalid: u64::from(n == NOT_UTF8),
         most: 0,
     }
 }

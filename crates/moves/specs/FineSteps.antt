@@ -1,6 +1,7 @@
 -- A step from a fine place leads to one, and what it measures grows by no more than the token's bytes and characters allow.
 -- Assumes nothing.
-use Rattle.std.specs.Prelude.{ℕ, ◌+◌, ◌-◌, ◌*◌, ◌/◌, ◌≤◌, ◌<◌, min, ◌≡◌, refl, Bool, true, false, ◌&&◌, ◌||◌, List, [], ◌∷◌, eqb, take}
+use Rattle.std.specs.Prelude.{ℕ, ◌+◌, ◌-◌, ◌*◌, ◌/◌, ◌≤◌, ◌<◌, min, ◌≡◌, refl, Bool, true, false, ◌&&◌, ◌||◌, List, [], ◌∷◌, eqb, take, None, Option, Some}
+use Rattle.meaning.specs.declared.counts.Pixels.{Pixels}
 use Rattle.std.proofs.Math.Bool.{not}
 use Rattle.std.proofs.Common.{mul-le-mul_left, mul-le-mul_right, div-mul-le_self, le-div_iff_mul-le, arith, leb-true, le-leb}
 use Rattle.std.proofs.Math.ListN.{length, length-take}
@@ -19,8 +20,6 @@ use Rattle.meaning.specs.declared.settings.Settings.{Settings}
 use Rattle.meaning.specs.declared.cursor.LineCursor.{LineCursor}
 use Rattle.meaning.specs.declared.cursor.Spaces.{Spaces}
 use Rattle.meaning.specs.declared.cursor.Place.{Place}
-use Rattle.meaning.specs.declared.cursor.NextWord.{NextWord}
-use Rattle.meaning.specs.declared.cursor.NextWord.TheVariants.{Nothing, Width}
 use Rattle.meaning.specs.declared.line.EventKind.{EventKind}
 use Rattle.meaning.specs.declared.line.EventKind.TheVariants.{Space, Printed, Move}
 use Rattle.meaning.specs.declared.line.Measure.{Measure}
@@ -191,10 +190,10 @@ module _ (s : Settings) (p : Place) (at : ℕ) (m : Measure) (fs : FineSettings 
       (λ _. grows_one m _ _ Printed _ _ _ _ (omega arith) (omega arith)))
       (λ _. pick_cases P p.empty (λ _. stays (grows_none m _ _)) (λ _. grows_none m _ _))
 
-  on_break_fine : (w : NextWord) (reach : ℕ) → FineStep p m 2 1 (on_break s p at w reach)
+  on_break_fine : (w : Option Pixels) (reach : ℕ) → FineStep p m 2 1 (on_break s p at w reach)
   unfolding on_break
-  on_break_fine Nothing reach = stays (grows_none m _ _)
-  on_break_fine (Width w) reach =
+  on_break_fine None reach = stays (grows_none m _ _)
+  on_break_fine (Some w) reach =
       pick_cases (FineStep p m 2 1) (p.empty || not (fits_in p.cursor w.0)) (λ _. hyphen_fine reach)
       (λ _. stays (grows_none m _ _))
 

@@ -1,7 +1,7 @@
 -- What a pass asks of the cursor and does with it is rule 4's move forward: what fits goes, by as much, and what does not is answered
 -- by the room and the cursor at the edge.
 -- Assumes nothing.
-use Rattle.std.specs.Prelude.{ℕ, ◌≤◌, ◌<◌, ◌≡◌, refl, Bool, true, false, leb, pos}
+use Rattle.std.specs.Prelude.{ℕ, ◌≤◌, ◌<◌, ◌≡◌, Bool, true, false, leb, pos}
 use Rattle.std.proofs.Common.{sym, ap, ◌∙◌, le-leb}
 use Rattle.std.proofs.lemmas.Bool.{lt-leb}
 use Rattle.basis.specs.Choice.{pick_true, pick-false, by_test}

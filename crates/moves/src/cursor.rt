@@ -26,14 +26,9 @@ pub fn fits(c: LineCursor, w: u32) -> bool
 fn placed_at(c: LineCursor, n: u32) -> LineCursor
     ensures { result ≡ placed_at c n }
 {
-    let width = c.width;
-    let tab = c.tab;
-    let start = c.start;
     LineCursor {
-        width,
         position: Pixels(n),
-        tab,
-        start,
+        ..c
     }
 }
 

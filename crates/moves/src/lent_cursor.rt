@@ -25,8 +25,7 @@ pub fn move_cursor(cursor: &mut LineCursor, by: i32) -> Moved
     ensures { (result ≡ move_by cursor.old by)
         × (cursor.new ≡ cursor_after (move_by cursor.old by)) }
 {
-    let before = *cursor;
-    let moved = move_by(before, by);
+    let moved = move_by(*cursor, by);
     cursor.position = position_after(moved);
     moved
 }

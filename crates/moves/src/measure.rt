@@ -36,13 +36,10 @@ pub fn noted_space(m: Measure, count: Chars, width: Pixels) -> Measure
     requires { (m.pen.0 + width.0 < 4294967296) × (m.spaces.0 + count.0 < 4294967296) }
     ensures { result ≡ noted Space (m.pen.0 + width.0) (m.spaces.0 + count.0) m }
 {
-    let last = m.width;
-    let before = m.count;
     Measure {
         pen: Pixels(m.pen.0 + width.0),
         spaces: Chars(m.spaces.0 + count.0),
-        width: last,
-        count: before,
+        ..m
     }
 }
 
@@ -52,11 +49,10 @@ pub fn noted_print(m: Measure, width: Pixels) -> Measure
     ensures { result ≡ noted Printed (m.pen.0 + width.0) (m.spaces.0 + 0) m }
 {
     let pen = Pixels(m.pen.0 + width.0);
-    let spaces = m.spaces;
     Measure {
         pen,
-        spaces,
         width: pen,
-        count: spaces,
+        count: m.spaces,
+        ..m
     }
 }

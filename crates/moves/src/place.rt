@@ -13,13 +13,11 @@ use meaning::settings::Settings;
 pub fn start_place(s: Settings, left: Pixels, spaces: Spaces) -> Place
     ensures { result ≡ start_place s left.0 spaces }
 {
-    let width = s.width;
-    let tab = s.tab;
     Place {
         cursor: LineCursor {
-            width,
+            width: s.width,
             position: left,
-            tab,
+            tab: s.tab,
             start: left,
         },
         spaces,
@@ -31,10 +29,7 @@ pub fn start_place(s: Settings, left: Pixels, spaces: Spaces) -> Place
 pub fn skips_space(s: Settings, p: Place) -> bool
     ensures { result ≡ skips s p }
 {
-    if p.empty {
-        return s.leading != 1;
-    }
-    false
+    p.empty && s.leading != 1
 }
 
 // The same place with its cursor further on.
@@ -42,14 +37,9 @@ pub fn moved_on(p: Place, w: u32) -> Place
     requires { p.cursor.position.0 + w < 4294967296 }
     ensures { result ≡ moved_on p w }
 {
-    let cursor = p.cursor;
-    let spaces = p.spaces;
-    let next = advanced(cursor, w);
-    let empty = p.empty;
     Place {
-        cursor: next,
-        spaces,
-        empty,
+        cursor: advanced(p.cursor, w),
+        ..p
     }
 }
 
@@ -57,12 +47,8 @@ pub fn moved_on(p: Place, w: u32) -> Place
 pub fn used_up(p: Place, n: u32) -> Place
     ensures { result ≡ used_up p n }
 {
-    let cursor = p.cursor;
-    let spaces = p.spaces;
-    let left = spaces_after(spaces, n);
     Place {
-        cursor,
-        spaces: left,
-        empty: p.empty,
+        spaces: spaces_after(p.spaces, n),
+        ..p
     }
 }

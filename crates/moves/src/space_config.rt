@@ -3,7 +3,6 @@ ghost use Rattle.std.specs.Prelude.{◌≤◌, ◌≡◌};
 ghost use Rattle.meaning.specs.SpaceConfig.{spaces_width, spaces_after};
 ghost use Rattle.moves.specs.Fine.{FineSpaces};
 
-use basis::numbers::lesser;
 use meaning::counts::Pixels;
 use meaning::cursor::Spaces;
 
@@ -12,22 +11,15 @@ pub fn spaces_width(sp: Spaces, n: u32) -> u32
     requires { FineSpaces sp × (n ≤ 65535) }
     ensures { result ≡ spaces_width sp n }
 {
-    n * sp.width.0 + lesser(n, sp.extra.0)
+    n * sp.width.0 + n.min(sp.extra.0)
 }
 
 // What is left of the extra pixels after n spaces.
 pub fn spaces_after(sp: Spaces, n: u32) -> Spaces
     ensures { result ≡ spaces_after sp n }
 {
-    let width = sp.width;
-    if n <= sp.extra.0 {
-        return Spaces {
-            width,
-            extra: Pixels(sp.extra.0 - n),
-        };
-    }
     Spaces {
-        width,
-        extra: Pixels(0),
+        extra: Pixels(sp.extra.0.saturating_sub(n)),
+        ..sp
     }
 }

@@ -5,6 +5,7 @@ use Rattle.std.proofs.Math.Path.{sym, ap}
 use Rattle.std.proofs.Common.{◌∙◌, suc-mul, add-one, arith}
 use mathlib.Core.List.{List, [], ◌∷◌}
 use Rattle.std.proofs.Math.ListN.{length, drop, drop_of_length-le}
+use Rattle.basis.specs.Order.{by_lt}
 use Rattle.meaning.specs.Table.{entry_numbers, entries_in, of_all}
 use Rattle.meaning.specs.WellFormed.{text_length}
 use Rattle.meaning.specs.Pages.{end_before, pages_of, page_numbers, of_page, written_past}
@@ -18,7 +19,6 @@ use Rattle.table.specs.LinesFrom.{lines_from, lines_more, lines_end, start-at}
 use Rattle.look.specs.MovableLines.{entries_from_lem}
 use Rattle.table.specs.Numbers.{put_numbers}
 use Rattle.table.specs.Stretches.{join_behind, put-none}
-use Rattle.page_list.specs.PageCounts.{none-behind}
 use Rattle.page_list.specs.PastWriting.{past-put, pages-dropped}
 
 -- ---- one page
@@ -81,23 +81,30 @@ module _ (t : List ℕ) (lines h : ℕ) where
     all-kept kept p = sym (past_all (page_numbers * kept) u (of_all of_page ps) (omega (arith, numbers)))
 
     module _ (kept : ℕ) where
-      pub list_start : kept < page_count h lines → Listed kept u u kept (kept * h)
-      list_start p =
-          record {
-            at = refl;
-            same = refl;
-            left =
-                sym
-                (past-put (page_numbers * kept) u (of_all of_page ps) (omega (arith, c.room))
-                ∙ ap (put_numbers u (page_numbers * kept)) (pages-dropped kept ps));
-          }
+      -- Some are left to be written, or none.
+      some_left : kept < page_count h lines → put u kept ≡ written_past (page_numbers * kept) u (of_all of_page ps)
+      some_left p =
+          sym
+          (past-put (page_numbers * kept) u (of_all of_page ps) (omega (arith, c.room))
+          ∙ ap (put_numbers u (page_numbers * kept)) (pages-dropped kept ps))
+
+      none_left : page_count h lines ≤ kept → put u kept ≡ written_past (page_numbers * kept) u (of_all of_page ps)
+      unfolding of_all
+      none_left p =
+          let none : drop kept ps ≡ [] = drop_of_length-le ps {i = kept} (omega (arith, many)) in
+          ap (λ (qs : List Page). put_numbers u (page_numbers * kept) (of_all of_page qs)) none
+          ∙ put-none u (page_numbers * kept)
+          ∙ all-kept kept p
+
+      pub list_start : Listed kept u u kept (kept * h)
+      list_start = record { at = refl; same = refl; left = by_lt kept (page_count h lines) some_left none_left }
 
       module _ (v : List ℕ) (k first : ℕ) (l : Listed kept u v k first) where
         -- No page is left.
-        pub list_end : lines ≤ first → v ≡ written_past (page_numbers * kept) u (of_all of_page ps)
+        pub list_end : page_count h lines ≤ k → v ≡ written_past (page_numbers * kept) u (of_all of_page ps)
         unfolding of_all
         list_end p =
-            let none : drop k ps ≡ [] = drop_of_length-le ps {i = k} (omega (arith, many, none-behind h c.limit k lines (omega (arith, l.at)))) in
+            let none : drop k ps ≡ [] = drop_of_length-le ps {i = k} (omega (arith, many)) in
             sym (put-none v (page_numbers * k)) ∙ (rw none at l.left)
 
         module _ (p : first < lines) where

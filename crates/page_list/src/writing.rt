@@ -53,16 +53,9 @@ pub fn write_pages(table: &[u32], lines: usize, h: u32, kept: usize, pages: &mut
     requires { Listable table.now lines h pages.old }
     ensures { pages.new ≡ written_past (page_numbers * kept) pages.old (of_all of_page (pages_of h (entries_in lines table.now))) }
 {
-    if page_count(lines, h) <= kept {
-        return;
-    }
     let bytes = text_length(table, lines);
-    let mut first = kept * h as usize;
-    let mut k = kept;
-    while first < lines {
-        let page = page_at(table, lines, h, bytes, first);
-        write_page(pages, k, page);
-        first += h as usize;
-        k += 1;
+    for k in kept..page_count(lines, h) {
+        let first = k * h as usize;
+        write_page(pages, k, page_at(table, lines, h, bytes, first));
     }
 }

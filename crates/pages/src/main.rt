@@ -14,8 +14,9 @@ use crate::words::{Asked, read_words};
 use console::buffers::large_buffer;
 use console::input::fill;
 use console::sample::sample_settings;
-use console::saying::{refuse, say, say_number, say_unread};
+use console::saying::{refuse, say_unread};
 use meaning::answers::Paged;
+use meaning::refusals::Refusal;
 use meaning::sizes::{ENTRY_NUMBERS, PAGE_NUMBERS};
 use paging::listed::lay_pages;
 use std::io;
@@ -31,28 +32,19 @@ fn say_usage(rt: &impl Eprint) -> io::Result<()> {
     rt.eprintln("H is a number from 1 to 4294967295. TEXT is UTF-8 of at most 65,535 bytes.")
 }
 
-fn wide(n: u32) -> u64 {
-    n as u64
-}
-
-// The three numbers of the page at a place of the list, as a line of text.
-fn say_page(rt: &impl Print, pages: &[u32], from: usize) -> io::Result<()>
-    requires { from + page_numbers ≤ length pages.now }
+// A page's three numbers, as a line of text.
+fn say_page(rt: &impl Print, page: &[u32]) -> io::Result<()>
+    requires { page_numbers ≤ length page.now }
 {
-    say_number(rt, wide(pages[from]), b" ")?;
-    say_number(rt, wide(pages[from + 1]), b" ")?;
-    say_number(rt, wide(pages[from + 2]), b"\n")
+    println!(rt; "{} {} {}", page[0], page[1], page[2])
 }
 
 fn say_pages(rt: &impl Print, pages: &[u32], n: usize) -> io::Result<()>
     requires { page_numbers * n ≤ length pages.now }
 {
-    say(rt, b"pages ")?;
-    say_number(rt, n as u64, b"\n")?;
-    let mut k: usize = 0;
-    while k < n {
-        say_page(rt, pages, PAGE_NUMBERS * k)?;
-        k += 1;
+    println!(rt; "pages {n}")?;
+    for page in pages[..PAGE_NUMBERS * n].chunks_exact(PAGE_NUMBERS) {
+        say_page(rt, page)?;
     }
     Ok(())
 }
@@ -74,53 +66,45 @@ fn no_pages() -> [u32; LINES * PAGE_NUMBERS]
 fn list(
     rt: &(impl Print + Eprint),
     input: &mut impl io::Read,
-    h: u32,
+    asked: Asked,
     text: &[u8],
-    as_text: bool,
 ) -> io::Result<()>
     requires { length text.now ≤ 65536 }
 {
     let mut table = no_lines();
     let mut pages = no_pages();
-    match lay_pages(sample_settings(), text, h, &mut table, &mut pages) {
-        Paged::Pages(lines, n) => {
-            // no more lines and pages were written than there is room for
-            if (LINES as u64) < lines {
-                return Ok(());
-            }
-            if (LINES as u64) < n {
-                return Ok(());
-            }
-            if as_text {
-                return show_pages(rt, text, &table, lines as usize, &pages, n as usize);
-            }
-            say_pages(rt, &pages, n as usize)
-        }
-        Paged::Refused(refusal) => refuse(rt, input, b"pages", refusal, text.len()),
+    let Paged { lines, pages: n } = match lay_pages(
+        sample_settings(),
+        text,
+        asked.lines,
+        &mut table,
+        &mut pages,
+    ) {
+        Ok(paged) => paged,
+        Err(refusal) => return refuse(rt, input, "pages", refusal, text.len()),
+    };
+    // no more lines and pages were written than there is room for
+    if (LINES as u64) < lines || (LINES as u64) < n {
+        return Ok(());
     }
+    if asked.as_text {
+        return show_pages(rt, text, &table, lines as usize, &pages, n as usize);
+    }
+    say_pages(rt, &pages, n as usize)
 }
 
-fn run(
-    rt: &(impl Print + Eprint),
-    input: &mut impl io::Read,
-    h: u32,
-    as_text: bool,
-) -> io::Result<()> {
+fn run(rt: &(impl Print + Eprint), input: &mut impl io::Read, asked: Asked) -> io::Result<()> {
     // one byte more than a text may have
     let mut text = large_buffer();
-    let read = fill(input, &mut text);
-    if read.failed.is_some() {
-        return say_unread(rt, b"pages");
-    }
-    let n = read.bytes;
-    list(rt, input, h, &text[..n], as_text)
+    let Ok(n) = fill(input, &mut text) else {
+        return say_unread(rt, "pages");
+    };
+    list(rt, input, asked, &text[..n])
 }
 
 fn main(rt: HostRuntime) -> io::Result<()> {
-    let mut input = rt.stdin();
     match read_words(&rt) {
-        Asked::Numbers(h) => run(&rt, &mut input, h, false),
-        Asked::Text(h) => run(&rt, &mut input, h, true),
-        Asked::Nothing => say_usage(&rt),
+        Some(asked) => run(&rt, &mut rt.stdin(), asked),
+        None => say_usage(&rt),
     }
 }

@@ -3,38 +3,26 @@ ghost use Rattle.std.specs.Prelude.{◌*◌, ◌≤◌, length};
 ghost use Rattle.meaning.specs.Table.{entry_numbers};
 ghost use Rattle.meaning.specs.Pages.{page_numbers};
 
-use console::saying::{say, say_number};
 use meaning::sizes::{ENTRY_NUMBERS, PAGE_NUMBERS};
 use std::io;
 
-fn say_rule(rt: &impl Print, number: usize, of: usize) -> io::Result<()> {
-    say(rt, b"---- page ")?;
-    say_number(rt, number as u64, b" of ")?;
-    say_number(rt, of as u64, b" ----\n")
+// A line less the character that ends it.
+fn unended(line: &[u8]) -> &[u8] {
+    match line.split_last() {
+        Some((b'\n' | b'\r', others)) => others,
+        _ => line,
+    }
 }
 
-fn ends_line(byte: u8) -> bool {
-    (byte == 10) | (byte == 13)
-}
-
-// A stretch of the text as a line of its own, less the character that ends it.
+// A stretch of the text as a line of its own.
 fn show_stretch(rt: &impl Print, text: &[u8], from: usize, to: usize) -> io::Result<()> {
     if text.len() < to {
         return Ok(());
     }
     if from < to {
-        let last = to - 1;
-        if ends_line(text[last]) {
-            say(rt, &text[from..last])?;
-        } else {
-            say(rt, &text[from..to])?;
-        }
+        rt.write_all(unended(&text[from..to]))?;
     }
-    say(rt, b"\n")
-}
-
-fn place(n: u32) -> usize {
-    n as usize
+    rt.write_all(b"\n")
 }
 
 // Line k, which ends where the next one starts, and the last where the text ends.
@@ -44,10 +32,10 @@ fn show_line(rt: &impl Print, text: &[u8], table: &[u32], lines: usize, k: usize
     if lines <= k {
         return Ok(());
     }
-    let from = place(table[ENTRY_NUMBERS * k]);
+    let from = table[ENTRY_NUMBERS * k] as usize;
     let next = k + 1;
     if next < lines {
-        return show_stretch(rt, text, from, place(table[ENTRY_NUMBERS * next]));
+        return show_stretch(rt, text, from, table[ENTRY_NUMBERS * next] as usize);
     }
     show_stretch(rt, text, from, text.len())
 }
@@ -63,10 +51,8 @@ fn show_lines(
 ) -> io::Result<()>
     requires { entry_numbers * lines ≤ length table.now }
 {
-    let mut k = from;
-    while k < to {
+    for k in from..to {
         show_line(rt, text, table, lines, k)?;
-        k += 1;
     }
     Ok(())
 }
@@ -76,7 +62,7 @@ fn first_line(pages: &[u32], n: usize, lines: usize, i: usize) -> usize
     requires { page_numbers * n ≤ length pages.now }
 {
     if i < n {
-        return place(pages[PAGE_NUMBERS * i]);
+        return pages[PAGE_NUMBERS * i] as usize;
     }
     lines
 }
@@ -91,14 +77,12 @@ pub fn show_pages(
 ) -> io::Result<()>
     requires { (entry_numbers * lines ≤ length table.now) × (page_numbers * n ≤ length pages.now) }
 {
-    let mut i: usize = 0;
-    while i < n {
+    for i in 0..n {
         let next = i + 1;
-        say_rule(rt, next, n)?;
+        println!(rt; "---- page {next} of {n} ----")?;
         let from = first_line(pages, n, lines, i);
         let to = first_line(pages, n, lines, next);
         show_lines(rt, text, table, lines, from, to)?;
-        i = next;
     }
-    say(rt, b"----\n")
+    rt.println("----")
 }

@@ -1,7 +1,9 @@
 -- The tests of the call that lays a text and lists its pages, in their order, and what it answers and leaves in each case.
 -- Rule 10, refusal 1, refusal 2, refusal 3, refusal 4, refusal 8.
 -- Assumes nothing.
-use Rattle.std.specs.Prelude.{ℕ, ◌+◌, ◌*◌, ◌≤◌, ◌≡◌}
+use Rattle.std.specs.Prelude.{ℕ, ◌+◌, ◌*◌, ◌≤◌, ◌≡◌, Err, Ok, Result}
+use Rattle.meaning.specs.Refusals.{Checked}
+use Rattle.meaning.specs.declared.answers.Paged.{Paged}
 use Rattle.std.proofs.Common.{arith, ◌∙◌}
 use Rattle.std.proofs.Math.Path.{sym, ap}
 use mathlib.Core.List.{List}
@@ -16,10 +18,6 @@ use Rattle.meaning.specs.PageCalls.{text_pages, check_paging, paging_answer, pag
 use Rattle.meaning.specs.declared.settings.Settings.{Settings}
 use Rattle.meaning.specs.declared.line.Entry.{Entry}
 use Rattle.meaning.specs.declared.refusals.Refusal.{Refusal}
-use Rattle.meaning.specs.declared.refusals.Checked.{Checked}
-use Rattle.meaning.specs.declared.refusals.Checked.TheVariants.{Good, Refused}
-use Rattle.meaning.specs.declared.answers.Paged.{Paged}
-use Rattle.meaning.specs.declared.answers.Paged.TheVariants as paged
 use Rattle.laws.specs.GoodChecks.{has_room}
 use Rattle.laws.specs.PageLaws.{page_count, pages-count}
 use Rattle.laws.specs.PageStretches.{layout-there}
@@ -45,52 +43,52 @@ module _ (s : Settings) (h : ℕ) (t : List ℕ) where
 
     -- A list with room for the pages of a line more than the text has bytes has room.
     pub list_fits : (pages : List ℕ) → page_count h (length t + 1) ≤ capacity_of page_numbers pages
-        → Good ≡ check_room (capacity_of page_numbers pages) (length (pages_of h (entries_of s t)))
+        → Ok tt ≡ check_room (capacity_of page_numbers pages) (length (pages_of h (entries_of s t)))
     list_fits pages m =
         has_room _ _ (omega (arith, pages-many, count-grows h some (length (entries_of s t)) (length t + 1) (few_entries s t)))
 
 -- ---- all tests
 
 module _ (s : Settings) (h : ℕ) (t table pages : List ℕ) where
-  pub limit-refused : (r : Refusal) → check_limit h ≡ Refused r → Refused r ≡ check_paging s h t table pages
+  pub limit-refused : (r : Refusal) → check_limit h ≡ Err r → Err r ≡ check_paging s h t table pages
   unfolding check_paging first_of
   limit-refused r e = rw e
 
   abbrev room : Checked
   room = check_room (capacity_of page_numbers pages) (length (pages_of h (entries_of s t)))
 
-  module _ (limit : check_limit h ≡ Good) where
-    pub lines-refused : (r : Refusal) → check_layout s t table ≡ Refused r → Refused r ≡ check_paging s h t table pages
+  module _ (limit : check_limit h ≡ Ok tt) where
+    pub lines-refused : (r : Refusal) → check_layout s t table ≡ Err r → Err r ≡ check_paging s h t table pages
     unfolding check_paging first_of
     lines-refused r e = rw (limit, e)
 
-    pub room_decides : check_layout s t table ≡ Good → room ≡ check_paging s h t table pages
+    pub room_decides : check_layout s t table ≡ Ok tt → room ≡ check_paging s h t table pages
     unfolding check_paging first_of text_pages
     room_decides e = sym (rw (limit, e, entries_are s t) (first_alone _))
 
   -- What the call answers, and the table and the list afterwards.
-  abbrev pub Paging : Paged → List ℕ → List ℕ → Type 0
+  abbrev pub Paging : Result Paged Refusal → List ℕ → List ℕ → Type 0
   Paging answer after list =
       (answer ≡ paging_answer s h t table pages) × ((after ≡ paging_table s h t table pages) × (list ≡ paging_list s h t table pages))
 
-  pub paging-refused : (r : Refusal) → check_paging s h t table pages ≡ Refused r → Paging (paged.Refused r) table pages
+  pub paging-refused : (r : Refusal) → check_paging s h t table pages ≡ Err r → Paging (Err r) table pages
   unfolding paging_answer paging_table paging_list
   paging-refused r e = (rw e, (rw e, rw e))
 
   -- ---- where nothing is refused
 
-  module _ (good : check_paging s h t table pages ≡ Good) where
-    all-good : (check_limit h ≡ Good) × (check_layout s t table ≡ Good) × (check_room (capacity_of page_numbers pages) (length (text_pages s h t)) ≡ Good)
+  module _ (good : check_paging s h t table pages ≡ Ok tt) where
+    all-good : (check_limit h ≡ Ok tt) × (check_layout s t table ≡ Ok tt) × (check_room (capacity_of page_numbers pages) (length (text_pages s h t)) ≡ Ok tt)
     unfolding check_paging
     all-good = three-good (check_limit h) (check_layout s t table) _ good
 
     pub some-limit : 1 ≤ h
     some-limit = limit-some h all-good.0
 
-    pub layout-good : check_layout s t table ≡ Good
+    pub layout-good : check_layout s t table ≡ Ok tt
     layout-good = all-good.1
 
-    room-good : room ≡ Good
+    room-good : room ≡ Ok tt
     unfolding text_pages
     room-good = rw (entries_are s t) all-good.2
 
@@ -115,13 +113,13 @@ module _ (s : Settings) (h : ℕ) (t table pages : List ℕ) where
       read = rw (count, lines) (entries_written es table ∙ entries_are s t)
 
       pub paging-done : (m : ℕ) → m ≡ page_count h n → (list : List ℕ)
-          → list ≡ written_past (page_numbers * 0) pages (of_all of_page (pages_of h (entries_in n after))) → Paging (paged.Pages n m) after list
+          → list ≡ written_past (page_numbers * 0) pages (of_all of_page (pages_of h (entries_in n after))) → Paging (Ok (record { lines = n; pages = m })) after list
       unfolding paging_answer paging_table paging_list text_pages
       paging-done m e list w =
           let lines_are : n ≡ length (text_entries s t) = count ∙ ap length (entries_are s t) in
           let pages-are : m ≡ length (pages_of h (text_entries s t)) =
           e ∙ ap (page_count h) lines_are ∙ sym (pages-count h some-limit (text_entries s t)) in (
-            rw good (λ i. paged.Pages (lines_are i) (pages-are i)),
+            rw good (λ i. Ok (record { lines = lines_are i; pages = pages-are i })),
             (
               rw good (lines ∙ ap (λ (xs : List Entry). written table (of_all of_entry xs)) (entries_are s t)),
               rw good (w ∙ ap (λ (xs : List Entry). written_past 0 pages (of_all of_page (pages_of h xs))) read ∙ past-none pages _),

@@ -1,7 +1,8 @@
 -- The tests of the call that lists the pages of a table again, in their order, and what it answers and leaves in each case.
 -- Rule 10, refusal 1, refusal 5, refusal 8.
 -- Assumes nothing.
-use Rattle.std.specs.Prelude.{ℕ, ◌*◌, ◌≤◌, ◌≡◌, List, length}
+use Rattle.std.specs.Prelude.{ℕ, ◌*◌, ◌≤◌, ◌≡◌, List, length, Err, Ok, Result}
+use Rattle.meaning.specs.Refusals.{Checked}
 use Rattle.std.proofs.Common.{arith, ◌∙◌}
 use Rattle.std.proofs.Math.Path.{sym, ap}
 use Rattle.meaning.specs.Checks.{first_of, check_limit, check_room}
@@ -10,10 +11,6 @@ use Rattle.meaning.specs.WellFormed.{check_table}
 use Rattle.meaning.specs.Pages.{pages_of, page_numbers, of_page, kept_pages, written_past}
 use Rattle.meaning.specs.PageCalls.{table_pages, check_paging_again, paging_again_answer, paging_again_list}
 use Rattle.meaning.specs.declared.refusals.Refusal.{Refusal}
-use Rattle.meaning.specs.declared.refusals.Checked.{Checked}
-use Rattle.meaning.specs.declared.refusals.Checked.TheVariants.{Good, Refused}
-use Rattle.meaning.specs.declared.answers.PagedAgain.{PagedAgain}
-use Rattle.meaning.specs.declared.answers.PagedAgain.TheVariants as pagedagain
 use Rattle.laws.specs.PageLaws.{page_count, pages-count}
 use Rattle.laws.specs.TableLaws.{entries_length}
 use Rattle.laws.specs.TestOrder.{first_alone, none_refuses}
@@ -24,7 +21,7 @@ use Rattle.page_list.specs.PageTurns.{Listable}
 
 -- ---- the tests
 
-pub lines-some : (lines : ℕ) (table : List ℕ) → check_table lines table ≡ Good → 1 ≤ lines
+pub lines-some : (lines : ℕ) (table : List ℕ) → check_table lines table ≡ Ok tt → 1 ≤ lines
 lines-some lines table e = reach-some lines table (table-reach lines table e).0
 
 module _ (table : List ℕ) (lines h : ℕ) where
@@ -36,39 +33,39 @@ module _ (table : List ℕ) (lines h : ℕ) where
     abbrev room : Checked
     room = check_room (capacity_of page_numbers pages) (page_count h lines)
 
-    pub limit-refused : (r : Refusal) → check_limit h ≡ Refused r → Refused r ≡ check_paging_again table lines h pages
+    pub limit-refused : (r : Refusal) → check_limit h ≡ Err r → Err r ≡ check_paging_again table lines h pages
     unfolding check_paging_again first_of
     limit-refused r e = rw e
 
-    module _ (limit : check_limit h ≡ Good) where
-      pub table-refused : (r : Refusal) → check_table lines table ≡ Refused r → Refused r ≡ check_paging_again table lines h pages
+    module _ (limit : check_limit h ≡ Ok tt) where
+      pub table-refused : (r : Refusal) → check_table lines table ≡ Err r → Err r ≡ check_paging_again table lines h pages
       unfolding check_paging_again first_of
       table-refused r e = rw (limit, e)
 
-      pub room_decides : check_table lines table ≡ Good → room ≡ check_paging_again table lines h pages
+      pub room_decides : check_table lines table ≡ Ok tt → room ≡ check_paging_again table lines h pages
       unfolding check_paging_again first_of
       room_decides e = sym (rw (limit, e, many (limit-some h limit)) (first_alone _))
 
     -- What the call answers, and the list afterwards.
-    abbrev pub PagingAgain : (first : ℕ) → PagedAgain → List ℕ → Type 0
+    abbrev pub PagingAgain : (first : ℕ) → Result ℕ Refusal → List ℕ → Type 0
     PagingAgain first answer list =
         (answer ≡ paging_again_answer table lines h pages) × (list ≡ paging_again_list table lines h first pages)
 
-    pub again-refused : (first : ℕ) (r : Refusal) → check_paging_again table lines h pages ≡ Refused r → PagingAgain first (pagedagain.Refused r) pages
+    pub again-refused : (first : ℕ) (r : Refusal) → check_paging_again table lines h pages ≡ Err r → PagingAgain first (Err r) pages
     unfolding paging_again_answer paging_again_list
     again-refused first r e = (rw e, rw e)
 
     -- ---- where nothing is refused
 
-    module _ (good : check_paging_again table lines h pages ≡ Good) where
-      limit-good : check_limit h ≡ Good
+    module _ (good : check_paging_again table lines h pages ≡ Ok tt) where
+      limit-good : check_limit h ≡ Ok tt
       unfolding check_paging_again
       limit-good = (none_refuses (check_limit h) _ good).0
 
       pub again-limit : 1 ≤ h
       again-limit = limit-some h limit-good
 
-      table-good : check_table lines table ≡ Good
+      table-good : check_table lines table ≡ Ok tt
       unfolding check_paging_again
       table-good = (none_refuses (check_table lines table) _ (none_refuses (check_limit h) _ good).1).0
 
@@ -84,9 +81,9 @@ module _ (table : List ℕ) (lines h : ℕ) where
 
       pub again-done : (first kept : ℕ) → kept ≡ kept_pages h first lines → (m : ℕ) → m ≡ page_count h lines → (list : List ℕ)
           → list ≡ written_past (page_numbers * kept) pages (of_all of_page (pages_of h (entries_in lines table)))
-          → PagingAgain first (pagedagain.Pages m) list
+          → PagingAgain first (Ok m) list
       unfolding paging_again_answer paging_again_list table_pages
       again-done first kept k m e list w = (
-        rw good (ap pagedagain.Pages (e ∙ sym (many again-limit))),
+        rw good (ap Ok (e ∙ sym (many again-limit))),
         rw good (w ∙ ap (λ (n : ℕ). written_past (page_numbers * n) pages (of_all of_page (table_pages table lines h))) k),
       )

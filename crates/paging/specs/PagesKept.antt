@@ -1,7 +1,8 @@
 -- Pages that are listed again from a line on: those before the page that holds it are kept, and nothing past the last one is written
 -- (rule 10).
 -- Assumes nothing.
-use Rattle.std.specs.Prelude.{ℕ, ◌*◌, ◌/◌, ◌≤◌, ◌<◌, ◌≡◌}
+use Rattle.std.specs.Prelude.{ℕ, ◌*◌, ◌/◌, ◌≤◌, ◌<◌, ◌≡◌, Err, Ok}
+use Rattle.meaning.specs.Refusals.{Checked}
 use Rattle.std.proofs.Math.Path.{refl}
 use mathlib.Core.List.{List}
 use Rattle.std.proofs.Math.Nat.{zero-div}
@@ -13,8 +14,6 @@ use Rattle.meaning.specs.Table.{of_all, capacity_of, written, entries_in}
 use Rattle.meaning.specs.WellFormed.{check_table}
 use Rattle.meaning.specs.Pages.{pages_of, page_numbers, of_page, kept_pages, written_past}
 use Rattle.meaning.specs.PageCalls.{table_pages, check_paging_again, paging_again_list}
-use Rattle.meaning.specs.declared.refusals.Checked.{Checked}
-use Rattle.meaning.specs.declared.refusals.Checked.TheVariants.{Good, Refused}
 use Rattle.laws.specs.GoodChecks.{room-is}
 use Rattle.laws.specs.PageLaws.{pages-few}
 use Rattle.laws.specs.TableLaws.{entries_length, capacity_is, pages-numbers}
@@ -31,15 +30,15 @@ unfolding kept_pages pick
 kept-all h first lines p = rw (le-ltb first lines p)
 
 -- What a call leaves, where it is refused and where it is not.
-once-good : (P : List ℕ → Type 0) (c : Checked) (new old : List ℕ) → (c ≡ Good → P new) → P old → P (afterwards c new old)
-once-good P Good new old f p = f refl
-once-good P (Refused r) new old f p = p
+once-good : (P : List ℕ → Type 0) (c : Checked) (new old : List ℕ) → (c ≡ Ok tt → P new) → P old → P (afterwards c new old)
+once-good P (Ok tt) new old f p = f refl
+once-good P (Err r) new old f p = p
 
 module _ (table : List ℕ) (lines h : ℕ) (pages : List ℕ) where
   abbrev numbers : List ℕ
   numbers = of_all of_page (table_pages table lines h)
 
-  room_for : check_paging_again table lines h pages ≡ Good → length numbers ≤ length pages
+  room_for : check_paging_again table lines h pages ≡ Ok tt → length numbers ≤ length pages
   unfolding check_paging_again
   room_for g =
       let n = length (table_pages table lines h) in

@@ -5,27 +5,33 @@ ghost use Rattle.meaning.specs.Pages.{kept_pages};
 ghost use Rattle.meaning.specs.PageCalls.{paging_answer, paging_table, paging_list, paging_again_answer, paging_again_list};
 
 use crate::checked::{check_paging, check_paging_again};
-use meaning::answers::{Paged, PagedAgain};
-use meaning::refusals::Checked;
+use meaning::answers::Paged;
+use meaning::refusals::Refusal;
 use meaning::settings::Settings;
 use page_list::counting::page_count;
 use page_list::writing::write_pages;
 use rows::lines::write_lines;
 
 // Each line's eleven numbers and each page's three; or a refusal, of which none writes anything.
-pub fn lay_pages(s: Settings, text: &[u8], h: u32, table: &mut [u32], pages: &mut [u32]) -> Paged
+pub fn lay_pages(
+    s: Settings,
+    text: &[u8],
+    h: u32,
+    table: &mut [u32],
+    pages: &mut [u32],
+) -> Result<Paged, Refusal>
     ensures value { result ≡ paging_answer s h text.now table.old pages.old }
     ensures table_after { table.new ≡ paging_table s h text.now table.old pages.old }
     ensures pages_after { pages.new ≡ paging_list s h text.now table.old pages.old }
 {
-    let checked = check_paging(s, text, h, table, pages);
-    if let Checked::Refused(refusal) = checked {
-        return Paged::Refused(refusal);
-    }
+    check_paging(s, text, h, table, pages)?;
     let lines = write_lines(text, s, table);
     write_pages(table, lines, h, 0, pages);
     let count = page_count(lines, h);
-    Paged::Pages(lines as u64, count as u64)
+    Ok(Paged {
+        lines: lines as u64,
+        pages: count as u64,
+    })
 }
 
 // How many pages are kept where this line is the first affected one.
@@ -46,16 +52,13 @@ pub fn list_again(
     h: u32,
     first: usize,
     pages: &mut [u32],
-) -> PagedAgain
+) -> Result<u64, Refusal>
     ensures value { result ≡ paging_again_answer table.now lines h pages.old }
     ensures pages_after { pages.new ≡ paging_again_list table.now lines h first pages.old }
 {
-    let checked = check_paging_again(table, lines, h, pages);
-    if let Checked::Refused(refusal) = checked {
-        return PagedAgain::Refused(refusal);
-    }
+    check_paging_again(table, lines, h, pages)?;
     let kept = kept_pages(h, first, lines);
     write_pages(table, lines, h, kept, pages);
     let count = page_count(lines, h);
-    PagedAgain::Pages(count as u64)
+    Ok(count as u64)
 }

@@ -1,6 +1,6 @@
 -- One space and the word behind it, from the space, the word's first letter and what is scanned after it.
 -- Assumes nothing.
-use Rattle.std.specs.Prelude.{◌≡◌, refl, true, ◌&&◌, List, ℕ, ◌+◌, ◌≤◌, eqb, length, get_or}
+use Rattle.std.specs.Prelude.{◌≡◌, refl, true, ◌&&◌, List, ℕ, ◌+◌, ◌≤◌, eqb, length, get_or, Some}
 use Rattle.std.proofs.Math.Path.{sym, ap}
 use Rattle.std.proofs.Common.{◌∙◌, inl, arith, eqb-true}
 use Rattle.basis.specs.Choice.{pick, and_true}
@@ -15,7 +15,6 @@ use Rattle.parser.specs.Scanning.{glue_of, scanned_at, scan_from, word_of, blank
 use Rattle.parser.specs.Ascii.{space_at, space-char}
 use Rattle.parser.specs.Letters.{Letter}
 use Rattle.pairs.specs.Pairs.{long_space, Blank, PairAt}
-use Rattle.parser.specs.declared.lexeme.Lexed.TheVariants.{Token}
 use Rattle.parser.specs.declared.scan.Scanned.{Scanned}
 use Rattle.parser.specs.ScanLaws.{scan_stop, char-room}
 use Rattle.parser.specs.LetterLaws.{run-stops}
@@ -74,8 +73,8 @@ module _ (t : List ℕ) (at n k : ℕ) (b : Blank t at n) (l : Letter t (at + n)
   unfolding word_of blank_of scanned_at
   pair_is x e =
       record {
-        space = b.lexed ∙ ap (λ s. Token (blank_of s)) (run-stops t (at + n) k 0 l 1 1);
-        word = sym (letter-lexed t (at + n) k l) ∙ ap (λ s. Token (word_of s)) (sym e);
+        space = b.lexed ∙ ap (λ s. Some (blank_of s)) (run-stops t (at + n) k 0 l 1 1);
+        word = sym (letter-lexed t (at + n) k l) ∙ ap (λ s. Some (word_of s)) (sym e);
         kind = refl;
         farther = rw e scanned_far;
       }

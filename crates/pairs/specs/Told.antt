@@ -1,7 +1,7 @@
 -- A word that is told by its bytes to its end, and one space before it, as they are read.
 -- Assumes nothing.
 use Rattle.std.specs.Prelude.{◌≡◌, true, List, ℕ, ◌+◌, ◌-◌, ◌≤◌, length}
-use Rattle.std.proofs.Common.{sym, ap, subst, ◌∙◌, arith}
+use Rattle.std.proofs.Common.{sym, subst, ◌∙◌, arith}
 use Rattle.parser.specs.Scanning.{scanned_at, word_of}
 use Rattle.parser.specs.Ascii.{space_at, ender_at}
 use Rattle.parser.specs.Letters.{Spells, Letter, GoesOn, Lettered}

@@ -1,6 +1,6 @@
 -- Words of few characters, told by their bytes or known, as a scan gives them.
 -- Assumes nothing.
-use Rattle.std.specs.Prelude.{◌≡◌, refl, List, ℕ, ◌+◌, ◌-◌, ◌≤◌, ◌<◌, ltb}
+use Rattle.std.specs.Prelude.{◌≡◌, refl, List, ℕ, ◌+◌, ◌-◌, ◌≤◌, ltb, Option, Some, IfSome}
 use Rattle.std.proofs.Math.Path.{sym, ap}
 use Rattle.std.proofs.Common.{◌∙◌, ltb-false}
 use native.Mathlib.Omega.{arith}
@@ -17,7 +17,6 @@ use Rattle.parser.specs.LexerLaws.{letter-lexed}
 use Rattle.parser.specs.NextLaws.{next}
 use Rattle.pairs.specs.PlainLaws.{plain-read, plain-pair}
 use Rattle.parser.specs.declared.lexeme.Lexeme.{Lexeme}
-use Rattle.parser.specs.declared.lexeme.Lexed.TheVariants.{Token}
 use Rattle.parser.specs.declared.scan.Scanned.{Scanned}
 
 -- ---- of plain bytes
@@ -42,21 +41,21 @@ word_counts (space cs n b) e = cc
 word_counts (word cs b) e = refl
 
 -- A word of the text, as a scan gives it.
-kept_word : (t : List ℕ) (at : ℕ) (x : Lexeme) → lexed_at at (tokens (chars_from t at)) ≡ Token x → x.kind ≡ Word → x ≡ word_of (kept_of x)
+kept_word : (t : List ℕ) (at : ℕ) (x : Lexeme) → lexed_at at (tokens (chars_from t at)) ≡ Some x → x.kind ≡ Word → x ≡ word_of (kept_of x)
 unfolding word_of lexeme_at
 kept_word t at x e k =
     let h = next t at x e in
     let z : x.count.0 ≡ 0 = ap (λ (y : Lexeme). y.count.0) h.is ∙ word_counts h.tok (sym (ap (λ (y : Lexeme). y.kind) h.is) ∙ k) in
     λ i. record { kind = k i; end = x.end; chars = x.chars; count = record { 0 = z i }; glues = x.glues; reach = x.reach }
 
-pub first-kept : (t : List ℕ) (at most : ℕ) (x : Lexeme) → lexed_at at (tokens (chars_from t at)) ≡ Token x → x.kind ≡ Word → (w : Scanned)
-    → w ≡ kept_within x most → 0 < w.chars.0 → FirstWord t at most w
-unfolding kept_within scanned_at
+pub first-kept : (t : List ℕ) (at most : ℕ) (x : Lexeme) → lexed_at at (tokens (chars_from t at)) ≡ Some x → x.kind ≡ Word → (w : Option Scanned)
+    → w ≡ kept_within x most → IfSome w (FirstWord t at most)
+unfolding kept_within
 first-kept t at most x read k w e =
     rw e
-    (pick_cases (λ (v : Scanned). 0 < v.chars.0 → FirstWord t at most v) (ltb most x.chars.0)
-    (λ _ h. absurd (omega arith))
-    (λ l _. record { read = read ∙ ap Token (kept_word t at x read k); fits = ltb-false most x.chars.0 l }))
+    (pick_cases (λ (v : Option Scanned). IfSome v (FirstWord t at most)) (ltb most x.chars.0)
+    (λ _. tt)
+    (λ l. record { read = read ∙ ap Some (kept_word t at x read k); fits = ltb-false most x.chars.0 l }))
 
 -- ---- character by character
 
@@ -71,13 +70,9 @@ module _ (t : List ℕ) (at most : ℕ) where
   unfolding scanned_at
   first_short n end more glues ender x l ends h w e =
       record {
-        read = sym (letter-lexed t at n x) ∙ ap (λ (s : Scanned). Token (word_of s)) (l.scans 1 0 ∙ ends.scans (1 + more) (0 + glues) ∙ none ∙ sym e);
+        read = sym (letter-lexed t at n x) ∙ ap (λ (s : Scanned). Some (word_of s)) (l.scans 1 0 ∙ ends.scans (1 + more) (0 + glues) ∙ none ∙ sym e);
         fits = rw e h;
       }
     where
       none : scanned_at end (1 + more) (0 + glues) ender ≡ scanned_at end (1 + more) glues ender
       none = let z : 0 + glues ≡ glues = omega arith in ap (λ (g : ℕ). scanned_at end (1 + more) g ender) z
-
-  pub first-none : (w : Scanned) → w ≡ scanned_at 0 0 0 0 → 0 < w.chars.0 → FirstWord t at most w
-  unfolding scanned_at
-  first-none w e = rw e λ h. absurd (omega arith)

@@ -1,6 +1,5 @@
 // A line of plain words with one space between any two, found by where the box ends (rule 8, rule 10).
-ghost use Rattle.std.specs.Prelude.{◌+◌, ◌≤◌, ◌<◌, ◌≡◌, length};
-ghost use Rattle.pairs.specs.PlainWords.{Found};
+ghost use Rattle.std.specs.Prelude.{◌+◌, ◌≤◌, ◌<◌, ◌≡◌, length, IfSome};
 ghost use Rattle.pairs.specs.Stretches.{Plains, LastSpace, Waits, PlainLine};
 
 use crate::stretch::smooth_to;
@@ -8,7 +7,7 @@ use meaning::counts::Offset;
 use parser::ascii::{ends_at, plain_at};
 use parser::letters::skip_plain;
 
-// Where the words end that fit, and how far was looked. An end of 0: there is no such line.
+// Where the words end that fit, and how far was looked.
 #[derive(Clone, Copy)]
 pub struct FoundLine {
     pub end: Offset,
@@ -41,42 +40,42 @@ fn last_space(text: &[u8], from: usize, limit: usize) -> usize
 }
 
 // Words end at a space, and plain bytes stand behind it up to a limit: does the word that waits there end past the limit.
-fn waits_behind(text: &[u8], end: usize, limit: usize) -> FoundLine
+fn waits_behind(text: &[u8], end: usize, limit: usize) -> Option<FoundLine>
     requires { (length text.now ≤ 65535) × (end ≤ limit) × (limit < length text.now) × Plains text.now (end + 1) (limit + 1) }
-    ensures { Found result.end.0 ((result.end.0 ≡ end) × Waits text.now end limit result.reach.0) }
+    ensures { IfSome result (λ x. (x.end.0 ≡ end) × Waits text.now end limit x.reach.0) }
 {
     if end == limit {
         let next = end + 1;
         if plain_at(text, next) {
-            return plain_found(end, next + 1);
+            return Some(plain_found(end, next + 1));
         }
-        return plain_found(0, 0);
+        return None;
     }
     let far = skip_plain(text, limit + 1, text.len());
     if ends_at(text, far) {
-        return plain_found(end, far + 1);
+        return Some(plain_found(end, far + 1));
     }
-    plain_found(0, 0)
+    None
 }
 
-// The line from a position on, of so many characters at most.
-pub fn plain_line(text: &[u8], at: usize, most: u32) -> FoundLine
+// The line from a position on, of so many characters at most, if there is one.
+pub fn plain_line(text: &[u8], at: usize, most: u32) -> Option<FoundLine>
     requires { (length text.now ≤ 65535) × (at ≤ length text.now) × (most ≤ 4096) }
-    ensures { Found result.end.0 (PlainLine text.now at most result.end.0 result.reach.0) }
+    ensures { IfSome result (λ x. PlainLine text.now at most x.end.0 x.reach.0) }
 {
     let limit = at + most as usize;
     if text.len() <= limit {
-        return plain_found(0, 0);
+        return None;
     }
     if !plain_at(text, at) {
-        return plain_found(0, 0);
+        return None;
     }
     if !smooth_to(text, at + 1, limit + 1) {
-        return plain_found(0, 0);
+        return None;
     }
     let end = last_space(text, at, limit);
     if end == at {
-        return plain_found(0, 0);
+        return None;
     }
     waits_behind(text, end, limit)
 }

@@ -1,8 +1,8 @@
 // The word at a position, if it has no more characters than a line has room for: told by its bytes, or known (rule 2).
-ghost use Rattle.std.specs.Prelude.{◌+◌, ◌-◌, ◌≤◌, ◌<◌, min, ◌≡◌, true, length};
+ghost use Rattle.std.specs.Prelude.{◌+◌, ◌-◌, ◌≤◌, ◌<◌, min, ◌≡◌, true, length, IfSome};
 ghost use Rattle.parser.specs.Ascii.{plain_at};
 ghost use Rattle.parser.specs.Letters.{GoesOn, Ends};
-ghost use Rattle.pairs.specs.PlainWords.{PlainWord, Found};
+ghost use Rattle.pairs.specs.PlainWords.{PlainWord};
 ghost use Rattle.pairs.specs.Within.{FirstWord, kept_within};
 
 use crate::pair::space_len;
@@ -10,7 +10,7 @@ use parser::ascii::{ends_at, plain_at};
 use parser::glue::glue_len;
 use parser::letters::{first_len, skip_plain};
 use parser::lexeme::Lexeme;
-use parser::scan::{Scanned, none_scanned, scanned_at};
+use parser::scan::{Scanned, scanned_at};
 use utf8::long::long_len;
 
 // Where so many bytes from a position on end, or where the text does.
@@ -23,39 +23,35 @@ fn limit_at(text: &[u8], from: usize, most: u32) -> usize
 }
 
 // The end of the plain word at a position, if it has no more characters than that. No more bytes are read.
-// 0, where no word ends: there is none.
-pub fn word_within(text: &[u8], from: usize, most: u32) -> usize
+pub fn word_within(text: &[u8], from: usize, most: u32) -> Option<usize>
     requires { (length text.now ≤ 65535) × (plain_at text.now from ≡ true) × (most ≤ 4096) }
-    ensures { Found result (PlainWord text.now from result × (result - from ≤ most)) }
+    ensures { IfSome result (λ end. PlainWord text.now from end × (end - from ≤ most)) }
 {
     if most == 0 {
-        return 0;
+        return None;
     }
     let limit = limit_at(text, from, most);
     let end = skip_plain(text, from + 1, limit);
     if ends_at(text, end) {
-        return end;
+        return Some(end);
     }
-    0
+    None
 }
 
 // A word that is known, if it has no more characters than that.
-pub fn kept_within(x: Lexeme, most: u32) -> Scanned
+pub fn kept_within(x: Lexeme, most: u32) -> Option<Scanned>
     ensures { result ≡ kept_within x most }
 {
     if most < x.chars.0 {
-        return none_scanned();
+        return None;
     }
-    let end = x.end;
-    let chars = x.chars;
     let weight = x.glues;
-    let reach = x.reach;
-    Scanned {
-        end,
-        chars,
+    Some(Scanned {
+        end: x.end,
+        chars: x.chars,
         weight,
-        reach,
-    }
+        reach: x.reach,
+    })
 }
 
 // Letters and what glues are skipped, but no more characters than that.
@@ -73,68 +69,58 @@ fn skip_upto(text: &[u8], from: usize, most: u32) -> Scanned
         if chars == most {
             return scanned_at(plain, chars, glues, 1);
         }
-        let letter = long_len(text, plain);
-        if letter != 0 {
+        if let Some(letter) = long_len(text, plain) {
             end = plain + letter;
             chars += 1;
             continue;
         }
-        let glue = glue_len(text, plain);
-        if glue == 0 {
+        let Some(glue) = glue_len(text, plain) else {
             return scanned_at(plain, chars, glues, 1);
-        }
+        };
         end = plain + glue;
         chars += 1;
         glues += 1;
     }
 }
 
-// How many bytes the character has that ends a word at a position, where it is told so. The text's end is as one byte. 0: it is
-// not told.
-fn ender_len(text: &[u8], at: usize) -> usize
-    ensures { 0 < result → Ends text.now at result }
+// How many bytes the character has that ends a word at a position, where it is told so. The text's end is as one byte.
+fn ender_len(text: &[u8], at: usize) -> Option<usize>
+    ensures { IfSome result (Ends text.now at) }
 {
     if ends_at(text, at) {
-        return 1;
+        return Some(1);
     }
     space_len(text, at)
 }
 
-// The word at a position, if it is told by its bytes and has no more characters than that. No characters: it is not told.
-fn short_word(text: &[u8], at: usize, most: u32) -> Scanned
+// The word at a position, if it is told by its bytes and has no more characters than that.
+fn short_word(text: &[u8], at: usize, most: u32) -> Option<Scanned>
     requires { length text.now ≤ 65535 }
-    ensures { 0 < result.chars.0 → FirstWord text.now at most result }
+    ensures { IfSome result (FirstWord text.now at most) }
 {
     if most == 0 {
-        return none_scanned();
+        return None;
     }
-    let first = first_len(text, at);
-    if first == 0 {
-        return none_scanned();
-    }
+    let first = first_len(text, at)?;
     let next = at + first;
     let more = most - 1;
     let rest = skip_upto(text, next, more);
     let end = rest.end.0 as usize;
     let n = 1 + rest.chars.0;
     let g = rest.weight.0;
-    let ender = ender_len(text, end);
-    if ender == 0 {
-        return none_scanned();
-    }
-    scanned_at(end, n, g, ender as u32)
+    let ender = ender_len(text, end)?;
+    Some(scanned_at(end, n, g, ender as u32))
 }
 
 // The same, where a plain word is looked for first.
-pub fn first_within(text: &[u8], at: usize, most: u32) -> Scanned
+pub fn first_within(text: &[u8], at: usize, most: u32) -> Option<Scanned>
     requires { (length text.now ≤ 65535) × (most ≤ 4096) }
-    ensures { 0 < result.chars.0 → FirstWord text.now at most result }
+    ensures { IfSome result (FirstWord text.now at most) }
 {
     if plain_at(text, at) {
-        let end = word_within(text, at, most);
-        if end != 0 {
+        if let Some(end) = word_within(text, at, most) {
             let n = (end - at) as u32;
-            return scanned_at(end, n, 0, 1);
+            return Some(scanned_at(end, n, 0, 1));
         }
     }
     short_word(text, at, most)

@@ -7,7 +7,7 @@ use Prim.Native.Nat.{ℕ, zero, suc, ◌+◌, ◌-◌, ◌≤◌, ◌<◌}
 use native.Mathlib.Omega.{arith}
 use lib.ListN.{take}
 use Rattle.basis.specs.Choice.{pick, by_test}
-use Rattle.utf8.specs.Encoding.{bytes, size}
+use Rattle.utf8.specs.Encoding.{size}
 use Rattle.utf8.specs.Decoding.{decode_at}
 use Rattle.utf8.specs.Walk.{is_char, decode_at-bytes}
 use Rattle.utf8.specs.declared.sequence.Decoded.TheVariants.{Char}

@@ -1,6 +1,7 @@
 -- The word that stands at a position, from a later character on: it ends where it ended.
 -- Assumes nothing.
 use mathlib.Core.Path.{◌≡◌, refl, sym, ap, subst, ◌∙◌}
+use Rattle.std.specs.Prelude.{Some}
 use mathlib.Core.Bool.{true}
 use mathlib.Core.List.{List, [], ◌∷◌}
 use Prim.Native.Nat.{ℕ, zero, suc, ◌+◌, ◌-◌, ◌≤◌, ◌<◌}
@@ -13,7 +14,7 @@ use Rattle.utf8.specs.Walk.{is_char, decode_at-bytes}
 use Rattle.utf8.specs.declared.sequence.Decoded.{Decoded}
 use Rattle.utf8.specs.declared.sequence.Decoded.TheVariants.{Char, Bad, End}
 use Rattle.meaning.specs.Characters.{Class, lf, cr, ht, shy, zwsp, blank, letter, class_of, in_word}
-use Rattle.meaning.specs.Tokens.{Tok, word, run, after, ender, first, tokens, chars_of, size_of, ender_of, need_of, kind_of}
+use Rattle.meaning.specs.Tokens.{word, run, after, ender, first, tokens, chars_of, size_of, ender_of, need_of, kind_of}
 use Rattle.meaning.specs.Words.{glues}
 use Rattle.meaning.specs.declared.tokens.TokenKind.TheVariants.{Word}
 use Rattle.laws.specs.Runs.{run_more, after_more, run_none}
@@ -22,7 +23,6 @@ use Rattle.parser.specs.Lexing.{chars_from, lexeme_at, lexed_at}
 use Rattle.parser.specs.Scanning.{glue_of}
 use Rattle.parser.specs.Shorter.{shorter, less, Between}
 use Rattle.parser.specs.declared.lexeme.Lexeme.{Lexeme}
-use Rattle.parser.specs.declared.lexeme.Lexed.TheVariants.{Token}
 use Rattle.parser.specs.ScanLaws.{chars-more, chars-none}
 use Rattle.parser.specs.CharacterLaws.{letter_of}
 use Rattle.parser.proofs.PartLaws.{glues-more}
@@ -42,7 +42,7 @@ starts-word blank c cs e = cc
 record Shortened (t : List ℕ) (at : ℕ) (x : Lexeme) (g : ℕ) : Type 0 where
   some : 1 ≤ x.chars.0
   glued : g ≤ x.glues.0
-  stands : lexed_at at (tokens (chars_from t at)) ≡ Token (shorter x g)
+  stands : lexed_at at (tokens (chars_from t at)) ≡ Some (shorter x g)
 
 module _ (at c : ℕ) (ws : List ℕ) (e : ℕ) where
   shorter-is : lexeme_at (at + bytes c) (word ws e) ≡ shorter (lexeme_at at (word (c ∷ ws) e)) (glue_of c)
@@ -84,7 +84,7 @@ unfolding in_word
 letter_class d e = letter_of (class_of d) e
 
 word_on : (at c : ℕ) (cs : List ℕ) (x : Lexeme) → class_of c ≡ letter → lexeme_at at (first (class_of c) c cs) ≡ x → at + bytes c < x.end.0
-    → lexed_at (at + bytes c) (tokens cs) ≡ Token (shorter x (glue_of c))
+    → lexed_at (at + bytes c) (tokens cs) ≡ Some (shorter x (glue_of c))
 unfolding run lexed_at first
 word_on at c [] x k is h = absurd (ends_alone at c [] x k is refl h)
 word_on at c (d ∷ ds) x k is h =
@@ -93,11 +93,11 @@ word_on at c (d ∷ ds) x k is h =
     let ws = d ∷ run in_word ds in
     let b = ender (after in_word ds) in
     let l : x ≡ lexeme_at at (word (c ∷ ws) b) = word-is at c (d ∷ ds) x k is ∙ rw (run_more in_word d ds e, after_more in_word d ds e) in
-    rw (tokens-step d ds, letter_class d e, l) (ap Token (shorter-is at c ws b)))
+    rw (tokens-step d ds, letter_class d e, l) (ap Some (shorter-is at c ws b)))
     (λ e. absurd (ends_alone at c (d ∷ ds) x k is (run_none in_word d ds e) h))
 
 -- A word that stands at a position and does not end with the character there.
-word-shorter : (t : List ℕ) (at : ℕ) (x : Lexeme) (c n : ℕ) → lexed_at at (tokens (chars_from t at)) ≡ Token x → x.kind ≡ Word
+word-shorter : (t : List ℕ) (at : ℕ) (x : Lexeme) (c n : ℕ) → lexed_at at (tokens (chars_from t at)) ≡ Some x → x.kind ≡ Word
     → decode_at t at ≡ Char c n → at + n < x.end.0 → Shortened t (at + n) x (glue_of c)
 unfolding lexed_at lexeme_at shorter
 word-shorter t at x c n s w d h =
@@ -114,7 +114,7 @@ word-shorter t at x c n s w d h =
 pub record Less (t : List ℕ) (at : ℕ) (x : Lexeme) (n g : ℕ) : Type 0 where
   pub some : n ≤ x.chars.0
   pub glued : g ≤ x.glues.0
-  pub stands : lexed_at at (tokens (chars_from t at)) ≡ Token (less x n g)
+  pub stands : lexed_at at (tokens (chars_from t at)) ≡ Some (less x n g)
 
 less_none : (x : Lexeme) → x ≡ less x 0 0
 unfolding less
@@ -130,8 +130,8 @@ less_one x n g h =
     let q : x.glues.0 - g - h ≡ x.glues.0 - (g + h) = omega arith in
     λ i. record { kind = x.kind; end = x.end; chars = record { 0 = p i }; count = x.count; glues = record { 0 = q i }; reach = x.reach }
 
-pub less-starts : (t : List ℕ) (at : ℕ) (x : Lexeme) → lexed_at at (tokens (chars_from t at)) ≡ Token x → Less t at x 0 0
-less-starts t at x s = record { some = omega arith; glued = omega arith; stands = s ∙ ap Token (less_none x) }
+pub less-starts : (t : List ℕ) (at : ℕ) (x : Lexeme) → lexed_at at (tokens (chars_from t at)) ≡ Some x → Less t at x 0 0
+less-starts t at x s = record { some = omega arith; glued = omega arith; stands = s ∙ ap Some (less_none x) }
 
 -- One more, where the word does not end with it.
 pub less-more : (t : List ℕ) (at : ℕ) (x : Lexeme) (n g c k m : ℕ) → x.kind ≡ Word → Less t at x n g → decode_at t at ≡ Char c k → m ≡ g + glue_of c
@@ -142,7 +142,7 @@ less-more t at x n g c k m w l d q e =
     record {
       some = omega (arith, l.some, s.some);
       glued = omega (arith, l.glued, s.glued);
-      stands = s.stands ∙ ap Token (less_one x n g (glue_of c)) ∙ ap (λ (h : ℕ). Token (less x (n + 1) h)) (sym q);
+      stands = s.stands ∙ ap Some (less_one x n g (glue_of c)) ∙ ap (λ (h : ℕ). Some (less x (n + 1) h)) (sym q);
     }
 
 -- Many more, where none of the word glues.
@@ -179,7 +179,7 @@ module _ (t : List ℕ) (x : Lexeme) (w : x.kind ≡ Word) (z : x.glues.0 ≡ 0)
   less-far (suc k) at n l few h = less-char k at n (decode_at t at) refl (λ m. less-far k (at + m) (n + 1)) l few h
 
   -- So many characters after its start.
-  pub less-between : (from at n : ℕ) → lexed_at from (tokens (chars_from t from)) ≡ Token x → Between t from at n → at < x.end.0 → Less t at x n 0
+  pub less-between : (from at n : ℕ) → lexed_at from (tokens (chars_from t from)) ≡ Some x → Between t from at n → at < x.end.0 → Less t at x n 0
   less-between from at n s b h =
       let p = b.ends in
       let q : 0 + n ≡ n = omega arith in

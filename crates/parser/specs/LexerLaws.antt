@@ -1,6 +1,6 @@
 -- The token that a character starts, by what was tested of it and what was scanned after it.
 -- Assumes nothing.
-use Rattle.std.specs.Prelude.{◌≡◌, true, false, List, [], ◌∷◌}
+use Rattle.std.specs.Prelude.{◌≡◌, true, false, List, [], ◌∷◌, None, Some}
 use Rattle.std.proofs.Math.Path.{refl, ap}
 use Rattle.std.proofs.Common.{sym, ◌∙◌, ne_eqb}
 use Rattle.std.proofs.lemmas.Bool.{false≢true}
@@ -13,15 +13,13 @@ use Rattle.utf8.specs.Decoding.{decode_at}
 use Rattle.utf8.specs.Walk.{is_char, decode_at-bytes}
 use Rattle.utf8.specs.declared.sequence.Decoded.TheVariants.{Char}
 use Rattle.meaning.specs.Characters.{Class, lf, cr, ht, shy, zwsp, blank, letter, class_of, word_class, in_word, in_run}
-use Rattle.meaning.specs.Tokens.{Tok, newLine, carriageReturn, tab, softHyphen, space, word, run, after, ender, counted, first, tokens, chars_of, size_of, ender_of, need_of, kind_of, count_of}
-use Rattle.meaning.specs.Words.{glues}
+use Rattle.meaning.specs.Tokens.{Tok, newLine, carriageReturn, tab, softHyphen, space, run, after, ender, counted, first, tokens, chars_of, size_of, ender_of, need_of, kind_of, count_of}
 use Rattle.meaning.specs.declared.tokens.TokenKind.TheVariants.{NewLine, CarriageReturn, Tab, Whitespace, Word, Break}
 use Rattle.laws.specs.Classes.{Classed, classed}
 use Rattle.laws.specs.TokenLaws.{tokens-step, tokens_none}
 use Rattle.parser.specs.Lexing.{chars_from, glues_of, lexeme_at, lexed_at}
 use Rattle.parser.specs.Scanning.{glue_of, space_of, scanned_at, scan_from, alone_at, word_of, blank_of}
 use Rattle.parser.specs.declared.lexeme.Lexeme.{Lexeme}
-use Rattle.parser.specs.declared.lexeme.Lexed.TheVariants.{End, Token}
 use Rattle.parser.specs.Ascii.{space_at, feed_at, space-char, feed_char}
 use Rattle.parser.specs.Letters.{Letter}
 use Rattle.parser.specs.CharacterLaws.{letter_of, ascii_word_lem}
@@ -150,18 +148,18 @@ module _ (at n c : ℕ) (cs : List ℕ) (b : n ≡ bytes c) where
 -- ---- at a position of a text
 
 pub lexed-char : (t : List ℕ) (at c n : ℕ) → decode_at t at ≡ Char c n → (l : Lexeme) → l ≡ lexeme_at at (first (class_of c) c (chars_from t (at + n)))
-    → Token l ≡ lexed_at at (tokens (chars_from t at))
+    → Some l ≡ lexed_at at (tokens (chars_from t at))
 unfolding lexed_at
-lexed-char t at c n e l q = rw (chars-more t at c n e, tokens-step c (chars_from t (at + n))) (ap Token q)
+lexed-char t at c n e l q = rw (chars-more t at c n e, tokens-step c (chars_from t (at + n))) (ap Some q)
 
-pub lexed-none : (t : List ℕ) (at : ℕ) → is_char (decode_at t at) ≡ false → End ≡ lexed_at at (tokens (chars_from t at))
+pub lexed-none : (t : List ℕ) (at : ℕ) → is_char (decode_at t at) ≡ false → None ≡ lexed_at at (tokens (chars_from t at))
 unfolding lexed_at
 lexed-none t at e = rw (chars-none t at e, tokens_none)
 
 -- The same where a letter is told, white space that counts as a space, and a line feed.
 module _ (t : List ℕ) (at : ℕ) where
   pub letter-lexed : (n : ℕ) → Letter t at n
-      → Token (word_of (scan_from in_word glue_of (at + n) 1 0 (chars_from t (at + n)))) ≡ lexed_at at (tokens (chars_from t at))
+      → Some (word_of (scan_from in_word glue_of (at + n) 1 0 (chars_from t (at + n)))) ≡ lexed_at at (tokens (chars_from t at))
   letter-lexed n x =
       let c = x.char in
       let cs = chars_from t (at + n) in
@@ -169,13 +167,13 @@ module _ (t : List ℕ) (at : ℕ) where
       (ap (λ (g : ℕ). word_of (scan_from in_word glue_of (at + n) 1 g cs)) (sym x.glue) ∙ word-is at n c cs (decode_at-bytes t at c n x.is) x.word)
 
   pub blank-lexed : (c n : ℕ) → decode_at t at ≡ Char c n → Left c
-      → Token (blank_of (scan_from in_run space_of (at + n) 1 1 (chars_from t (at + n)))) ≡ lexed_at at (tokens (chars_from t at))
+      → Some (blank_of (scan_from in_run space_of (at + n) 1 1 (chars_from t (at + n)))) ≡ lexed_at at (tokens (chars_from t at))
   blank-lexed c n d l = lexed-char t at c n d _ (blank-is at n c (chars_from t (at + n)) (decode_at-bytes t at c n d) l)
 
-  pub space-lexed : space_at t at ≡ true → Token (blank_of (scan_from in_run space_of (at + 1) 1 1 (chars_from t (at + 1)))) ≡ lexed_at at (tokens (chars_from t at))
+  pub space-lexed : space_at t at ≡ true → Some (blank_of (scan_from in_run space_of (at + 1) 1 1 (chars_from t (at + 1)))) ≡ lexed_at at (tokens (chars_from t at))
   space-lexed e = blank-lexed 0x20 1 (space-char t at e) space-left
 
-  pub feed_lexed : feed_at t at ≡ true → Token (alone_at NewLine (at + 1)) ≡ lexed_at at (tokens (chars_from t at))
+  pub feed_lexed : feed_at t at ≡ true → Some (alone_at NewLine (at + 1)) ≡ lexed_at at (tokens (chars_from t at))
   feed_lexed e =
       let d = feed_char t at e in
       lexed-char t at 0x0A 1 d _ (new_line at 1 0x0A (chars_from t (at + 1)) (decode_at-bytes t at 0x0A 1 d) refl)

@@ -1,13 +1,11 @@
 -- What the tokenizer answers at an offset of a text, from the tokens of the characters there.
 -- Assumes nothing.
-use Rattle.std.specs.Prelude.{ℕ, ◌+◌, List, [], ◌∷◌, take, drop}
+use Rattle.std.specs.Prelude.{ℕ, ◌+◌, List, [], ◌∷◌, take, drop, None, Option, Some}
 use Rattle.utf8.specs.Encoding.{size}
 use Rattle.utf8.specs.Decoding.{decode_all}
 use Rattle.meaning.specs.Tokens.{Tok, newLine, carriageReturn, tab, softHyphen, space, word, chars_of, size_of, need_of, kind_of, count_of}
 use Rattle.meaning.specs.Words.{glues}
 use Rattle.parser.specs.declared.lexeme.Lexeme.{Lexeme}
-use Rattle.parser.specs.declared.lexeme.Lexed.{Lexed}
-use Rattle.parser.specs.declared.lexeme.Lexed.TheVariants.{End, Token}
 use Rattle.parser.specs.declared.part.Part.{Part}
 
 -- The characters of a text from an offset on.
@@ -33,9 +31,9 @@ lexeme_at at t =
       reach = record { 0 = at + need_of t };
     }
 
-unfoldable pub lexed_at : ℕ → List Tok → Lexed
-lexed_at at [] = End
-lexed_at at (t ∷ ts) = Token (lexeme_at at t)
+unfoldable pub lexed_at : ℕ → List Tok → Option Lexeme
+lexed_at at [] = None
+lexed_at at (t ∷ ts) = Some (lexeme_at at t)
 
 -- The first k of some characters that stand at an offset.
 unfoldable pub part_of : ℕ → ℕ → List ℕ → Part

@@ -1,6 +1,6 @@
 -- What is so where a tab, a soft hyphen or a zero width space stands: its token, and that it ends a word.
 -- Assumes nothing.
-use Rattle.std.specs.Prelude.{◌≡◌, refl, true, false, ◌&&◌, List, ℕ, ◌+◌, ◌≤◌, ◌<◌, length, get_or}
+use Rattle.std.specs.Prelude.{◌≡◌, refl, true, false, ◌&&◌, List, ℕ, ◌+◌, ◌≤◌, ◌<◌, length, get_or, Some}
 use Rattle.std.proofs.Math.Path.{ap}
 use Rattle.std.proofs.Common.{◌∙◌}
 use Rattle.std.proofs.Math.Logic.{inl}
@@ -9,7 +9,7 @@ use borrow.Author.Tests.{eqb-true}
 use Rattle.std.proofs.Math.Dec.{eqb}
 use Rattle.basis.specs.Choice.{pick, and_true, by_test}
 use Rattle.utf8.specs.Encoding.{bytes}
-use Rattle.utf8.specs.Decoding.{value2, value3, decode_at}
+use Rattle.utf8.specs.Decoding.{value2, value3}
 use Rattle.utf8.specs.Ascii.{decode_ascii}
 use Rattle.utf8.specs.Long.{decode_two, decode_three}
 use Rattle.utf8.specs.Walk.{decode_at-bytes}
@@ -18,7 +18,6 @@ use Rattle.meaning.specs.Characters.{class_of, in_word}
 use Rattle.meaning.specs.Tokens.{first, tokens}
 use Rattle.parser.specs.Lexing.{chars_from, lexeme_at, lexed_at}
 use Rattle.parser.specs.Scanning.{alone_at}
-use Rattle.parser.specs.declared.lexeme.Lexed.TheVariants.{Token}
 use Rattle.parser.specs.Letters.{Ends}
 use Rattle.parser.specs.Marks.{zero_width, mark_of, mark_kind, Mark}
 use Rattle.parser.specs.CharacterLaws as characters
@@ -69,5 +68,5 @@ module _ (t : List ℕ) (at : ℕ) where
         by_test (eqb n 2) (λ f. rw (e, f) (soft_hyphen at n 0x00AD cs (rw (e, f) at b) refl))
         (λ f. rw (e, f) (zero-width at n 0x200B cs (rw (e, f) at b) refl)))
 
-    pub mark-lexed : Token (alone_at (mark_kind n) (at + n)) ≡ lexed_at at (tokens (chars_from t at))
+    pub mark-lexed : Some (alone_at (mark_kind n) (at + n)) ≡ lexed_at at (tokens (chars_from t at))
     mark-lexed = lexed-char t at (mark_of n) n m _ (alone_here (chars_from t (at + n)) (decode_at-bytes t at (mark_of n) n m))

@@ -3,7 +3,7 @@
 use Rattle.std.proofs.Math.Path.{◌≡◌, refl, sym, ap}
 use Rattle.std.proofs.Common.{◌∙◌, arith}
 use mathlib.Core.List.{List, [], ◌∷◌, ◌++◌}
-use Rattle.std.specs.Prelude.{ℕ, ◌+◌, ◌-◌, ◌≤◌, length, drop}
+use Rattle.std.specs.Prelude.{ℕ, ◌+◌, ◌-◌, ◌≤◌, length, drop, None, Some}
 use Rattle.std.proofs.Math.Nat.{add-zero}
 use Rattle.std.proofs.Math.ListN.{length-drop}
 use Rattle.utf8.specs.Encoding.{bytes, size}
@@ -18,7 +18,6 @@ use Rattle.laws.specs.Spell.{text_of}
 use Rattle.laws.specs.TokenLaws.{tokens-step, tokens_none, first-text, size-text, size-first, tokens-sound, sound-size}
 use Rattle.parser.specs.Lexing.{chars_from, lexeme_at, lexed_at}
 use Rattle.parser.specs.declared.lexeme.Lexeme.{Lexeme}
-use Rattle.parser.specs.declared.lexeme.Lexed.TheVariants as lexed
 use Rattle.parser.specs.ScanLaws.{chars-more, chars-none}
 
 module _ (t : List ℕ) where
@@ -53,29 +52,29 @@ module _ (t : List ℕ) where
     pub passes : at + 1 ≤ l.end.0
     pub within : l.end.0 ≤ length t
 
-  pub next-none : (at : ℕ) → lexed_at at (tokens (chars_from t at)) ≡ lexed.End → tokens (chars_from t at) ≡ []
+  pub next-none : (at : ℕ) → lexed_at at (tokens (chars_from t at)) ≡ None → tokens (chars_from t at) ≡ []
   unfolding lexed_at
   next-none at e = go (tokens (chars_from t at)) refl
     where
       go : (ts : List Tok) → tokens (chars_from t at) ≡ ts → tokens (chars_from t at) ≡ []
       go [] p = p
       go (x ∷ ts) p =
-          let q : lexed.Token (lexeme_at at x) ≡ lexed.End = rw p at e in
+          let q : Some (lexeme_at at x) ≡ None = rw p at e in
           let z : ◌≡◌ {A = ℕ} 0 1 = cc in
           absurd (omega arith)
 
-  pub next : (at : ℕ) (l : Lexeme) → lexed_at at (tokens (chars_from t at)) ≡ lexed.Token l → Next at l
+  pub next : (at : ℕ) (l : Lexeme) → lexed_at at (tokens (chars_from t at)) ≡ Some l → Next at l
   unfolding lexed_at lexeme_at
   next at l e = go (chars_from t at) refl
     where
       go : (cs : List ℕ) → chars_from t at ≡ cs → Next at l
       go [] p =
-          let q : lexed.End ≡ lexed.Token l = rw (p, tokens_none) at e in
+          let q : None ≡ Some l = rw (p, tokens_none) at e in
           let z : ◌≡◌ {A = ℕ} 0 1 = cc in
           absurd (omega arith)
       go (c ∷ cs) p =
           let k = first (class_of c) c cs in
-          let q : lexed.Token (lexeme_at at k) ≡ lexed.Token l = rw (p, tokens-step c cs) at e in
+          let q : Some (lexeme_at at k) ≡ Some l = rw (p, tokens-step c cs) at e in
           let i : l ≡ lexeme_at at k = cc in
           let end : l.end.0 ≡ at + size_of k = ap (λ (x : Lexeme). x.end.0) i in
           let o = others (class_of c) cs in

@@ -1,13 +1,13 @@
 -- One step of a scan, at a position of a text.
 -- Assumes nothing.
 use Rattle.std.specs.Prelude.{◌≡◌, Bool, true, false, List, [], ◌∷◌, ℕ, ◌+◌, ◌≤◌, length}
-use Rattle.std.proofs.Common.{arith}
+use Rattle.std.proofs.Common.{ap, sym, ◌∙◌, ◌⊎◌, inl, inr, arith}
 use Rattle.basis.specs.Choice.{pick, pick_cases}
 use Rattle.utf8.specs.Decoding.{decode_at}
-use Rattle.utf8.specs.Encoding.{bytes}
 use Rattle.utf8.specs.Sizes.{bytes_range}
 use Rattle.utf8.specs.Walk.{is_char, decode_at-char, decode_at-bytes, decode_at-within, decode_at-none, decode_at-end}
-use Rattle.utf8.specs.declared.sequence.Decoded.TheVariants.{Char}
+use Rattle.utf8.specs.declared.sequence.Decoded.{Decoded}
+use Rattle.utf8.specs.declared.sequence.Decoded.TheVariants.{Char, Bad, End}
 use Rattle.meaning.specs.Tokens.{ender}
 use Rattle.parser.specs.Lexing.{chars_from}
 use Rattle.parser.specs.Scanning.{space_of, scanned_at, scan_from}
@@ -24,6 +24,11 @@ chars-none t i e = decode_at-none t i e
 pub chars-past : (t : List ℕ) (i : ℕ) → length t ≤ i → chars_from t i ≡ []
 unfolding chars_from
 chars-past t i h = decode_at-end t i h
+
+-- What is read at a position is no character where it is one of the two others.
+pub no_char : (t : List ℕ) (i : ℕ) (d : Decoded) → d ≡ decode_at t i → (d ≡ Bad) ⊎ (d ≡ End) → is_char (decode_at t i) ≡ false
+no_char t i d e (inl b) = ap is_char (sym e ∙ b)
+no_char t i d e (inr b) = ap is_char (sym e ∙ b)
 
 -- The bytes of the one that stands there, which ends what stands before it.
 pub ender-char : (t : List ℕ) (i c n : ℕ) → decode_at t i ≡ Char c n → n ≡ ender (chars_from t i)

@@ -1,14 +1,13 @@
 // A word that is known where it starts, from a later offset on: its end need not be looked for again (rule 2, rule 8).
-ghost use Rattle.std.specs.Prelude.{◌≡◌, ◌≤◌, length};
+ghost use Rattle.std.specs.Prelude.{◌≡◌, ◌≤◌, length, Some};
 ghost use Rattle.meaning.specs.Tokens.{tokens};
 ghost use Rattle.meaning.specs.declared.tokens.TokenKind.TheVariants.{Word};
 ghost use Rattle.parser.specs.Lexing.{chars_from, lexed_at};
 ghost use Rattle.parser.specs.Shorter.{less, Between};
-ghost use Rattle.parser.specs.declared.lexeme.Lexed.TheVariants.{Token};
 
 use crate::glue::glue_of;
 use crate::letters::letter_len;
-use crate::lexeme::{Lexed, Lexeme};
+use crate::lexeme::Lexeme;
 use crate::lexer::token_at;
 use meaning::counts::Chars;
 use utf8::sequence::{Decoded, decode};
@@ -18,25 +17,16 @@ fn without(x: Lexeme, chars: u32, glues: u32) -> Lexeme
     requires { (chars ≤ x.chars.0) × (glues ≤ x.glues.0) }
     ensures { result ≡ less x chars glues }
 {
-    let kind = x.kind;
-    let end = x.end;
-    let count = x.count;
-    let reach = x.reach;
-    let left = x.chars.0 - chars;
-    let gluing = x.glues.0 - glues;
     Lexeme {
-        kind,
-        end,
-        chars: Chars(left),
-        count,
-        glues: Chars(gluing),
-        reach,
+        chars: Chars(x.chars.0 - chars),
+        glues: Chars(x.glues.0 - glues),
+        ..x
     }
 }
 
 // The token at an offset, where a word stands at an offset before: the characters of the word that lie between are taken off it.
-pub fn token_after(text: &[u8], from: usize, x: Lexeme, at: usize) -> Lexed
-    requires { (length text.now ≤ 65535) × (lexed_at from (tokens (chars_from text.now from)) ≡ Token x) × (x.kind ≡ Word) }
+pub fn token_after(text: &[u8], from: usize, x: Lexeme, at: usize) -> Option<Lexeme>
+    requires { (length text.now ≤ 65535) × (lexed_at from (tokens (chars_from text.now from)) ≡ Some x) × (x.kind ≡ Word) }
     ensures { result ≡ lexed_at at (tokens (chars_from text.now at)) }
 {
     if x.end.0 as usize <= at {
@@ -46,8 +36,7 @@ pub fn token_after(text: &[u8], from: usize, x: Lexeme, at: usize) -> Lexed
     let mut chars: u32 = 0;
     let mut glues: u32 = 0;
     while pos < at {
-        let letter = letter_len(text, pos);
-        if 0 < letter {
+        if let Some(letter) = letter_len(text, pos) {
             pos += letter;
             chars += 1;
             continue;
@@ -60,14 +49,14 @@ pub fn token_after(text: &[u8], from: usize, x: Lexeme, at: usize) -> Lexed
         pos += len as usize;
     }
     if pos == at {
-        return Lexed::Token(without(x, chars, glues));
+        return Some(without(x, chars, glues));
     }
     token_at(text, at)
 }
 
 // The same where it is known how many characters lie between. Where none of the word glues, they are not looked at.
-pub fn token_left(text: &[u8], from: usize, x: Lexeme, at: usize, chars: u32) -> Lexed
-    requires text_len_bound { (length text.now ≤ 65535) × (lexed_at from (tokens (chars_from text.now from)) ≡ Token x) × (x.kind ≡ Word) }
+pub fn token_left(text: &[u8], from: usize, x: Lexeme, at: usize, chars: u32) -> Option<Lexeme>
+    requires text_len_bound { (length text.now ≤ 65535) × (lexed_at from (tokens (chars_from text.now from)) ≡ Some x) × (x.kind ≡ Word) }
     requires between { Between text.now from at chars }
     ensures { result ≡ lexed_at at (tokens (chars_from text.now at)) }
 {
@@ -77,5 +66,5 @@ pub fn token_left(text: &[u8], from: usize, x: Lexeme, at: usize, chars: u32) ->
     if x.glues.0 != 0 {
         return token_after(text, from, x, at);
     }
-    Lexed::Token(without(x, chars, 0))
+    Some(without(x, chars, 0))
 }

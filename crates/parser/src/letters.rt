@@ -1,32 +1,32 @@
 // Letters of one, two and three bytes, told by their bytes and skipped. None of them glues (rule 2).
-ghost use Rattle.std.specs.Prelude.{◌≤◌, ◌<◌, length};
+ghost use Rattle.std.specs.Prelude.{◌≤◌, length, IfSome};
 ghost use Rattle.parser.specs.Letters.{Letter, GoesOn, Lettered};
 
 use crate::ascii::{is_plain, plain_at};
 use utf8::long::{broad_at, long_len, wide_at};
 
-// How many bytes the letter has that stands at a position, where it is told so. 0: it is not told.
-pub fn first_len(text: &[u8], at: usize) -> usize
-    ensures { 0 < result → Letter text.now at result }
+// How many bytes the letter has that stands at a position, where it is told so.
+pub fn first_len(text: &[u8], at: usize) -> Option<usize>
+    ensures { IfSome result (λ n. Letter text.now at n) }
 {
     if plain_at(text, at) {
-        return 1;
+        return Some(1);
     }
     long_len(text, at)
 }
 
 // The same of one byte, and of three in the fewest tests, for loops that decode what is not told. It is not one with `first_len`:
 // all tests together are too long to be compiled into their callers, which a text of letters pays with a twelfth.
-pub fn letter_len(text: &[u8], at: usize) -> usize
-    ensures { 0 < result → Letter text.now at result }
+pub fn letter_len(text: &[u8], at: usize) -> Option<usize>
+    ensures { IfSome result (λ n. Letter text.now at n) }
 {
     if plain_at(text, at) {
-        return 1;
+        return Some(1);
     }
     if wide_at(text, at) {
-        return 3;
+        return Some(3);
     }
-    0
+    None
 }
 
 // Letters of one byte are skipped, but none from a limit on.
@@ -34,6 +34,7 @@ pub fn skip_plain(text: &[u8], from: usize, limit: usize) -> usize
     requires { (from ≤ limit) × (limit ≤ length text.now) }
     ensures { Lettered text.now from result × (result ≤ limit) }
 {
+    // By hand: with a `for`, the tokens of a text take a twelfth more instructions.
     let mut at = from;
     while at < limit {
         if !is_plain(text[at]) {
@@ -75,10 +76,9 @@ pub fn skip_letters(text: &[u8], from: usize) -> Letters
     loop {
         let end = skip_plain(text, at, text.len());
         let chars = skipped + (end - at) as u32;
-        let len = long_len(text, end);
-        if len == 0 {
+        let Some(len) = long_len(text, end) else {
             return Letters { end, chars };
-        }
+        };
         if len == 2 {
             at = end + 2;
             skipped = chars + 1;

@@ -13,10 +13,3 @@ pub struct Lexeme {
     pub glues: Chars,
     pub reach: Offset,
 }
-
-// What stands at an offset: a token, or the end of the text.
-#[derive(Clone, Copy)]
-pub enum Lexed {
-    End,
-    Token(Lexeme),
-}

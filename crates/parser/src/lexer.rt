@@ -5,13 +5,12 @@ ghost use Rattle.meaning.specs.Characters.{class_of};
 ghost use Rattle.meaning.specs.Tokens.{first, tokens};
 ghost use Rattle.parser.specs.Lexing.{chars_from, lexeme_at, lexed_at};
 ghost use Rattle.parser.specs.Scanning.{alone_at, word_of, blank_of};
-ghost use Rattle.parser.specs.Marks.{mark_kind};
 
 use crate::ascii::{plain_at, space_at};
 use crate::characters::in_word;
 use crate::glue::glue_of;
-use crate::lexeme::{Lexed, Lexeme};
-use crate::marks::mark_len;
+use crate::lexeme::Lexeme;
+use crate::marks::{mark_at, mark_kind, mark_len};
 use crate::scan::{Scanned, scan_run, scan_word};
 use meaning::counts::{Chars, Offset};
 use meaning::tokens::TokenKind;
@@ -33,50 +32,29 @@ fn alone(kind: TokenKind, end: usize) -> Lexeme
     }
 }
 
-// The kind of the mark that has so many bytes.
-fn mark_kind(len: usize) -> TokenKind
-    ensures { result ≡ mark_kind len }
-{
-    if len == 1 {
-        return TokenKind::Tab;
-    }
-    if len == 2 {
-        return TokenKind::Break;
-    }
-    TokenKind::Whitespace
-}
-
 fn word(s: Scanned) -> Lexeme
     ensures { result ≡ word_of s }
 {
-    let end = s.end;
-    let chars = s.chars;
-    let glues = s.weight;
-    let reach = s.reach;
     Lexeme {
         kind: TokenKind::Word,
-        end,
-        chars,
+        end: s.end,
+        chars: s.chars,
         count: Chars(0),
-        glues,
-        reach,
+        glues: s.weight,
+        reach: s.reach,
     }
 }
 
 fn blank(s: Scanned) -> Lexeme
     ensures { result ≡ blank_of s }
 {
-    let end = s.end;
-    let chars = s.chars;
-    let count = s.weight;
-    let reach = s.reach;
     Lexeme {
         kind: TokenKind::Whitespace,
-        end,
-        chars,
-        count,
+        end: s.end,
+        chars: s.chars,
+        count: s.weight,
         glues: Chars(0),
-        reach,
+        reach: s.reach,
     }
 }
 
@@ -108,35 +86,32 @@ fn lexeme_at(text: &[u8], at: usize, c: u32, len: u32) -> Lexeme
 }
 
 // The token at an offset, by the character there. A byte that starts no character ends the text.
-fn decoded_at(text: &[u8], at: usize) -> Lexed
+fn decoded_at(text: &[u8], at: usize) -> Option<Lexeme>
     requires { length text.now ≤ 65535 }
     ensures { result ≡ lexed_at at (tokens (chars_from text.now at)) }
 {
     match decode(text, at) {
-        Decoded::Char { cp, len } => Lexed::Token(lexeme_at(text, at, cp, len)),
-        Decoded::Bad => Lexed::End,
-        Decoded::End => Lexed::End,
+        Decoded::Char { cp, len } => Some(lexeme_at(text, at, cp, len)),
+        Decoded::Bad | Decoded::End => None,
     }
 }
 
 // The token at an offset. What texts are mostly made of is told by its bytes.
-pub fn token_at(text: &[u8], at: usize) -> Lexed
+pub fn token_at(text: &[u8], at: usize) -> Option<Lexeme>
     requires { length text.now ≤ 65535 }
     ensures { result ≡ lexed_at at (tokens (chars_from text.now at)) }
 {
     if plain_at(text, at) {
-        return Lexed::Token(word(scan_word(text, at + 1, 0)));
+        return Some(word(scan_word(text, at + 1, 0)));
     }
     if space_at(text, at) {
-        return Lexed::Token(blank(scan_run(text, at + 1)));
+        return Some(blank(scan_run(text, at + 1)));
     }
-    let letter = long_len(text, at);
-    if 0 < letter {
-        return Lexed::Token(word(scan_word(text, at + letter, 0)));
+    if let Some(letter) = long_len(text, at) {
+        return Some(word(scan_word(text, at + letter, 0)));
     }
-    let mark = mark_len(text, at);
-    if 0 < mark {
-        return Lexed::Token(alone(mark_kind(mark), at + mark));
+    if let Some(mark) = mark_at(text, at) {
+        return Some(alone(mark_kind(mark), at + mark_len(mark)));
     }
     decoded_at(text, at)
 }

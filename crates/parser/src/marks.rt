@@ -1,6 +1,38 @@
 // A tab, a soft hyphen and a zero width space, told by their bytes: each is a token by itself, and no word goes on with one (rule 2).
-ghost use Rattle.std.specs.Prelude.{◌≡◌, ◌<◌};
-ghost use Rattle.parser.specs.Marks.{zero_width, Mark};
+ghost use Rattle.std.specs.Prelude.{◌≡◌, true, IfSome};
+ghost use Rattle.parser.specs.Marks.{zero_width, mark_kind, Mark, mark_len};
+
+use meaning::tokens::TokenKind;
+
+// U+0009, U+00AD and U+200B.
+#[derive(Clone, Copy)]
+pub enum MarkChar {
+    Tab,
+    SoftHyphen,
+    ZeroWidth,
+}
+
+// How many bytes it has.
+pub fn mark_len(mark: MarkChar) -> usize
+    ensures { result ≡ mark_len mark }
+{
+    match mark {
+        MarkChar::Tab => 1,
+        MarkChar::SoftHyphen => 2,
+        MarkChar::ZeroWidth => 3,
+    }
+}
+
+// The kind of the token that it is.
+pub fn mark_kind(mark: MarkChar) -> TokenKind
+    ensures { result ≡ mark_kind (mark_len mark) }
+{
+    match mark {
+        MarkChar::Tab => TokenKind::Tab,
+        MarkChar::SoftHyphen => TokenKind::Break,
+        MarkChar::ZeroWidth => TokenKind::Whitespace,
+    }
+}
 
 // U+200B.
 fn is_zero_width(a: u8, b: u8, c: u8) -> bool
@@ -9,36 +41,50 @@ fn is_zero_width(a: u8, b: u8, c: u8) -> bool
     (a == 0xE2) & (b == 0x80) & (c == 0x8B)
 }
 
-// How many bytes the one of the three has that stands at a position, which tells it: U+0009 has 1, U+00AD 2 and U+200B 3. 0: none is there.
-pub fn mark_len(text: &[u8], at: usize) -> usize
-    ensures { 0 < result → Mark text.now at result }
+// The one of the three that stands at a position.
+pub fn mark_at(text: &[u8], at: usize) -> Option<MarkChar>
+    ensures { IfSome result (λ m. Mark text.now at (mark_len m)) }
 {
     if text.len() <= at {
-        return 0;
+        return None;
     }
     let a = text[at];
     if a == 0x09 {
-        return 1;
+        return Some(MarkChar::Tab);
     }
     if a < 0xC2 {
-        return 0;
+        return None;
     }
     let left = text.len() - at;
     if left < 2 {
-        return 0;
+        return None;
     }
     let b = text[at + 1];
     if a == 0xC2 {
         if b == 0xAD {
-            return 2;
+            return Some(MarkChar::SoftHyphen);
         }
-        return 0;
+        return None;
     }
     if left < 3 {
-        return 0;
+        return None;
     }
     if is_zero_width(a, b, text[at + 2]) {
-        return 3;
+        return Some(MarkChar::ZeroWidth);
     }
-    0
+    None
+}
+
+// Does a soft hyphen stand at a position.
+pub fn hyphen_at(text: &[u8], at: usize) -> bool
+    ensures { result ≡ true → Mark text.now at 2 }
+{
+    matches!(mark_at(text, at), Some(MarkChar::SoftHyphen))
+}
+
+// Does a zero width space.
+pub fn zero_at(text: &[u8], at: usize) -> bool
+    ensures { result ≡ true → Mark text.now at 3 }
+{
+    matches!(mark_at(text, at), Some(MarkChar::ZeroWidth))
 }

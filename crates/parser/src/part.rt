@@ -32,24 +32,17 @@ pub fn part_of(text: &[u8], at: usize, k: u32) -> Part
 {
     let mut end = at;
     let mut glues: u32 = 0;
-    let mut left = k;
-    while 0 < left {
-        let letter = letter_len(text, end);
-        if 0 < letter {
+    for _i in 0..k {
+        if let Some(letter) = letter_len(text, end) {
             end += letter;
-            left -= 1;
             continue;
         }
         match decode(text, end) {
             Decoded::Char { cp, len } => {
                 glues += glue_of(cp);
                 end += len as usize;
-                left -= 1;
             }
-            Decoded::Bad => {
-                return part_at(end, glues);
-            }
-            Decoded::End => {
+            Decoded::Bad | Decoded::End => {
                 return part_at(end, glues);
             }
         }

@@ -9,13 +9,12 @@ use crate::ascii::{ends_at, plain_at, space_at};
 use crate::characters::{in_run, in_word, space_of};
 use crate::glue::{glue_len, glue_of};
 use crate::letters::skip_letters;
-use crate::marks::mark_len;
+use crate::marks::{mark_at, mark_len};
 use meaning::counts::{Chars, Offset};
 use utf8::long::long_len;
 use utf8::sequence::{Decoded, decode};
 
 // Where a scan ended, the characters that it skipped, how many of them weigh, and the offset after the character that ended it.
-// No characters: nothing was found. It is no enum, since every reader asks for the number of characters anyway.
 #[derive(Clone, Copy)]
 pub struct Scanned {
     pub end: Offset,
@@ -37,25 +36,13 @@ pub fn scanned_at(at: usize, chars: u32, weight: u32, ender: u32) -> Scanned
     }
 }
 
-pub fn none_scanned() -> Scanned
-    ensures { result ≡ scanned_at 0 0 0 0 }
-{
-    Scanned {
-        end: Offset(0),
-        chars: Chars(0),
-        weight: Chars(0),
-        reach: Offset(0),
-    }
-}
-
 // Bytes of the character at an offset, which ends what stands before it. The text's end counts as one.
 pub fn ender_at(text: &[u8], at: usize) -> u32
     ensures { result ≡ ender (chars_from text.now at) }
 {
     match decode(text, at) {
         Decoded::Char { cp: _, len } => len,
-        Decoded::Bad => 1,
-        Decoded::End => 1,
+        Decoded::Bad | Decoded::End => 1,
     }
 }
 
@@ -74,16 +61,14 @@ pub fn scan_word(text: &[u8], from: usize, first: u32) -> Scanned
         if ends_at(text, end) {
             return scanned_at(end, skipped, weight, 1);
         }
-        let glue = glue_len(text, end);
-        if 0 < glue {
+        if let Some(glue) = glue_len(text, end) {
             weight += 1;
             chars = skipped + 1;
             at = end + glue;
             continue;
         }
-        let mark = mark_len(text, end);
-        if 0 < mark {
-            return scanned_at(end, skipped, weight, mark as u32);
+        if let Some(mark) = mark_at(text, end) {
+            return scanned_at(end, skipped, weight, mark_len(mark) as u32);
         }
         match decode(text, end) {
             Decoded::Char { cp, len } => {
@@ -94,10 +79,7 @@ pub fn scan_word(text: &[u8], from: usize, first: u32) -> Scanned
                 chars = skipped + 1;
                 at = end + len as usize;
             }
-            Decoded::Bad => {
-                return scanned_at(end, skipped, weight, 1);
-            }
-            Decoded::End => {
+            Decoded::Bad | Decoded::End => {
                 return scanned_at(end, skipped, weight, 1);
             }
         }
@@ -122,8 +104,7 @@ pub fn scan_run(text: &[u8], from: usize) -> Scanned
             at += 1;
             continue;
         }
-        let letter = long_len(text, at);
-        if 0 < letter {
+        if let Some(letter) = long_len(text, at) {
             return scanned_at(at, chars, weight, letter as u32);
         }
         match decode(text, at) {
@@ -135,10 +116,7 @@ pub fn scan_run(text: &[u8], from: usize) -> Scanned
                 chars += 1;
                 at += len as usize;
             }
-            Decoded::Bad => {
-                return scanned_at(at, chars, weight, 1);
-            }
-            Decoded::End => {
+            Decoded::Bad | Decoded::End => {
                 return scanned_at(at, chars, weight, 1);
             }
         }

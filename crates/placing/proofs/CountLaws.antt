@@ -1,6 +1,7 @@
 -- Words with one space between any two: where a pass stands after the first, and after one more.
 -- Assumes nothing.
 use mathlib.Core.Path.{◌≡◌, refl, sym, subst}
+use Rattle.std.specs.Prelude.{Some}
 use mathlib.Core.Bool.{false}
 use mathlib.Core.List.{List}
 use Prim.Native.Nat.{ℕ, ◌+◌, ◌-◌, ◌*◌, ◌≤◌, min}
@@ -21,7 +22,6 @@ use Rattle.laws.specs.Measuring.{printed_at}
 use Rattle.parser.specs.Lexing.{chars_from, lexed_at}
 use Rattle.pairs.specs.Pairs.{one_space, PairAt}
 use Rattle.parser.specs.declared.lexeme.Lexeme.{Lexeme}
-use Rattle.parser.specs.declared.lexeme.Lexed.TheVariants.{Token}
 use Rattle.steps.specs.Unrolled.{nothing_resumed}
 use Rattle.steps.specs.Running.{PassReady}
 use Rattle.placing.specs.Laying.{LineReady, plainly}
@@ -44,7 +44,7 @@ plain-width pen n k glyph h =
 
 -- ---- the first word
 
-module _ {s : Settings} {t : List ℕ} {at : ℕ} (h : LineReady s t at nothing_resumed) (x : Lexeme) (e : lexed_at at (tokens (chars_from t at)) ≡ Token x) (k : x.kind ≡ Word) where
+module _ {s : Settings} {t : List ℕ} {at : ℕ} (h : LineReady s t at nothing_resumed) (x : Lexeme) (e : lexed_at at (tokens (chars_from t at)) ≡ Some x) (k : x.kind ≡ Word) where
   first_stood : (p : Placed) → Fair s p x.chars.0 0 → Stood s p t at x.chars.0 0 x.end.0
   unfolding start_place fits_in room_of advance spaces_after word_place
   first_stood p f =

@@ -43,11 +43,6 @@ pair-within {t} {to} {from} {looked} w d =
     let y = (read-pending t to (one_space from looked) d.space).stands in
     omega (arith, h.within, h.longer, y.longer, k.few, k.fewer)
 
-pub counted_none : {s : Settings} {t : List ℕ} {at : ℕ} (to spaces : ℕ) (v : Waiting) (r : Counted) → r ≡ counted_at to 0 spaces v → 0 < r.columns.0
-    → CountedWords s t at r
-unfolding counted_at
-counted_none to spaces v r e = rw e λ h. absurd (omega arith)
-
 module _ {t : List ℕ} {at most : ℕ} where
   pub counting-first : (w : Scanned) → FirstWord t at most w → Counting t at most w.end.0 w.chars.0 w.weight.0
   unfolding word_of

@@ -1,6 +1,7 @@
 -- A line that begins with a word too wide for it: the word is cut at the same place however the line is placed by its measure.
 -- Assumes nothing.
 use mathlib.Core.Path.{◌≡◌, refl, sym, ap, subst, ◌∙◌}
+use Rattle.std.specs.Prelude.{Some}
 use mathlib.Core.Bool.{false}
 use mathlib.Core.List.{List}
 use Prim.Native.Nat.{ℕ, ◌+◌, ◌-◌, ◌*◌, ◌/◌, ◌≤◌, ◌<◌, min}
@@ -22,7 +23,6 @@ use Rattle.meaning.specs.declared.line.Placed.{Placed}
 use Rattle.laws.specs.Measuring.{printed_at}
 use Rattle.parser.specs.Lexing.{chars_from, lexed_at, part_of}
 use Rattle.parser.specs.declared.lexeme.Lexeme.{Lexeme}
-use Rattle.parser.specs.declared.lexeme.Lexed.TheVariants.{Token}
 use Rattle.parser.specs.declared.part.Part.{Part}
 use Rattle.moves.specs.Fine.{FineSpaces}
 use Rattle.steps.specs.Unrolled.{nothing_resumed}
@@ -49,7 +49,7 @@ room-same width glyph left most g is h =
     let high : fitting ≤ width / glyph = (le-div_iff_mul-le g).1 (omega arith) in
     omega arith
 
-module _ {s : Settings} {t : List ℕ} {at : ℕ} (h : LineReady s t at nothing_resumed) (x : Lexeme) (e : lexed_at at (tokens (chars_from t at)) ≡ Token x)
+module _ {s : Settings} {t : List ℕ} {at : ℕ} (h : LineReady s t at nothing_resumed) (x : Lexeme) (e : lexed_at at (tokens (chars_from t at)) ≡ Some x)
     (k : x.kind ≡ Word) {most : ℕ} (is : most ≡ s.width.0 / s.glyph.0) (some : most ≡ 0 → ⊥) (long : most < x.chars.0) {part : Part}
     (parted : part ≡ part_of at most (chars_from t at))
   where

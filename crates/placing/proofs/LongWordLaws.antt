@@ -1,30 +1,24 @@
 -- A word that was scanned, or is known, and is wider than the box.
 -- Assumes nothing.
 use Prim.Native.Nat.{ℕ, ◌+◌, ◌≤◌, ◌<◌}
+use Rattle.std.specs.Prelude.{Some}
 use mathlib.Core.Path.{◌≡◌, refl, sym, ap, ◌∙◌}
 use mathlib.Core.List.{List}
-use native.Mathlib.Omega.{arith}
 use Rattle.meaning.specs.Characters.{in_word}
 use Rattle.meaning.specs.Tokens.{tokens}
 use Rattle.meaning.specs.declared.tokens.TokenKind.TheVariants.{Word}
 use Rattle.parser.specs.Letters.{Letter}
 use Rattle.parser.specs.Lexing.{chars_from, lexed_at}
 use Rattle.parser.specs.LexerLaws.{letter-lexed}
-use Rattle.parser.specs.Scanning.{glue_of, scanned_at, scan_from, word_of}
+use Rattle.parser.specs.Scanning.{glue_of, scan_from, word_of}
 use Rattle.parser.specs.declared.lexeme.Lexeme.{Lexeme}
-use Rattle.parser.specs.declared.lexeme.Lexed.TheVariants.{Token}
 use Rattle.parser.specs.declared.scan.Scanned.{Scanned}
 use Rattle.pairs.specs.Within.{kept_of}
 use Rattle.placing.specs.LeftWords.{LongWord}
 use Rattle.placing.specs.LeftWordLaws.{left_word}
 
--- No characters: it is none.
-pub none-longer : (w : Scanned) → w ≡ scanned_at 0 0 0 0 → 0 < w.chars.0 → ⊥
-unfolding scanned_at
-none-longer w e = rw e λ h. omega arith
-
 module _ (t : List ℕ) (at most : ℕ) (some : 1 ≤ most) where
-  pub long-known : (x : Lexeme) → lexed_at at (tokens (chars_from t at)) ≡ Token x → x.kind ≡ Word → (w : Scanned) → w ≡ kept_of x → most < w.chars.0
+  pub long-known : (x : Lexeme) → lexed_at at (tokens (chars_from t at)) ≡ Some x → x.kind ≡ Word → (w : Scanned) → w ≡ kept_of x → most < w.chars.0
       → LongWord t at most w
   long-known x read kind w e long = record { some = some; long = long; left = rw e (left_word t at x kind read) }
 
@@ -32,5 +26,5 @@ module _ (t : List ℕ) (at most : ℕ) (some : 1 ≤ most) where
       → LongWord t at most w
   unfolding word_of
   long_scanned n l w e long =
-      let read : lexed_at at (tokens (chars_from t at)) ≡ Token (word_of w) = sym (letter-lexed t at n l) ∙ ap (λ (s : Scanned). Token (word_of s)) (sym e) in
+      let read : lexed_at at (tokens (chars_from t at)) ≡ Some (word_of w) = sym (letter-lexed t at n l) ∙ ap (λ (s : Scanned). Some (word_of s)) (sym e) in
       record { some = some; long = long; left = left_word t at (word_of w) refl read }

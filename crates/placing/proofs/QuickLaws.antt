@@ -1,6 +1,7 @@
 -- How a line of counted words ends: its drawing pass ends as its measuring pass does.
 -- Assumes nothing.
 use mathlib.Core.Path.{◌≡◌, refl, sym, ap, subst, ◌∙◌}
+use Rattle.std.specs.Prelude.{Some}
 use mathlib.Core.Bool.{true, false}
 use mathlib.Core.List.{List, []}
 use Prim.Native.Nat.{ℕ, ◌+◌, ◌-◌, ◌*◌, ◌≤◌, ◌<◌}
@@ -30,7 +31,6 @@ use Rattle.laws.specs.TokenLaws.{tokens_none}
 use Rattle.laws.specs.Measuring.{printed_at}
 use Rattle.parser.specs.Lexing.{chars_from, lexed_at}
 use Rattle.parser.specs.Scanning.{alone_at}
-use Rattle.parser.specs.declared.lexeme.Lexed.TheVariants.{Token}
 use Rattle.parser.specs.Ascii.{feed_at}
 use Rattle.parser.specs.ScanLaws.{chars-past}
 use Rattle.parser.specs.LexerLaws.{feed_lexed}
@@ -60,7 +60,7 @@ module _ {s : Settings} {p : Place} {t : List ℕ} {at : ℕ} {m : Measure} wher
   unfolding alone_at
   feed_ends r e =
       let x = alone_at kind.NewLine (at + 1) in
-      let is : lexed_at at (tokens (chars_from t at)) ≡ Token x = sym (feed_lexed t at e) in
+      let is : lexed_at at (tokens (chars_from t at)) ≡ Some x = sym (feed_lexed t at e) in
       sym (far-ends NewLine m (at + 1) 0 (at + 1))
       ∙ stops-onward r x is _ (line-ends s p t at x m (read-pending t at x is).stands refl)
 

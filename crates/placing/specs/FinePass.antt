@@ -1,6 +1,7 @@
 -- What a whole pass from a fine place measures is no more than its text allows, and it drops no more than it takes.
 -- Assumes nothing.
-use Rattle.std.specs.Prelude.{ℕ, ◌+◌, ◌*◌, ◌/◌, ◌≤◌, ◌&&◌, ◌||◌, List, [], ◌∷◌, eqb, length}
+use Rattle.std.specs.Prelude.{ℕ, ◌+◌, ◌*◌, ◌/◌, ◌≤◌, ◌&&◌, ◌||◌, List, [], ◌∷◌, eqb, length, None, Option, Some}
+use Rattle.meaning.specs.declared.counts.Pixels.{Pixels}
 use Rattle.std.proofs.Math.Bool.{not}
 use Rattle.std.proofs.Common.{arith, length-append}
 use Rattle.basis.specs.Choice.{pick_cases}
@@ -13,8 +14,6 @@ use Rattle.meaning.specs.LineIter.{Step, go, stop, skips, cut_run, on_space, on_
 use Rattle.meaning.specs.Line.{measured}
 use Rattle.meaning.specs.declared.settings.Settings.{Settings}
 use Rattle.meaning.specs.declared.cursor.Place.{Place}
-use Rattle.meaning.specs.declared.cursor.NextWord.{NextWord}
-use Rattle.meaning.specs.declared.cursor.NextWord.TheVariants.{Nothing, Width}
 use Rattle.meaning.specs.declared.line.Measure.{Measure}
 use Rattle.laws.specs.Spell.{text_of, spell, Sound}
 use Rattle.laws.specs.TokenLaws.{chars-text, size-spell}
@@ -67,10 +66,10 @@ module _ (s : Settings) (p : Place) (at : ℕ) where
   tab_drops look =
       pick_cases Drops (skips s p) (λ _. tt) λ _. pick_cases Drops (fits_in p.cursor (tab_width p.cursor)) (λ _. tt) (λ _. tt)
 
-  break_drops : (w : NextWord) (r : ℕ) → Drops (on_break s p at w r)
+  break_drops : (w : Option Pixels) (r : ℕ) → Drops (on_break s p at w r)
   unfolding on_break hyphenated
-  break_drops Nothing r = tt
-  break_drops (Width w) r =
+  break_drops None r = tt
+  break_drops (Some w) r =
       pick_cases Drops (p.empty || not (fits_in p.cursor w.0))
       (λ _.
       pick_cases Drops (fits_in p.cursor s.glyph.0) (λ _. pick_cases Drops p.empty (λ _. tt) (λ _. omega arith))

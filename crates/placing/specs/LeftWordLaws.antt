@@ -1,6 +1,6 @@
 -- What is left of a word is a word: from its lexeme to its characters, and back.
 -- Assumes nothing.
-use Rattle.std.specs.Prelude.{ℕ, zero, suc, ◌+◌, ◌-◌, ◌≤◌, true, length, take, drop}
+use Rattle.std.specs.Prelude.{ℕ, zero, suc, ◌+◌, ◌-◌, ◌≤◌, true, length, take, drop, None, Some}
 use Rattle.std.proofs.Math.Path.{◌≡◌, refl, ap, subst}
 use Rattle.std.proofs.Common.{sym, ◌∙◌, arith, length-append, length-drop, take-append-drop, length-take-le}
 use mathlib.Core.List.{List, [], ◌∷◌, ◌++◌, append_assoc}
@@ -19,7 +19,6 @@ use Rattle.parser.specs.Lexing.{chars_from, lexeme_at, lexed_at}
 use Rattle.parser.specs.NextLaws.{chars_after}
 use Rattle.parser.specs.Shorter.{Between}
 use Rattle.parser.specs.declared.lexeme.Lexeme.{Lexeme}
-use Rattle.parser.specs.declared.lexeme.Lexed.TheVariants.{Token, End}
 use Rattle.placing.specs.LeftWords.{LeftWord}
 
 -- ---- from a lexeme
@@ -61,17 +60,17 @@ module _ (t : List ℕ) (at : ℕ) (x : Lexeme) (kind : x.kind ≡ Word) where
         reached = omega (arith, ap (λ (y : Lexeme). y.reach.0) is, ends, ap ender behind);
       }
 
-  pub left_word : lexed_at at (tokens (chars_from t at)) ≡ Token x → LeftWord t at x.end.0 x.chars.0 x.glues.0 x.reach.0
+  pub left_word : lexed_at at (tokens (chars_from t at)) ≡ Some x → LeftWord t at x.end.0 x.chars.0 x.glues.0 x.reach.0
   unfolding lexed_at
   left_word e = go (chars_from t at) refl
     where
       go : (cs : List ℕ) → chars_from t at ≡ cs → LeftWord t at x.end.0 x.chars.0 x.glues.0 x.reach.0
       go [] p =
-          let q : End ≡ Token x = rw (p, tokens_none) at e in
+          let q : None ≡ Some x = rw (p, tokens_none) at e in
           let z : ◌≡◌ {A = ℕ} 0 1 = cc in
           absurd (omega arith)
       go (c ∷ cs) p =
-          let q : Token (lexeme_at at (first (class_of c) c cs)) ≡ Token x = rw (p, tokens-step c cs) at e in
+          let q : Some (lexeme_at at (first (class_of c) c cs)) ≡ Some x = rw (p, tokens-step c cs) at e in
           word-is c cs p (cc)
 
 -- ---- and back
@@ -79,7 +78,7 @@ module _ (t : List ℕ) (at : ℕ) (x : Lexeme) (kind : x.kind ≡ Word) where
 -- The lexeme of such a word.
 pub record ReadWord (t : List ℕ) (at end chars gluing reach : ℕ) : Type 0 where
   pub lexeme : Lexeme
-  pub read : lexed_at at (tokens (chars_from t at)) ≡ Token lexeme
+  pub read : lexed_at at (tokens (chars_from t at)) ≡ Some lexeme
   pub kind : lexeme.kind ≡ Word
   pub end_is : lexeme.end.0 ≡ end
   pub chars-is : lexeme.chars.0 ≡ chars

@@ -1,6 +1,6 @@
 -- What holds of a laid line: where the next one starts and what that resumes, and that no number of its entry is large.
 -- Assumes nothing.
-use Rattle.std.specs.Prelude.{ℕ, suc, ◌+◌, ◌*◌, ◌≤◌, ◌<◌, ◌≡◌, List, ◌∷◌, map, take, drop, eqb}
+use Rattle.std.specs.Prelude.{ℕ, ◌+◌, ◌*◌, ◌≤◌, ◌<◌, ◌≡◌, List, take, drop, eqb}
 use native.Mathlib.Omega.{arith}
 use Rattle.std.proofs.Math.Path.{refl}
 use Rattle.std.proofs.Common.{sym, subst, take-append-drop, take-add, ne_eqb}
@@ -13,7 +13,6 @@ use Rattle.meaning.specs.Tokens.{Tok}
 use Rattle.meaning.specs.Alignment.{plain_spaces}
 use Rattle.meaning.specs.LineIter.{Held, process}
 use Rattle.meaning.specs.Line.{unmeasured, measured, line_tokens, start_place, measuring, placing, line_of, lay_line, end_number, rest_of, entry_at}
-use Rattle.meaning.specs.Layout.{row_at, unless_ended, rows_by, entry_of_row}
 use Rattle.meaning.specs.declared.settings.Settings.{Settings}
 use Rattle.meaning.specs.declared.line.LineEnd.{LineEnd}
 use Rattle.meaning.specs.declared.line.LineEnd.TheVariants.{NewLine, CarriageReturn, EndOfText, LineBreak}

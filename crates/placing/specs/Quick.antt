@@ -1,6 +1,6 @@
 -- A line of words with one space between any two, counted in characters: what its passes come to, however it is placed.
 -- Assumes nothing.
-use Rattle.std.specs.Prelude.{◌≡◌, false, List, ℕ, ◌+◌, ◌*◌, ◌/◌, ◌≤◌}
+use Rattle.std.specs.Prelude.{◌≡◌, false, List, ℕ, ◌+◌, ◌*◌, ◌/◌, ◌≤◌, Option, Some, None}
 use Rattle.meaning.specs.Alignment.{plain_spaces}
 use Rattle.meaning.specs.Line.{unmeasured, start_place}
 use Rattle.meaning.specs.declared.settings.Settings.{Settings}
@@ -18,7 +18,6 @@ use Rattle.steps.specs.declared.step.Ended.{Ended}
 use Rattle.strides.specs.declared.going.Waiting.{Waiting}
 use Rattle.placing.specs.declared.quick.Counted.{Counted}
 use Rattle.placing.specs.declared.quick.Quick.{Quick}
-use Rattle.placing.specs.declared.quick.Quick.TheVariants.{Not, Line}
 
 -- There is room for so many letters, and for so many spaces between their words, in a line that is so placed.
 pub record Fair (s : Settings) (p : Placed) (letters gaps : ℕ) : Type 0 where
@@ -83,6 +82,6 @@ pub record DrawnAlike (s : Settings) (t : List ℕ) (at : ℕ) (e : Ended) : Typ
   pub drawn : SameEnd e (passed_from s t at nothing_resumed (placed_by s e))
 
 -- And that is known to have so many characters.
-abbrev pub QuickLine : Settings → List ℕ → ℕ → Quick → Type 0
-QuickLine s t at Not = Unit {0}
-QuickLine s t at (Line e n) = DrawnAlike s t at e × Taken t at e.next.0 n.0
+abbrev pub QuickLine : Settings → List ℕ → ℕ → Option Quick → Type 0
+QuickLine s t at None = Unit {0}
+QuickLine s t at (Some q) = DrawnAlike s t at q.ended × Taken t at q.ended.next.0 q.taken.0

@@ -1,6 +1,6 @@
 -- How many characters of a text stand from one offset up to another (rule 12).
 -- Assumes nothing.
-use Rattle.std.specs.Prelude.{ℕ, ◌+◌, ◌≤◌, ◌≡◌, refl, List, ◌++◌, length, take, drop}
+use Rattle.std.specs.Prelude.{ℕ, ◌+◌, ◌≤◌, ◌≡◌, refl, List, ◌++◌, length, take, drop, Some}
 use Rattle.std.proofs.Common.{arith, ◌∙◌, append_assoc, length-append, take-append-drop, length-take-le}
 use Rattle.std.proofs.Math.Path.{sym, ap}
 use Rattle.std.proofs.Math.Seq.{take-append_seam}
@@ -13,7 +13,6 @@ use Rattle.laws.specs.Suffixes.{same_count}
 use Rattle.parser.specs.Lexing.{chars_from, lexeme_at, lexed_at}
 use Rattle.parser.specs.NextLaws.{chars_after}
 use Rattle.parser.specs.declared.lexeme.Lexeme.{Lexeme}
-use Rattle.parser.specs.declared.lexeme.Lexed.TheVariants.{Token}
 use Rattle.steps.specs.Lexed.{chars-within}
 use Rattle.steps.specs.Stepping.{tok_of}
 use Rattle.strides.specs.OnwardLaws.{read-pending}
@@ -55,7 +54,7 @@ module _ (t : List ℕ) (at : ℕ) where
       same_count n k cs few h (rw front (omega (arith, a.stretch.ends)))
 
   -- A token.
-  pub token_taken : (x : Lexeme) → lexed_at at (tokens (chars_from t at)) ≡ Token x → Taken t at x.end.0 x.chars.0
+  pub token_taken : (x : Lexeme) → lexed_at at (tokens (chars_from t at)) ≡ Some x → Taken t at x.end.0 x.chars.0
   unfolding lexeme_at
   token_taken x e =
       let h = (read-pending t at x e).stands in

@@ -3,7 +3,6 @@ ghost use Rattle.std.specs.Prelude.{◌≤◌, ◌≡◌, ◌||◌, eqb};
 ghost use Rattle.meaning.specs.Alignment.{plain_spaces, ends_paragraph, justified, place};
 ghost use Rattle.moves.specs.Fine.{FineSettings};
 
-use basis::numbers::less;
 use meaning::counts::{Chars, Pixels};
 use meaning::cursor::Spaces;
 use meaning::line::{LineEnd, Placed};
@@ -50,7 +49,7 @@ pub fn place_line(s: Settings, ended: LineEnd, width: Pixels, n: Chars) -> Place
     ensures { result ≡ place s ended width.0 n.0 }
 {
     // What the line leaves of the box.
-    let room = less(s.width.0, width.0);
+    let room = s.width.0.saturating_sub(width.0);
     let spaces = plain_spaces(s);
     if s.alignment == 0 {
         return Placed {

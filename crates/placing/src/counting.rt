@@ -26,23 +26,20 @@ pub fn count_on(
     let mut columns = before;
     let mut spaces = gaps;
     loop {
-        let pair = told_pair(text, end as usize);
-        let next = pair.from;
-        if next.0 == 0 {
+        let Some(pair) = told_pair(text, end as usize) else {
             return counted_at(end, columns, spaces, nothing_waits());
-        }
+        };
+        let next = pair.from;
         let n = pair.word.chars.0;
         if most - columns <= n {
-            let looked = pair.looked;
-            let reach = pair.word.reach;
             return counted_at(
                 end,
                 columns,
                 spaces,
                 Waiting {
                     next,
-                    looked,
-                    reach,
+                    looked: pair.looked,
+                    reach: pair.word.reach,
                 },
             );
         }

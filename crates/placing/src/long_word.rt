@@ -1,12 +1,12 @@
 // A word that is wider than the box, which is cut over lines (rule 2, rule 8).
-ghost use Rattle.std.specs.Prelude.{◌≤◌, ◌<◌, ◌≡◌, length};
+ghost use Rattle.std.specs.Prelude.{◌≤◌, ◌<◌, ◌≡◌, length, IfSome};
 ghost use Rattle.steps.specs.Knowing.{KnownFits};
 ghost use Rattle.placing.specs.LeftWords.{LongWord};
 
 use meaning::tokens::TokenKind;
 use parser::letters::first_len;
-use parser::lexeme::Lexed;
-use parser::scan::{Scanned, none_scanned, scan_word};
+use parser::lexeme::Lexeme;
+use parser::scan::{Scanned, scan_word};
 use steps::first::Known;
 
 // Do so many bytes behind a position have no space and no line feed among them: then a word may be as long. A guess, which nothing rests on.
@@ -27,62 +27,54 @@ fn may_be_long(text: &[u8], from: usize, most: u32) -> bool
     true
 }
 
-// A scanned word, if it has more characters than that. No characters: it has not.
-fn if_longer(word: Scanned, most: u32) -> Scanned
-    ensures { 0 < result.chars.0 → (result ≡ word) × (most < result.chars.0) }
+// A scanned word, if it has more characters than that.
+fn if_longer(word: Scanned, most: u32) -> Option<Scanned>
+    ensures { IfSome result (λ w. (w ≡ word) × (most < w.chars.0)) }
 {
     if word.chars.0 <= most {
-        return none_scanned();
+        return None;
     }
-    word
+    Some(word)
 }
 
-// The word at an offset of a text, if it is wider than a box that holds so many characters. No characters: it is not told to be.
-pub fn long_word(text: &[u8], at: usize, most: u32) -> Scanned
+// The word at an offset of a text, if it is wider than a box that holds so many characters, and is told to be.
+pub fn long_word(text: &[u8], at: usize, most: u32) -> Option<Scanned>
     requires { (length text.now ≤ 65535) × (at ≤ length text.now) }
-    ensures { 0 < result.chars.0 → LongWord text.now at most result }
+    ensures { IfSome result (LongWord text.now at most) }
 {
     if most == 0 {
-        return none_scanned();
+        return None;
     }
     if !may_be_long(text, at, most) {
-        return none_scanned();
+        return None;
     }
-    let letter = first_len(text, at);
-    if letter == 0 {
-        return none_scanned();
-    }
+    let letter = first_len(text, at)?;
     if_longer(scan_word(text, at + letter, 0), most)
 }
 
 // The same of a word that is known.
-pub fn long_known(text: &[u8], at: usize, known: Known, most: u32) -> Scanned
+pub fn long_known(text: &[u8], at: usize, known: Known, most: u32) -> Option<Scanned>
     requires { KnownFits text.now known }
-    ensures { 0 < result.chars.0 → LongWord text.now at most result }
+    ensures { IfSome result (LongWord text.now at most) }
 {
     if most == 0 {
-        return none_scanned();
+        return None;
     }
     if known.at.0 as usize != at {
-        return none_scanned();
+        return None;
     }
-    let first = known.first;
-    let Lexed::Token(x) = first else {
-        return none_scanned();
+    let Some(x) = known.first else {
+        return None;
     };
-    let kind = x.kind;
-    let TokenKind::Word = kind else {
-        return none_scanned();
+    let TokenKind::Word = x.kind else {
+        return None;
     };
-    let end = x.end;
-    let chars = x.chars;
     let weight = x.glues;
-    let reach = x.reach;
     let word = Scanned {
-        end,
-        chars,
+        end: x.end,
+        chars: x.chars,
         weight,
-        reach,
+        reach: x.reach,
     };
     if_longer(word, most)
 }

@@ -1,18 +1,16 @@
 // A line of plain words before a word that waits, and the entry of a line that is found (rule 6, rule 10, rule 12).
-ghost use Rattle.std.specs.Prelude.{◌*◌, ◌≤◌, ◌≡◌, length};
-ghost use Rattle.pairs.specs.PlainWords.{Found};
+ghost use Rattle.std.specs.Prelude.{◌*◌, ◌≤◌, ◌≡◌, length, IfSome};
 ghost use Rattle.placing.specs.Plain.{left_of, ended_entry, plain_entry, PlainRow};
 
-use crate::entry::end_number;
 use meaning::counts::{Chars, Offset, Pixels};
 use meaning::line::{Entry, LineEnd, Rest};
 use meaning::settings::Settings;
 use pairs::plain_line::{FoundLine, plain_line};
 
 // The line at an offset of a text, in a box that holds so many characters, if its bytes tell that it is such a line.
-pub fn plain_row(text: &[u8], at: usize, most: u32) -> FoundLine
+pub fn plain_row(text: &[u8], at: usize, most: u32) -> Option<FoundLine>
     requires { (length text.now ≤ 65535) × (at ≤ length text.now) × (most ≤ 4096) }
-    ensures { Found result.end.0 (PlainRow text.now at most result.end.0 result.reach.0) }
+    ensures { IfSome result (λ x. PlainRow text.now at most x.end.0 x.reach.0) }
 {
     plain_line(text, at, most)
 }
@@ -43,10 +41,9 @@ pub fn ended_entry(
     requires { (columns * s.glyph.0 ≤ s.width.0) × (s.width.0 ≤ 4096) }
     ensures { result ≡ ended_entry ended s start.0 columns reach.0 before.0 }
 {
-    let glyph = s.glyph;
-    let wide = columns * glyph.0;
+    let wide = columns * s.glyph.0;
     let left = left_of(s.alignment, s.width.0 - wide);
-    let ending = end_number(ended);
+    let ending = u32::from(ended);
     let rest = Rest {
         end: Offset(0),
         count: Chars(0),
@@ -56,7 +53,7 @@ pub fn ended_entry(
         rest,
         ending,
         left: Pixels(left),
-        space: glyph,
+        space: s.glyph,
         extra: Pixels(0),
         width: Pixels(wide),
         dropped: Chars(0),

@@ -1,5 +1,5 @@
 // A line of words with one space between any two, counted in characters: it is drawn as it was measured (rule 8, rule 10).
-ghost use Rattle.std.specs.Prelude.{◌*◌, ◌≤◌, ◌<◌, ◌≡◌, length};
+ghost use Rattle.std.specs.Prelude.{◌*◌, ◌≤◌, ◌<◌, ◌≡◌, length, IfSome};
 ghost use Rattle.laws.specs.Measuring.{printed_at};
 ghost use Rattle.pairs.specs.Within.{FirstWord};
 ghost use Rattle.steps.specs.Unrolled.{nothing_resumed};
@@ -19,16 +19,16 @@ use moves::place::start_place;
 use pairs::pair::plain_pair;
 use pairs::within::{first_within, kept_within};
 use parser::ascii::feed_at;
-use parser::lexeme::Lexed;
+use parser::lexeme::Lexeme;
 use parser::scan::Scanned;
 use steps::ending::ends_before;
 use steps::first::Known;
 use steps::step::Ended;
-use strides::going::{Going, Waiting, nothing_waits, stands_at, strode};
+use strides::going::{Going, Waiting, stands_at, strode};
 use strides::waiting::ends_waiting;
 
 // The words of such a line: where they end, their characters with those of the spaces between them, how many of these are
-// spaces or glue, and the word that waits behind one more space, if one does. No characters: it is no such line.
+// spaces or glue, and the word that waits behind one more space, if one does.
 #[derive(Clone, Copy)]
 pub struct Counted {
     pub end: Offset,
@@ -37,11 +37,11 @@ pub struct Counted {
     pub waits: Waiting,
 }
 
-// No such line; or how its passes end, and how many characters it takes.
+// How the passes of such a line end, and how many characters it takes.
 #[derive(Clone, Copy)]
-pub enum Quick {
-    Not,
-    Line(Ended, Chars),
+pub struct Quick {
+    pub ended: Ended,
+    pub taken: Chars,
 }
 
 pub fn counted_at(end: u32, columns: u32, spaces: u32, waits: Waiting) -> Counted
@@ -56,15 +56,13 @@ pub fn counted_at(end: u32, columns: u32, spaces: u32, waits: Waiting) -> Counte
 }
 
 // The word at a position, if it has no more characters than that. A known word that has more is not looked at.
-fn first_known(text: &[u8], at: usize, most: u32, known: Known) -> Scanned
+fn first_known(text: &[u8], at: usize, most: u32, known: Known) -> Option<Scanned>
     requires { (length text.now ≤ 65535) × (most ≤ 4096) × KnownFits text.now known }
-    ensures { 0 < result.chars.0 → FirstWord text.now at most result }
+    ensures { IfSome result (FirstWord text.now at most) }
 {
     if known.at.0 as usize == at {
-        let first = known.first;
-        if let Lexed::Token(x) = first {
-            let kind = x.kind;
-            if let TokenKind::Word = kind {
+        if let Some(x) = known.first {
+            if let TokenKind::Word = x.kind {
                 return kept_within(x, most);
             }
         }
@@ -72,39 +70,33 @@ fn first_known(text: &[u8], at: usize, most: u32, known: Known) -> Scanned
     first_within(text, at, most)
 }
 
-// The words of a line as far as they fit: plain ones first, and the others from the first that is none of these on.
-fn count_words(text: &[u8], s: Settings, at: usize, known: Known) -> Counted
+// The words of a line as far as they fit, if it is such a line: plain ones first, and the others from the first that is none of these on.
+fn count_words(text: &[u8], s: Settings, at: usize, known: Known) -> Option<Counted>
     requires { LineReady s text.now at nothing_resumed × KnownFits text.now known }
-    ensures { 0 < result.columns.0 → CountedWords s text.now at result }
+    ensures { IfSome result (CountedWords s text.now at) }
 {
     let most = s.width.0 / s.glyph.0;
-    let first = first_known(text, at, most, known);
+    let first = first_known(text, at, most, known)?;
     let mut end = first.end.0;
     let mut columns = first.chars.0;
     let mut spaces = first.weight.0;
-    if columns == 0 {
-        return counted_at(end, 0, spaces, nothing_waits());
-    }
     loop {
-        let pair = plain_pair(text, end as usize);
+        let Some(pair) = plain_pair(text, end as usize) else {
+            return Some(count_on(text, s, at, most, end, columns, spaces));
+        };
         let next = pair.from;
-        if next.0 == 0 {
-            return count_on(text, s, at, most, end, columns, spaces);
-        }
         let n = pair.word.chars.0;
         if most - columns <= n {
-            let looked = pair.looked;
-            let reach = pair.word.reach;
-            return counted_at(
+            return Some(counted_at(
                 end,
                 columns,
                 spaces,
                 Waiting {
                     next,
-                    looked,
-                    reach,
+                    looked: pair.looked,
+                    reach: pair.word.reach,
                 },
-            );
+            ));
         }
         let g = pair.word.weight.0;
         columns += 1 + n;
@@ -120,43 +112,48 @@ fn measured_to(s: Settings, c: Counted) -> Going
 {
     let wide = c.columns.0 * s.glyph.0;
     let start = start_place(s, Pixels(0), plain_spaces(s));
-    let waits = c.waits;
-    let spaces = c.spaces;
     stands_at(
         strode(start, wide, 0),
-        printed_at(Pixels(wide), spaces),
+        printed_at(Pixels(wide), c.spaces),
         c.end.0 as usize,
-        waits,
+        c.waits,
     )
 }
 
 // The line at an offset, if it is of words with one space between any two, and ended by a word that waits, a line feed or the
 // text's end.
-pub fn quick_line(text: &[u8], s: Settings, at: usize, known: Known) -> Quick
+pub fn quick_line(text: &[u8], s: Settings, at: usize, known: Known) -> Option<Quick>
     requires { LineReady s text.now at nothing_resumed × KnownFits text.now known }
     ensures { QuickLine s text.now at result }
 {
-    let c = count_words(text, s, at, known);
-    if c.columns.0 == 0 {
-        return Quick::Not;
-    }
+    let c = count_words(text, s, at, known)?;
     let g = measured_to(s, c);
     if g.waits.next.0 != 0 {
         let taken = c.columns.0 + 1;
-        return Quick::Line(ends_waiting(text, s, g), Chars(taken));
+        let ended = ends_waiting(text, s, g);
+        return Some(Quick {
+            ended,
+            taken: Chars(taken),
+        });
     }
     let m = g.measure;
     let end = g.at.0;
     if text.len() <= end as usize {
         let far = end + 1;
         let e = ends_before(LineEnd::EndOfText, m, Offset(end), Chars(0), Offset(far));
-        return Quick::Line(e, Chars(c.columns.0));
+        return Some(Quick {
+            ended: e,
+            taken: Chars(c.columns.0),
+        });
     }
     if feed_at(text, end as usize) {
         let next = end + 1;
         let taken = c.columns.0 + 1;
         let e = ends_before(LineEnd::NewLine, m, Offset(next), Chars(0), Offset(next));
-        return Quick::Line(e, Chars(taken));
+        return Some(Quick {
+            ended: e,
+            taken: Chars(taken),
+        });
     }
-    Quick::Not
+    None
 }

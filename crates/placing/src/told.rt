@@ -1,7 +1,7 @@
 // A line of words that are told by their bytes, with one space between any two, and how it ends (rule 2, rule 8, rule 10).
-ghost use Rattle.std.specs.Prelude.{◌≤◌, ◌<◌, ◌≡◌, true, false, length};
+ghost use Rattle.std.specs.Prelude.{◌≤◌, ◌≡◌, true, false, length, IfSome};
+ghost use Rattle.meaning.specs.declared.line.LineEnd.TheVariants.{LineBreak};
 ghost use Rattle.parser.specs.Ascii.{space_at, ender_at};
-ghost use Rattle.pairs.specs.PlainWords.{Found};
 ghost use Rattle.placing.specs.Told.{told_at, RowIn, RowEnding, Within};
 
 use meaning::counts::{Chars, Offset};
@@ -11,8 +11,7 @@ use parser::glue::glue_len;
 use parser::letters::{first_len, skip_plain};
 use utf8::long::long_len;
 
-// Where the next line starts, the characters of the words that fit, how far was looked, and how the line ends. A start of 0: there is no
-// such line.
+// Where the next line starts, the characters of the words that fit, how far was looked, and how the line ends.
 #[derive(Clone, Copy)]
 pub struct ToldRow {
     pub next: Offset,
@@ -35,10 +34,15 @@ fn told_at(next: usize, columns: u32, reach: usize, ended: LineEnd) -> ToldRow
     }
 }
 
-fn no_row() -> ToldRow
-    ensures { result.next.0 ≡ 0 }
+// The line whose words end before one that does not fit, if there are any such words.
+fn waiting_row(next: usize, columns: u32, reach: usize) -> Option<ToldRow>
+    requires { (next ≤ 65536) × (reach ≤ 65536) }
+    ensures { IfSome result (λ r. (next ≡ 0 → ⊥) × (r ≡ told_at next columns reach LineBreak)) }
 {
-    told_at(0, 0, 0, LineEnd::LineBreak)
+    if next == 0 {
+        return None;
+    }
+    Some(told_at(next, columns, reach, LineEnd::LineBreak))
 }
 
 // The line of so many characters whose words end at a position where no space stands.
@@ -53,27 +57,23 @@ fn ending_row(text: &[u8], end: usize, columns: u32) -> ToldRow
     told_at(far, columns, far, LineEnd::NewLine)
 }
 
-// How many bytes the character has that stands at a position in a word, where it is told so, and is not of ASCII. 0: it is not told.
-fn inner_len(text: &[u8], at: usize) -> usize
-    ensures { 0 < result → Within text.now at result }
+// How many bytes the character has that stands at a position in a word, where it is told so, and is not of ASCII.
+fn inner_len(text: &[u8], at: usize) -> Option<usize>
+    ensures { IfSome result (Within text.now at) }
 {
-    let letter = long_len(text, at);
-    if letter != 0 {
-        return letter;
+    if let Some(letter) = long_len(text, at) {
+        return Some(letter);
     }
     glue_len(text, at)
 }
 
 // The line at an offset of a text, in a box that holds so many characters, if its bytes tell that it is such a line. Where its words fill the box
 // nothing but the first letter of the word behind them is looked at.
-pub fn told_row(text: &[u8], at: usize, most: u32) -> ToldRow
+pub fn told_row(text: &[u8], at: usize, most: u32) -> Option<ToldRow>
     requires { (length text.now ≤ 65535) × (most ≤ 4096) }
-    ensures { Found result.next.0 (RowIn text.now at most result) }
+    ensures { IfSome result (RowIn text.now at most) }
 {
-    let first = first_len(text, at);
-    if first == 0 {
-        return no_row();
-    }
+    let first = first_len(text, at)?;
     let mut to = at + first;
     let mut base = to - 1;
     let mut next: usize = 0;
@@ -83,28 +83,22 @@ pub fn told_row(text: &[u8], at: usize, most: u32) -> ToldRow
         if ends_at(text, end) {
             let chars = (end - base) as u32;
             if most < chars {
-                return told_at(next, columns, end + 1, LineEnd::LineBreak);
+                return waiting_row(next, columns, end + 1);
             }
             if !space_at(text, end) {
-                return ending_row(text, end, chars);
+                return Some(ending_row(text, end, chars));
             }
             next = end + 1;
-            let letter = first_len(text, next);
-            if letter == 0 {
-                return no_row();
-            }
+            let letter = first_len(text, next)?;
             to = next + letter;
             if chars == most {
-                return told_at(next, chars, to, LineEnd::LineBreak);
+                return Some(told_at(next, chars, to, LineEnd::LineBreak));
             }
             columns = chars;
             base += letter - 1;
             continue;
         }
-        let inner = inner_len(text, end);
-        if inner == 0 {
-            return no_row();
-        }
+        let inner = inner_len(text, end)?;
         to = end + inner;
         base += inner - 1;
     }

@@ -1,6 +1,7 @@
 -- The events of a token, from what its step has measured.
 -- Assumes nothing.
-use Rattle.std.specs.Prelude.{ℕ, ◌+◌, ◌-◌, ◌*◌, ◌/◌, ◌≤◌, ◌≡◌, refl, Bool, ◌||◌, List, [], ◌∷◌, eqb, take}
+use Rattle.std.specs.Prelude.{ℕ, ◌+◌, ◌-◌, ◌*◌, ◌/◌, ◌≤◌, ◌≡◌, refl, Bool, ◌||◌, List, [], ◌∷◌, eqb, take, None, Option, Some}
+use Rattle.meaning.specs.declared.counts.Pixels.{Pixels}
 use Rattle.std.proofs.Common.{sym, ap}
 use Rattle.std.proofs.Math.Bool.{true, false, not}
 use native.Mathlib.Omega.{arith}
@@ -17,8 +18,6 @@ use Rattle.meaning.specs.Line.{measured}
 use Rattle.meaning.specs.declared.tokens.TokenKind.TheVariants.{Whitespace, Break, NewLine, CarriageReturn}
 use Rattle.meaning.specs.declared.settings.Settings.{Settings}
 use Rattle.meaning.specs.declared.cursor.Place.{Place}
-use Rattle.meaning.specs.declared.cursor.NextWord.{NextWord}
-use Rattle.meaning.specs.declared.cursor.NextWord.TheVariants.{Nothing, Width}
 use Rattle.meaning.specs.declared.line.LineEnd.{LineEnd}
 use Rattle.meaning.specs.declared.line.EventKind.TheVariants.{Space, Printed}
 use Rattle.meaning.specs.declared.line.Measure.{Measure}
@@ -109,10 +108,10 @@ module _ (at : ℕ) (m : Measure) (u : Tok) (s : Settings) (p : Place) (glyph : 
       (λ _. pick_cases HyphenOf p.empty (λ _. goes-printed _ r) (λ _. stops-printed _ 1 _ 0 r))
       (λ _. pick_cases HyphenOf p.empty (λ _. goes_none _ r) (λ _. stops-none _ 0 _ 0 r))
 
-  break_of : (w : NextWord) (r : ℕ) → HyphenOf (on_break s p at w r)
+  break_of : (w : Option Pixels) (r : ℕ) → HyphenOf (on_break s p at w r)
   unfolding on_break
-  break_of Nothing r = goes_none p r
-  break_of (Width w) r = pick_cases HyphenOf (p.empty || not (fits_in p.cursor w.0)) (λ _. hyphen_of r) (λ _. goes_none p r)
+  break_of None r = goes_none p r
+  break_of (Some w) r = pick_cases HyphenOf (p.empty || not (fits_in p.cursor w.0)) (λ _. hyphen_of r) (λ _. goes_none p r)
 
 module _ (t : List ℕ) (at : ℕ) (x : Lexeme) where
   tok_break : x.kind ≡ Break → tok_of t at x ≡ softHyphen

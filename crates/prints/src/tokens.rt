@@ -8,7 +8,6 @@ ghost use Rattle.ink.specs.Sheet.{sheet, drawn_on};
 ghost use Rattle.prints.specs.TokenDrawn.{tok_drawn, run_drawn, print_drawn, PenRoom, DrawReady, TokenReady};
 
 use crate::grown::{Grown, growth};
-use basis::numbers::lesser;
 use blanks::spaces::draws_space;
 use ink::pen::{Pen, put_one};
 use meaning::cursor::Place;
@@ -19,7 +18,7 @@ use moves::cursor::{fits, room, tab_width};
 use moves::place::{moved_on, skips_space};
 use parser::lexeme::Lexeme;
 use parser::part::part_of;
-use steps::foreseen::Foreseen;
+use steps::foreseen::Look;
 use steps::step::Stepped;
 
 // A space run by what it added to the measure.
@@ -43,7 +42,7 @@ fn draw_run(text: &[u8], at: usize, x: Lexeme, g: Grown, pen: Pen, events: &mut 
     if n == 0 {
         return pen;
     }
-    let part = part_of(text, at, lesser(n, x.chars.0));
+    let part = part_of(text, at, n.min(x.chars.0));
     put_one(
         events,
         pen,
@@ -84,7 +83,7 @@ fn draw_tab(
     p: Place,
     at: usize,
     x: Lexeme,
-    seen: Foreseen,
+    seen: Option<Look>,
     pen: Pen,
     events: &mut [u32],
 ) -> Pen
@@ -116,15 +115,14 @@ pub fn draw_token(
     x: Lexeme,
     m: Measure,
     stepped: Stepped,
-    seen: Foreseen,
+    seen: Option<Look>,
     pen: Pen,
     events: &mut [u32],
 ) -> Pen
     requires { TokenReady s p text.now at x m stepped pen × ForeseesAfter s p text.now x seen × (x.kind ≡ Word → ⊥) }
     ensures { sheet events.new result ≡ drawn_on (sheet events.old pen) (tok_drawn s p text.now at x) }
 {
-    let kind = x.kind;
-    match kind {
+    match x.kind {
         TokenKind::Word => pen,
         TokenKind::Whitespace => draw_run(text, at, x, growth(m, stepped), pen, events),
         TokenKind::Tab => draw_tab(text, s, p, at, x, seen, pen, events),

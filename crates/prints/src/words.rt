@@ -51,11 +51,11 @@ pub fn draw_whole(
     requires { DrawReady s p text.now at x pen × (x.kind ≡ Word) × (fits_in p.cursor (x.chars.0 * s.glyph.0) ≡ true) }
     ensures { sheet events.new result ≡ drawn_on (sheet events.old pen) (tok_drawn s p text.now at x) }
 {
-    let spaces = p.spaces;
-    let end = x.end;
-    let glues = x.glues;
-    let all = Part { end, glues };
-    draw_part(text, at, x.chars.0, all, s.glyph.0, spaces, pen, events)
+    let all = Part {
+        end: x.end,
+        glues: x.glues,
+    };
+    draw_part(text, at, x.chars.0, all, s.glyph.0, p.spaces, pen, events)
 }
 
 // A word that does not fit: its longest fitting part in an empty line, else nothing.
@@ -75,12 +75,10 @@ pub fn draw_cut(
         return pen;
     }
     let glyph = s.glyph.0;
-    let cursor = p.cursor;
-    let spaces = p.spaces;
-    let fitting = room(cursor) / glyph;
+    let fitting = room(p.cursor) / glyph;
     if fitting == 0 {
         return pen;
     }
     let part = part_of(text, at, fitting);
-    draw_part(text, at, fitting, part, glyph, spaces, pen, events)
+    draw_part(text, at, fitting, part, glyph, p.spaces, pen, events)
 }

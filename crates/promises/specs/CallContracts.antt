@@ -1,85 +1,77 @@
 -- Contracts with the arguments of the call, its result and what it leaves behind by name. A primed name is what is left of the number
 -- that is lent.
 -- Assumes nothing.
-use Rattle.std.specs.Prelude.{ℕ, List, ℤ}
+use Rattle.std.specs.Prelude.{ℕ, List, ℤ, Bool, Option, Result}
+use Rattle.meaning.specs.declared.answers.Chosen.{Chosen}
+use Rattle.meaning.specs.declared.answers.Drawing.{Drawing}
+use Rattle.meaning.specs.declared.answers.FileRead.{FileRead}
+use Rattle.meaning.specs.declared.answers.NextLine.{NextLine}
+use Rattle.meaning.specs.declared.answers.Paged.{Paged}
+use Rattle.meaning.specs.declared.refusals.Refusal.{Refusal}
+use Rattle.meaning.specs.declared.answers.Relaid.{Relaid}
 use contract.Lifetimes.{Lfts}
 use Rattle.meaning.specs.declared.settings.Settings.{Settings}
 use Rattle.meaning.specs.declared.edit.Edit.{Edit}
 use Rattle.meaning.specs.declared.line.Rest.{Rest}
-use Rattle.meaning.specs.declared.answers.Tokenized.{Tokenized}
-use Rattle.meaning.specs.declared.answers.Laid.{Laid}
-use Rattle.meaning.specs.declared.answers.LaidWithEvents.{LaidWithEvents}
-use Rattle.meaning.specs.declared.answers.Framed.{Framed}
-use Rattle.meaning.specs.declared.answers.Affected.{Affected}
-use Rattle.meaning.specs.declared.answers.Relaid.{Relaid}
-use Rattle.meaning.specs.declared.answers.Indexed.{Indexed}
-use Rattle.meaning.specs.declared.answers.FoundLine.{FoundLine}
 use Rattle.promises.specs.Call.{Meets}
 use Rattle.promises.specs.InsideCalls.{tokenize, layout, layout_with_events, one_line_lem, first-affected, lay_again, make_index, make_index-again, find_line, write_file, read-file, choose, lay_pages, list_again, columns_fit, plan_columns}
 use Rattle.promises.specs.ForCCalls.{c-tokens, c-layout, c-layout-events, c-one-line, c-first-affected, c_lay_again, c-line-y, c-index, c-index-again, c_find_line, c_write_file, c-read-file, c-choose, c-pages, c-pages-again, c-columns_fit, c-columns_plan}
 use Rattle.promises.specs.Passed.{Lent, LentNumber, LentSigned, passed, passed_edit, none_left, no_edit_left, LentYs, LentMut, LentYsMut}
-use Rattle.meaning.specs.declared.answers.FileWritten.{FileWritten}
-use Rattle.meaning.specs.declared.answers.FileRead.{FileRead}
-use Rattle.meaning.specs.declared.answers.Chosen.{Chosen}
-use Rattle.meaning.specs.declared.answers.Paged.{Paged}
-use Rattle.meaning.specs.declared.answers.PagedAgain.{PagedAgain}
-use Rattle.meaning.specs.declared.answers.Fitted.{Fitted}
-use Rattle.meaning.specs.declared.answers.Planned.{Planned}
 
 -- ---- the calls in Rattle
 
-abbrev pub Tokenize : (κs : Lfts 2) (text : Lent) (buffer : LentMut) → Tokenized → (after : List ℕ) → Type 0
+abbrev pub Tokenize : (κs : Lfts 2) (text : Lent) (buffer : LentMut) → Result ℕ Refusal → (after : List ℕ) → Type 0
 Tokenize κs text buffer z after = Meets tokenize κs (text, (buffer, tt)) z (tt, (after, tt))
 
-abbrev pub Layout : (κs : Lfts 2) → Settings → (text : Lent) (table : LentMut) → Laid → (after : List ℕ) → Type 0
+abbrev pub Layout : (κs : Lfts 2) → Settings → (text : Lent) (table : LentMut) → Result ℕ Refusal → (after : List ℕ) → Type 0
 Layout κs s text table z after = Meets layout κs (s, (text, (table, tt))) z (tt, (tt, (after, tt)))
 
-abbrev pub LayoutWithEvents : (κs : Lfts 3) → Settings → (text : Lent) (table events : LentMut) → LaidWithEvents → (after drawn : List ℕ) → Type 0
+abbrev pub LayoutWithEvents : (κs : Lfts 3) → Settings → (text : Lent) (table events : LentMut) → Result Drawing Refusal → (after drawn : List ℕ) → Type 0
 LayoutWithEvents κs s text table events z after drawn =
     Meets layout_with_events κs (s, (text, (table, (events, tt)))) z (tt, (tt, (after, (drawn, tt))))
 
-abbrev pub OneLine : (κs : Lfts 2) → Settings → (text : Lent) → (start : ℕ) → Rest → (entry : LentMut) → Framed → (after : List ℕ) → Type 0
+abbrev pub OneLine : (κs : Lfts 2) → Settings → (text : Lent) → (start : ℕ) → Rest → (entry : LentMut) → Result NextLine Refusal → (after : List ℕ) → Type 0
 OneLine κs s text start r entry z after = Meets one_line_lem κs (s, (text, (start, (r, (entry, tt))))) z (tt, (tt, (tt, (tt, (after, tt)))))
 
-abbrev pub FirstAffected : (κs : Lfts 1) → (table : Lent) → (lines : ℕ) → Edit → Affected → Type 0
+abbrev pub FirstAffected : (κs : Lfts 1) → (table : Lent) → (lines : ℕ) → Edit → Result ℕ Refusal → Type 0
 FirstAffected κs table lines ed z = Meets first-affected κs (table, (lines, (ed, tt))) z (tt, (tt, (tt, tt)))
 
-abbrev pub LayAgain : (κs : Lfts 2) → Settings → (part : Lent) (table : LentMut) → (lines : ℕ) → Edit → Relaid → (after : List ℕ) → Type 0
+abbrev pub LayAgain : (κs : Lfts 2) → Settings → (part : Lent) (table : LentMut) → (lines : ℕ) → Edit → Result Relaid Refusal → (after : List ℕ) → Type 0
 LayAgain κs s part table lines ed z after =
     Meets lay_again κs (s, (part, (table, (lines, (ed, tt))))) z (tt, (tt, (after, (tt, (tt, tt)))))
 
-abbrev pub MakeIndex : (κs : Lfts 2) → Settings → (table : Lent) (lines : ℕ) (index : LentYsMut) → Indexed → (after : List ℤ) → Type 0
+abbrev pub MakeIndex : (κs : Lfts 2) → Settings → (table : Lent) (lines : ℕ) (index : LentYsMut) → Result ℕ Refusal → (after : List ℤ) → Type 0
 MakeIndex κs s table lines index z after = Meets make_index κs (s, (table, (lines, (index, tt)))) z (tt, (tt, (tt, (after, tt))))
 
-abbrev pub MakeIndexAgain : (κs : Lfts 2) → Settings → (table : Lent) (lines first : ℕ) (index : LentYsMut) → Indexed → (after : List ℤ) → Type 0
+abbrev pub MakeIndexAgain : (κs : Lfts 2) → Settings → (table : Lent) (lines first : ℕ) (index : LentYsMut) → Result ℕ Refusal → (after : List ℤ) → Type 0
 MakeIndexAgain κs s table lines first index z after =
     Meets make_index-again κs (s, (table, (lines, (first, (index, tt))))) z (tt, (tt, (tt, (tt, (after, tt)))))
 
-abbrev pub FindLine : (κs : Lfts 2) → (table : Lent) (lines : ℕ) (index : LentYs) (y : ℤ) → FoundLine → Type 0
+abbrev pub FindLine : (κs : Lfts 2) → (table : Lent) (lines : ℕ) (index : LentYs) (y : ℤ) → Result (Option ℕ) Refusal → Type 0
 FindLine κs table lines index y z = Meets find_line κs (table, (lines, (index, (y, tt)))) z (tt, (tt, (tt, (tt, tt))))
 
-abbrev pub WriteFile : (κs : Lfts 2) → Settings → (table : Lent) → (lines : ℕ) → (file : LentMut) → FileWritten → (after : List ℕ) → Type 0
+abbrev pub WriteFile : (κs : Lfts 2) → Settings → (table : Lent) → (lines : ℕ) → (file : LentMut) → Result ℕ Refusal → (after : List ℕ) → Type 0
 WriteFile κs s table lines file z after = Meets write_file κs (s, (table, (lines, (file, tt)))) z (tt, (tt, (tt, (after, tt))))
 
-abbrev pub ReadFile : (κs : Lfts 3) → (file : Lent) (settings table : LentMut) → FileRead → (handed after : List ℕ) → Type 0
+abbrev pub ReadFile : (κs : Lfts 3) → (file : Lent) (settings table : LentMut) → Result FileRead Refusal → (handed after : List ℕ) → Type 0
 ReadFile κs file settings table z handed after =
     Meets read-file κs (file, (settings, (table, tt))) z (tt, (handed, (after, tt)))
 
-abbrev pub Choose : (κs : Lfts 1) → Settings → (long short : Lent) → (h : ℕ) → Chosen → Type 0
+abbrev pub Choose : (κs : Lfts 1) → Settings → (long short : Lent) → (h : ℕ) → Result Chosen Refusal → Type 0
 Choose κs s long short h z = Meets choose κs (s, (long, (short, (h, tt)))) z (tt, (tt, (tt, (tt, tt))))
 
-abbrev pub LayPages : (κs : Lfts 3) → Settings → (text : Lent) → (h : ℕ) → (table pages : LentMut) → Paged → (after listed : List ℕ) → Type 0
+abbrev pub LayPages : (κs : Lfts 3) → Settings → (text : Lent) → (h : ℕ) → (table pages : LentMut) → Result Paged Refusal → (after listed : List ℕ) → Type 0
 LayPages κs s text h table pages z after listed =
     Meets lay_pages κs (s, (text, (h, (table, (pages, tt))))) z (tt, (tt, (tt, (after, (listed, tt)))))
 
-abbrev pub ListAgain : (κs : Lfts 2) → (table : Lent) → (lines h first : ℕ) → (pages : LentMut) → PagedAgain → (listed : List ℕ) → Type 0
+abbrev pub ListAgain : (κs : Lfts 2) → (table : Lent) → (lines h first : ℕ) → (pages : LentMut) → Result ℕ Refusal → (listed : List ℕ) → Type 0
 ListAgain κs table lines h first pages z listed =
     Meets list_again κs (table, (lines, (h, (first, (pages, tt))))) z (tt, (tt, (tt, (tt, (listed, tt)))))
 
-abbrev pub ColumnsFit : (κs : Lfts 1) → Settings → (text : Lent) → (h : ℕ) → Fitted → Type 0
+abbrev pub ColumnsFit : (κs : Lfts 1) → Settings → (text : Lent) → (h : ℕ) → Result Bool Refusal → Type 0
 ColumnsFit κs s text h z = Meets columns_fit κs (s, (text, (h, tt))) z (tt, (tt, (tt, tt)))
 
-abbrev pub PlanColumns : (κs : Lfts 1) → Settings → (text : Lent) → (h : ℕ) → Planned → Type 0
+abbrev pub PlanColumns : (κs : Lfts 1) → Settings → (text : Lent) → (h : ℕ) → Result (Option ℕ) Refusal → Type 0
 PlanColumns κs s text h z = Meets plan_columns κs (s, (text, (h, tt))) z (tt, (tt, (tt, tt)))
 
 -- ---- the calls for C

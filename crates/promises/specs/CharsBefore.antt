@@ -1,7 +1,9 @@
 -- The last number of each line is the number of characters before it: in the table that a layout call writes, and in the one that
 -- laying again leaves. By the contracts of the calls. Rule 12.
 -- Assumes nothing.
-use Rattle.std.specs.Prelude.{ℕ, List, length}
+use Rattle.std.specs.Prelude.{ℕ, List, length, Ok, Result}
+use Rattle.meaning.specs.declared.refusals.Refusal.{Refusal}
+use Rattle.meaning.specs.declared.answers.Relaid.{Relaid}
 use Rattle.std.proofs.Common.{sym, subst}
 use contract.Lifetimes.{Lfts}
 use Rattle.utf8.specs.Decoding.{decode_all}
@@ -11,8 +13,6 @@ use Rattle.meaning.specs.Calls.{text_rows, text_entries}
 use Rattle.meaning.specs.declared.settings.Settings.{Settings}
 use Rattle.meaning.specs.declared.edit.Edit.{Edit}
 use Rattle.meaning.specs.declared.line.Entry.{Entry}
-use Rattle.meaning.specs.declared.answers.Laid.TheVariants as laid
-use Rattle.meaning.specs.declared.answers.Relaid.{Relaid}
 use Rattle.laws.specs.RowInduction.{Each}
 use Rattle.laws.specs.CharsBefore.{CountsBefore, layout-counts}
 use Rattle.promises.specs.Demand3Calls.{EditOf}
@@ -32,7 +32,7 @@ module _ (s : Settings) (text : Lent) (table : LentMut) where
   unfolding text_entries text_rows layout
   entries_count = layout-counts s (decode_all text.now)
 
-  pub layout-lines-count : (κs : Lfts 2) (n : ℕ) (after : List ℕ) → Layout κs s text table (laid.Lines n) after
+  pub layout-lines-count : (κs : Lfts 2) (n : ℕ) (after : List ℕ) → Layout κs s text table (Ok n) after
       → LinesCount (decode_all text.now) (entries_in n after)
   layout-lines-count κs n after p =
       subst (LinesCount (decode_all text.now)) (sym (layout-table-holds s text table κs n after p)) entries_count
@@ -47,7 +47,7 @@ module _ (s : Settings) (text : Lent) (table : LentMut) where
 
 -- Lent an edit of a text and the table of its layout, of the lines of the new text.
 module _ (s : Settings) (ed : Edit) (old new : List ℕ) (part : Lent) (table : LentMut) (lines : ℕ) (k : EditOf s ed old new table.now lines part.now) where
-  pub lay_again-lines-count : (κs : Lfts 2) (z : Relaid) (after : List ℕ) → LayAgain κs s part table lines ed z after
+  pub lay_again-lines-count : (κs : Lfts 2) (z : Result Relaid Refusal) (after : List ℕ) → LayAgain κs s part table lines ed z after
       → LinesCount new (entries_in (length (layout s new)) after)
   lay_again-lines-count κs z after p =
       subst (LinesCount new) (sym (lay_again_demand_3 s ed old new part table lines κs z after k p).1.holds) (layout-counts s new)

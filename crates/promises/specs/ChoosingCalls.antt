@@ -1,6 +1,10 @@
 -- What an answer of the call that chooses a text tells its caller (rule 10).
 -- Assumes nothing.
-use Rattle.std.specs.Prelude.{ℕ, ◌≤◌, ◌<◌, ◌≡◌, refl, true, take, drop}
+use Rattle.std.specs.Prelude.{ℕ, ◌≤◌, ◌<◌, ◌≡◌, refl, true, take, drop, Err, Ok, Result}
+use Rattle.meaning.specs.declared.answers.Chosen.TheVariants as chosen
+use Rattle.meaning.specs.Refusals.{Checked}
+use Rattle.meaning.specs.declared.answers.Chosen.{Chosen}
+use Rattle.meaning.specs.declared.refusals.Refusal.{Refusal}
 use Rattle.std.proofs.Common.{◌∙◌, arith}
 use mathlib.Core.List.{List, [], ◌∷◌, ◌++◌}
 use Rattle.std.proofs.Math.ListN.{length}
@@ -11,10 +15,6 @@ use Rattle.meaning.specs.Layout.{layout}
 use Rattle.meaning.specs.Pages.{taken_bytes, left_out, pages_of}
 use Rattle.meaning.specs.PageCalls.{check_choosing, chosen_part, chosen_of, choosing_answer}
 use Rattle.meaning.specs.declared.settings.Settings.{Settings}
-use Rattle.meaning.specs.declared.answers.Chosen.{Chosen}
-use Rattle.meaning.specs.declared.answers.Chosen.TheVariants as chosen
-use Rattle.meaning.specs.declared.refusals.Checked.{Checked}
-use Rattle.meaning.specs.declared.refusals.Checked.TheVariants.{Good, Refused}
 use Rattle.choosing.specs.ChosenPart.{long-chosen, short-chosen, long-within, short-beyond, lines_join, taken-within, taken-chars, left_out_lem}
 use Rattle.laws.specs.PageBoundaries.{taken-boundary}
 use Rattle.laws.specs.PageStretches.{joined}
@@ -40,16 +40,16 @@ pub record ShortSaid (s : Settings) (h : ℕ) (long short : List ℕ) (n k : ℕ
 
 -- ---- why
 
-long-answer : (c : Checked) (x : Chosen) (n : ℕ) → answered c x chosen.Refused ≡ chosen.Long n → x ≡ chosen.Long n
-long-answer Good x n e = e
-long-answer (Refused r) x n e = cc
+long-answer : (c : Checked) (x : Chosen) (n : ℕ) → answered c (Ok x) Err ≡ Ok (chosen.Long n) → x ≡ chosen.Long n
+long-answer (Ok tt) x n e = cc
+long-answer (Err r) x n e = cc
 
-short-answer : (c : Checked) (x : Chosen) (n k : ℕ) → answered c x chosen.Refused ≡ chosen.Short n k → (c ≡ Good) × (x ≡ chosen.Short n k)
-short-answer Good x n k e = (refl, e)
-short-answer (Refused r) x n k e = (cc, cc)
+short-answer : (c : Checked) (x : Chosen) (n k : ℕ) → answered c (Ok x) Err ≡ Ok (chosen.Short n k) → (c ≡ Ok tt) × (x ≡ chosen.Short n k)
+short-answer (Ok tt) x n k e = (refl, cc)
+short-answer (Err r) x n k e = (cc, cc)
 
 module _ (s : Settings) (h : ℕ) (long short : List ℕ) where
-  pub long-said : (n : ℕ) → choosing_answer s h long short ≡ chosen.Long n → LongSaid s h long short n
+  pub long-said : (n : ℕ) → choosing_answer s h long short ≡ Ok (chosen.Long n) → LongSaid s h long short n
   unfolding choosing_answer
   long-said n e =
       let is = long-answer (check_choosing s h long short) (chosen_of s h long short) n e in
@@ -59,7 +59,7 @@ module _ (s : Settings) (h : ℕ) (long short : List ℕ) where
       record { lines = within; bytes = same; part = c.1 }
 
   -- Nothing was refused, so the short text is UTF-8.
-  short-good : check_choosing s h long short ≡ Good → check_utf8 short ≡ Good
+  short-good : check_choosing s h long short ≡ Ok tt → check_utf8 short ≡ Ok tt
   unfolding check_choosing check_text
   short-good e =
       let p = none_refuses (check_limit h) (check_settings s ∷ check_text long ∷ check_text short ∷ []) e in
@@ -68,7 +68,7 @@ module _ (s : Settings) (h : ℕ) (long short : List ℕ) where
       let t = none_refuses (check_text short) [] r.1 in
       (none_refuses (check_utf8 short) [] (none_refuses (check_length (length short)) (check_utf8 short ∷ []) t.0).1).0
 
-  pub short-said : (n k : ℕ) → choosing_answer s h long short ≡ chosen.Short n k → ShortSaid s h long short n k
+  pub short-said : (n k : ℕ) → choosing_answer s h long short ≡ Ok (chosen.Short n k) → ShortSaid s h long short n k
   unfolding choosing_answer
   short-said n k e =
       let a = short-answer (check_choosing s h long short) (chosen_of s h long short) n k e in

@@ -1,7 +1,9 @@
 -- Demand 3, by the contracts of the calls: lent an edit of a text and the table of its layout (`EditOf`), laying again leaves exactly the
 -- table that a fresh layout of the whole new text writes.
 -- Assumes nothing.
-use Rattle.std.specs.Prelude.{ℕ, ◌*◌, ◌≡◌, List, map, length, take, drop}
+use Rattle.std.specs.Prelude.{ℕ, ◌*◌, ◌≡◌, List, map, length, take, drop, Ok, Result}
+use Rattle.meaning.specs.declared.refusals.Refusal.{Refusal}
+use Rattle.meaning.specs.declared.answers.Relaid.{Relaid}
 use Rattle.std.proofs.Math.Path.{ap}
 use Rattle.std.proofs.Common.{◌∙◌}
 use contract.Lifetimes.{Lfts}
@@ -12,15 +14,9 @@ use Rattle.meaning.specs.Layout.{layout, entry_of_row}
 use Rattle.meaning.specs.Table.{entry_numbers, entries_in}
 use Rattle.meaning.specs.Edit.{unaffected}
 use Rattle.meaning.specs.Calls.{layout_answer, layout_table, lines_laid, relay_table}
-use Rattle.meaning.specs.Answers.{affectedNumber, affectedValue, relayNumber, relayValue, relayCount}
+use Rattle.meaning.specs.Answers.{answer_number, count_value, relayValue, relayCount}
 use Rattle.meaning.specs.declared.settings.Settings.{Settings}
 use Rattle.meaning.specs.declared.edit.Edit.{Edit}
-use Rattle.meaning.specs.declared.refusals.Checked.TheVariants.{Good}
-use Rattle.meaning.specs.declared.answers.Laid.TheVariants as fresh
-use Rattle.meaning.specs.declared.answers.Affected.{Affected}
-use Rattle.meaning.specs.declared.answers.Affected.TheVariants as affecting
-use Rattle.meaning.specs.declared.answers.Relaid.{Relaid}
-use Rattle.meaning.specs.declared.answers.Relaid.TheVariants as relaid
 use Rattle.laws.specs.TableLaws.{entries_written}
 use Rattle.promises.specs.Demand3Calls.{EditOf, demand_3_holds}
 use Rattle.promises.specs.SameLines.{SameLines}
@@ -37,7 +33,7 @@ pub record Demand3Of (s : Settings) (ed : Edit) (old new table : List ℕ) (line
   -- The table holds the layout of the new text.
   pub holds : entries_in (length (layout s new)) after ≡ layout s new
   -- A fresh layout of the new text answers as many lines and leaves exactly that table.
-  pub fresh_answer : layout_answer s (encode_all new) table ≡ fresh.Lines (length (layout s new))
+  pub fresh_answer : layout_answer s (encode_all new) table ≡ Ok (length (layout s new))
   pub fresh_table : after ≡ layout_table s (encode_all new) table
   -- The entries before the first affected line are as they were, and so is everything past the last line.
   pub before_untouched : take (entry_numbers * length (unaffected ed.from.0 (layout s old))) after
@@ -62,8 +58,8 @@ demand_3_of {s} {ed} {old} {new} {table} after k e =
 
 module _ (s : Settings) (ed : Edit) (old new : List ℕ) (part table : Lent) (lines : ℕ) where
   -- Asked for the first affected line, the library answers its number.
-  pub first-affected_demand_3 : (κs : Lfts 1) (z : Affected) → EditOf s ed old new table.now lines part.now
-      → FirstAffected κs table lines ed z → z ≡ affecting.Line (length (unaffected ed.from.0 (layout s old)))
+  pub first-affected_demand_3 : (κs : Lfts 1) (z : Result ℕ Refusal) → EditOf s ed old new table.now lines part.now
+      → FirstAffected κs table lines ed z → z ≡ Ok (length (unaffected ed.from.0 (layout s old)))
   first-affected_demand_3 κs z k p = p ∙ (demand_3_holds k).affected_call
 
   -- The same for C.
@@ -71,7 +67,7 @@ module _ (s : Settings) (ed : Edit) (old new : List ℕ) (part table : Lent) (li
       → CFirstAffected κs table lines ed value z value' → (z ≡ 0) × (value' ≡ length (unaffected ed.from.0 (layout s old)))
   c-first-affected_demand_3 κs value z value' k p =
       let d = (demand_3_holds k).affected_call in
-      (p.0 ∙ ap affectedNumber d, p.1 ∙ ap affectedValue d)
+      (p.0 ∙ ap answer_number d, p.1 ∙ ap count_value d)
 
 -- ---- laying again, where it is lent to be written
 
@@ -79,17 +75,17 @@ module _ (s : Settings) (ed : Edit) (old new : List ℕ) (part : Lent) (table : 
   -- ---- in Rattle
 
   -- The edit is not refused: the answer is how many lines the new text has, and how many were laid.
-  abbrev pub LaidAgain : Relaid → (after : List ℕ) → Type 0
+  abbrev pub LaidAgain : Result Relaid Refusal → (after : List ℕ) → Type 0
   LaidAgain z after =
-      (z ≡ relaid.Lines (length (layout s new)) (length (lines_laid s part.now table.now lines ed)))
+      (z ≡ Ok (record { lines = length (layout s new); laid = length (lines_laid s part.now table.now lines ed) }))
       × Demand3Of s ed old new table.now lines part.now after
 
-  pub lay_again_demand_3 : (κs : Lfts 2) (z : Relaid) (after : List ℕ) → EditOf s ed old new table.now lines part.now
+  pub lay_again_demand_3 : (κs : Lfts 2) (z : Result Relaid Refusal) (after : List ℕ) → EditOf s ed old new table.now lines part.now
       → LayAgain κs s part table lines ed z after → LaidAgain z after
   lay_again_demand_3 κs z after k p = (p.0 ∙ (demand_3_holds k).relay_call, demand_3_of after k p.1)
 
   -- The settings that no line depends on may have changed since the old text was laid.
-  pub lay_again_other_settings : (κs : Lfts 2) (former : Settings) (z : Relaid) (after : List ℕ) → SameLines former s → check_settings s ≡ Good
+  pub lay_again_other_settings : (κs : Lfts 2) (former : Settings) (z : Result Relaid Refusal) (after : List ℕ) → SameLines former s → check_settings s ≡ Ok tt
       → EditOf former ed old new table.now lines part.now → LayAgain κs s part table lines ed z after → LaidAgain z after
   lay_again_other_settings κs former z after same good k p = lay_again_demand_3 κs z after (edit-by same good k) p
 
@@ -107,14 +103,14 @@ module _ (s : Settings) (ed : Edit) (old new : List ℕ) (part : Lent) (table : 
   unfolding settings_of
   c_lay_again_demand_3 κs value laid z after value' laid' k p =
       let d = (demand_3_holds k).relay_call in (
-        p.0 ∙ ap relayNumber d,
+        p.0 ∙ ap answer_number d,
         p.1.1.0 ∙ ap relayValue d,
-        p.1.1.1 ∙ ap (λ (x : Relaid). relayCount x laid.now) d,
+        p.1.1.1 ∙ ap (λ (x : Result Relaid Refusal). relayCount x laid.now) d,
         demand_3_of after k p.1.0,
       )
 
   pub c_lay_again_other_settings : (κs : Lfts 4) (former : Settings) (value laid : LentNumber) (z : ℕ) (after : List ℕ) (value' laid' : ℕ)
-      → SameLines former s → check_settings s ≡ Good → EditOf former ed old new table.now lines part.now
+      → SameLines former s → check_settings s ≡ Ok tt → EditOf former ed old new table.now lines part.now
       → CLayAgain κs s part table lines ed value laid z after value' laid' → CLaidAgain z after value' laid'
   c_lay_again_other_settings κs former value laid z after value' laid' same good k p =
       c_lay_again_demand_3 κs value laid z after value' laid' (edit-by same good k) p

@@ -1,7 +1,7 @@
 -- Demand 3, of the calls: laying again after an edit leaves exactly the table that a fresh layout of the whole new text writes.
 -- The call is lent no text before the first affected line, writes no entry before it, and reports how many lines it laid.
 -- Assumes nothing.
-use Rattle.std.specs.Prelude.{ℕ, ◌*◌, ◌≤◌, ◌≡◌, List, [], ◌∷◌, ◌++◌, map, length, take, drop}
+use Rattle.std.specs.Prelude.{ℕ, ◌*◌, ◌≤◌, ◌≡◌, List, [], ◌∷◌, ◌++◌, map, length, take, drop, Ok}
 use Rattle.std.proofs.Common.{arith, ap, ◌∙◌, subst, length-append, take_at}
 use Rattle.std.proofs.Math.Path.{sym}
 use Rattle.std.proofs.lemmas.List.{length-map}
@@ -20,10 +20,6 @@ use Rattle.meaning.specs.Calls.{layout_answer, layout_table, check_affected, aff
 use Rattle.meaning.specs.declared.settings.Settings.{Settings}
 use Rattle.meaning.specs.declared.edit.Edit.{Edit}
 use Rattle.meaning.specs.declared.line.Entry.{Entry}
-use Rattle.meaning.specs.declared.refusals.Checked.TheVariants.{Good}
-use Rattle.meaning.specs.declared.answers.Laid.TheVariants as laid
-use Rattle.meaning.specs.declared.answers.Affected.TheVariants as affecting
-use Rattle.meaning.specs.declared.answers.Relaid.TheVariants as relaid
 use Rattle.again.specs.Meeting.{Replaces}
 use Rattle.laws.specs.Affected.{affected_split, unaffected-old}
 use Rattle.laws.specs.TableLaws.{entries_numbers, entries_length, entries_first, written-past, prefix-kept}
@@ -49,7 +45,7 @@ pub record EditOf (s : Settings) (ed : Edit) (old new table : List ℕ) (lines :
   pub old-size : size old ≤ 65535
   pub new-size : size new ≤ 65535
   -- The settings are good.
-  pub settings : check_settings s ≡ Good
+  pub settings : check_settings s ≡ Ok tt
   -- The first lines of the table are the layout of the old text, all of it.
   pub holds : entry_numbers * lines ≤ length table
   pub held : entries_in lines table ≡ layout s old
@@ -62,17 +58,17 @@ pub record EditOf (s : Settings) (ed : Edit) (old new table : List ℕ) (lines :
 -- it, which are `unaffected`.
 pub record Demand3 (s : Settings) (ed : Edit) (old new table : List ℕ) (lines : ℕ) (part : List ℕ) : Type 0 where
   -- Asked for the first affected line, the library answers its number.
-  pub affected_call : affected_answer table lines ed ≡ affecting.Line (length (unaffected ed.from.0 (layout s old)))
+  pub affected_call : affected_answer table lines ed ≡ Ok (length (unaffected ed.from.0 (layout s old)))
   -- Laying again is not refused, and answers how many lines the new text has and how many were laid.
   pub relay_call : relay_answer s part table lines ed
-      ≡ relaid.Lines (length (layout s new)) (length (lines_laid s part table lines ed))
+      ≡ Ok (record { lines = length (layout s new); laid = length (lines_laid s part table lines ed) })
   -- The lines laid are lines of the new text, from the first affected one on.
   pub relay_laid : map entry_of_row (lines_laid s part table lines ed)
       ≡ take (length (lines_laid s part table lines ed)) (drop (length (unaffected ed.from.0 (layout s old))) (layout s new))
   -- The table then holds the layout of the new text, and past it what it held.
   pub relay_table_lem : relay_table s part table lines ed ≡ written table (of_all of_entry (layout s new))
   -- A fresh layout of the whole new text answers as many lines and leaves exactly that table.
-  pub fresh_call : layout_answer s (encode_all new) table ≡ laid.Lines (length (layout s new))
+  pub fresh_call : layout_answer s (encode_all new) table ≡ Ok (length (layout s new))
   pub fresh_table : relay_table s part table lines ed ≡ layout_table s (encode_all new) table
   -- The entries before the first affected line are as they were.
   pub before_untouched : take (entry_numbers * length (unaffected ed.from.0 (layout s old))) (relay_table s part table lines ed)
@@ -89,16 +85,16 @@ scalars-behind (c ∷ x) y al = scalars-behind x y al.1
 module _ {s : Settings} {ed : Edit} {old new table : List ℕ} {lines : ℕ} {part : List ℕ} (k : EditOf s ed old new table lines part) where
   -- ---- the first affected line
 
-  table_is_lem : check_table lines table ≡ Good
+  table_is_lem : check_table lines table ≡ Ok tt
   table_is_lem = table-good s old lines table k.old-size k.holds k.held
 
-  whole_is : check_whole Good (layout s old) ed ≡ Good
+  whole_is : check_whole (Ok tt) (layout s old) ed ≡ Ok tt
   whole_is = rw k.old-is (whole-good s ed k.pre k.mid k.ins k.post k.replaces (rw k.new_is at k.new-size))
 
-  order_is : check_order (layout s old) ed ≡ Good
+  order_is : check_order (layout s old) ed ≡ Ok tt
   order_is = rw k.old-is (order-good s ed k.pre k.mid k.ins k.post k.replaces)
 
-  affected-good : check_affected table lines ed ≡ Good
+  affected-good : check_affected table lines ed ≡ Ok tt
   unfolding check_affected first_of
   affected-good = rw (table_is_lem, k.held, whole_is, order_is)
 
@@ -124,19 +120,19 @@ module _ {s : Settings} {ed : Edit} {old new table : List ℕ} {lines : ℕ} {pa
 
   -- ---- laying again
 
-  short-is : check_length (length part) ≡ Good
+  short-is : check_length (length part) ≡ Ok tt
   short-is = length-good (length part) (omega (arith, part_length, ap size lends.is, size_append lends.front chars, k.new-size))
 
-  utf8-is : check_utf8 part ≡ Good
+  utf8-is : check_utf8 part ≡ Ok tt
   utf8-is = rw part-is (utf8-good chars chars-text)
 
-  rest-is : (n : ℕ) → check_rest n (affected ed.from.0 (layout s old)) chars ≡ Good
+  rest-is : (n : ℕ) → check_rest n (affected ed.from.0 (layout s old)) chars ≡ Ok tt
   rest-is =
       rw (k.old-is, k.new_is)
       (rest-good s ed k.pre k.mid k.ins k.post k.replaces _
       (can_lend s ed k.pre k.mid k.ins k.post k.replaces))
 
-  edit-is : (n : ℕ) → n ≡ size chars → check_edit (layout s old) ed (affected ed.from.0 (layout s old)) n chars ≡ Good
+  edit-is : (n : ℕ) → n ≡ size chars → check_edit (layout s old) ed (affected ed.from.0 (layout s old)) n chars ≡ Ok tt
   edit-is =
       rw (k.old-is, k.new_is)
       (edit-good s ed k.pre k.mid k.ins k.post k.replaces _
@@ -156,10 +152,10 @@ module _ {s : Settings} {ed : Edit} {old new table : List ℕ} {lines : ℕ} {pa
   unfolding lines_after
   lines_after_lem = rw (k.held, decoded) lines-again
 
-  room-is : check_room (capacity_of entry_numbers table) (length (lines_after s part table lines ed)) ≡ Good
+  room-is : check_room (capacity_of entry_numbers table) (length (lines_after s part table lines ed)) ≡ Ok tt
   room-is = rw lines_after_lem (room-good (length (layout s new)) table (omega arith))
 
-  relay_good : check_relay s part table lines ed ≡ Good
+  relay_good : check_relay s part table lines ed ≡ Ok tt
   unfolding check_relay first_of
   relay_good =
       rw (k.settings, short-is, table_is_lem, room-is, utf8-is, k.held, whole_is, decoded, rest-is, edit-is _ part_length)

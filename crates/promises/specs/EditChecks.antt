@@ -1,6 +1,6 @@
 -- An edit of a text and the part that is lent for laying it again are good: refusal 3, refusal 5 and refusal 6 are not given.
 -- Assumes nothing.
-use Rattle.std.specs.Prelude.{ℕ, ◌+◌, ◌-◌, ◌≤◌, ◌≡◌, refl, true, List, [], ◌∷◌, ◌++◌, length, take}
+use Rattle.std.specs.Prelude.{ℕ, ◌+◌, ◌-◌, ◌≤◌, ◌≡◌, refl, true, List, [], ◌∷◌, ◌++◌, length, take, Ok}
 use Rattle.std.proofs.Common.{arith, sym, ap, ◌∙◌, append_assoc, length-append, le-leb, eq-eqb}
 use Rattle.std.proofs.Math.Seq.{take-append_seam}
 use Rattle.basis.specs.Choice.{pick_true, and_both}
@@ -14,7 +14,6 @@ use Rattle.meaning.specs.Edit.{affected, in_order, new_length, check_whole, chec
 use Rattle.meaning.specs.declared.settings.Settings.{Settings}
 use Rattle.meaning.specs.declared.edit.Edit.{Edit}
 use Rattle.meaning.specs.declared.line.Entry.{Entry}
-use Rattle.meaning.specs.declared.refusals.Checked.TheVariants.{Good}
 use Rattle.laws.specs.Suffixes.{Suffix, shorter_suffix}
 use Rattle.again.specs.Meeting.{Replaces}
 use Rattle.laws.specs.Affected.{layout-first}
@@ -38,7 +37,7 @@ edit-from : (es : List Entry) (ed : Edit) (onward : List Entry) (n : ℕ) (cs : 
     → n ≡ new_length es ed - start_of onward
     → boundary cs (ed.from.0 - start_of onward) ≡ true
     → boundary cs (ed.from.0 + ed.inserted.0 - start_of onward) ≡ true
-    → check_edit es ed onward n cs ≡ Good
+    → check_edit es ed onward n cs ≡ Ok tt
 unfolding check_edit part_fits
 edit-from es ed [] n cs some a b c d = absurd (some refl)
 edit-from es ed (e ∷ more) n cs some a b c d = refuse_unless (part_fits es ed e n cs) _ (simp (a, eq-eqb _ _ b, c, d))
@@ -67,17 +66,17 @@ module _ (s : Settings) (ed : Edit) (pre mid ins post : List ℕ) (r : Replaces 
   new-length = omega (arith, layout-length s old, old-size, new-size)
 
   -- 3, and 6 of an edit alone.
-  pub whole-good : size new ≤ 65535 → check_whole Good (layout s old) ed ≡ Good
+  pub whole-good : size new ≤ 65535 → check_whole (Ok tt) (layout s old) ed ≡ Ok tt
   unfolding check_whole
   whole-good h = pick_true _ _ _ in_order_lem ∙ rw new-length (length-good (size new) h)
 
-  pub order-good : check_order (layout s old) ed ≡ Good
+  pub order-good : check_order (layout s old) ed ≡ Ok tt
   unfolding check_order
   order-good = refuse_unless _ _ in_order_lem
 
   module _ (cs : List ℕ) (k : Lent ed (layout s old) new cs) where
     -- 5, of the first affected line's rest in the part.
-    pub rest-good : (n : ℕ) → check_rest n (affected ed.from.0 (layout s old)) cs ≡ Good
+    pub rest-good : (n : ℕ) → check_rest n (affected ed.from.0 (layout s old)) cs ≡ Ok tt
     unfolding check_rest
     rest-good n =
         let f = layout-first s pre (mid ++ post) (ins ++ post) in
@@ -101,7 +100,7 @@ module _ (s : Settings) (ed : Edit) (pre mid ins post : List ℕ) (r : Replaces 
         (omega (arith, lent-size, new-size))
 
     -- 6, with the part.
-    pub edit-good : (n : ℕ) → n ≡ size cs → check_edit (layout s old) ed (affected ed.from.0 (layout s old)) n cs ≡ Good
+    pub edit-good : (n : ℕ) → n ≡ size cs → check_edit (layout s old) ed (affected ed.from.0 (layout s old)) n cs ≡ Ok tt
     edit-good n e =
         edit-from (layout s old) ed (affected ed.from.0 (layout s old)) n cs (some-affected s ed pre mid ins post r) in_order_lem
         (omega (arith, lent-size, new-length)) from-boundary inserted-boundary

@@ -1,17 +1,16 @@
 -- An edit of a text whose table was laid with other settings: only those that a line depends on have to be the same.
 -- Assumes nothing.
-use Rattle.std.specs.Prelude.{ℕ, ◌*◌, ◌≤◌, ◌≡◌, List, length}
+use Rattle.std.specs.Prelude.{ℕ, ◌*◌, ◌≤◌, ◌≡◌, List, length, Ok}
 use Rattle.std.proofs.Common.{sym, ◌∙◌}
 use Rattle.meaning.specs.Checks.{check_settings}
 use Rattle.meaning.specs.Layout.{layout}
 use Rattle.meaning.specs.declared.settings.Settings.{Settings}
 use Rattle.meaning.specs.declared.edit.Edit.{Edit}
-use Rattle.meaning.specs.declared.refusals.Checked.TheVariants.{Good}
 use Rattle.promises.specs.SameLines.{SameLines, same_layout}
 use Rattle.promises.specs.Demand3Calls.{EditOf}
 
 -- What is lent for the edit after a layout with the settings s serves for laying again with the settings s'.
-pub edit-by : {s s' : Settings} {ed : Edit} {old new table : List ℕ} {lines : ℕ} {part : List ℕ} → SameLines s s' → check_settings s' ≡ Good
+pub edit-by : {s s' : Settings} {ed : Edit} {old new table : List ℕ} {lines : ℕ} {part : List ℕ} → SameLines s s' → check_settings s' ≡ Ok tt
     → EditOf s ed old new table lines part → EditOf s' ed old new table lines part
 edit-by {s' = s'} {old = old} {new = new} e good k =
     record {

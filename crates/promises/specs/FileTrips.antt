@@ -1,7 +1,10 @@
 -- A layout that travels, by the contracts of the calls: what one machine writes another reads back the same, what is read writes back
 -- the same bytes, and a table that was a layout when it was written is that layout where it is read, as laying again asks (`EditOf`).
 -- Assumes nothing.
-use Rattle.std.specs.Prelude.{ℕ, ◌*◌, ◌≤◌, ◌≡◌, refl, List, [], ◌∷◌, length, take, drop}
+use Rattle.std.specs.Prelude.{ℕ, ◌*◌, ◌≤◌, ◌≡◌, refl, List, [], ◌∷◌, length, take, drop, Err, Ok, Result}
+use Rattle.meaning.specs.Refusals.{Checked}
+use Rattle.meaning.specs.declared.answers.FileRead.{FileRead}
+use Rattle.meaning.specs.declared.refusals.Refusal.{Refusal}
 use Rattle.std.proofs.Common.{arith, sym, ◌∙◌, take_at}
 use Rattle.std.proofs.Math.Path.{ap}
 use contract.Lifetimes.{Lfts}
@@ -13,14 +16,9 @@ use Rattle.meaning.specs.WellFormed.{text_length, check_table}
 use Rattle.meaning.specs.LayoutFile.{settings_numbers, of_settings}
 use Rattle.meaning.specs.ReadFile.{file_settings, file_text_length, file_lines, file_entries}
 use Rattle.meaning.specs.Calls.{written_file, check_writing, writing_answer, writing_file, check_reading, reading_answer, reading_table, reading_settings}
-use Rattle.meaning.specs.Answers.{writingNumber, writingValue, readingNumber, readingValue, readingLength}
+use Rattle.meaning.specs.Answers.{answer_number, count_value, readingValue, readingLength}
 use Rattle.meaning.specs.declared.settings.Settings.{Settings}
 use Rattle.meaning.specs.declared.line.Entry.{Entry}
-use Rattle.meaning.specs.declared.refusals.Checked.{Checked}
-use Rattle.meaning.specs.declared.refusals.Checked.TheVariants.{Good, Refused}
-use Rattle.meaning.specs.declared.answers.FileWritten.TheVariants as filed
-use Rattle.meaning.specs.declared.answers.FileRead.{FileRead}
-use Rattle.meaning.specs.declared.answers.FileRead.TheVariants as fileread
 use Rattle.laws.specs.TableLaws.{entries_numbers, entries_length, written-length}
 use Rattle.file_fields.specs.FileNumbers.{Bytes, Words}
 use Rattle.files.specs.FileLaws.{SettingsWords}
@@ -34,14 +32,14 @@ use Rattle.promises.specs.Unwritten.{refusal_some, writing_done}
 -- ---- by the definitions
 
 -- Where a file was written, nothing was refused, and its bytes stand at the buffer's front.
-taken : (c : Checked) (xs f : List ℕ) (n : ℕ) → answered c (filed.Bytes (length xs)) filed.Refused ≡ filed.Bytes n
-    → (c ≡ Good) × (take n (afterwards c (written f xs) f) ≡ xs)
+taken : (c : Checked) (xs f : List ℕ) (n : ℕ) → answered c (Ok (length xs)) Err ≡ Ok n
+    → (c ≡ Ok tt) × (take n (afterwards c (written f xs) f) ≡ xs)
 unfolding written
-taken Good xs f n e = (refl, take_at xs (drop (length xs) f) n (ap writingValue e))
-taken (Refused r) xs f n e = absurd (refusal_some r (ap writingNumber e))
+taken (Ok tt) xs f n e = (refl, take_at xs (drop (length xs) f) n (ap count_value e))
+taken (Err r) xs f n e = absurd (refusal_some r (ap answer_number e))
 
-module _ (s : Settings) (table : List ℕ) (lines : ℕ) (file : List ℕ) (n : ℕ) (e : writing_answer s table lines file ≡ filed.Bytes n) where
-  was_written : (check_writing s table lines file ≡ Good) × (take n (writing_file s table lines file) ≡ written_file s table lines)
+module _ (s : Settings) (table : List ℕ) (lines : ℕ) (file : List ℕ) (n : ℕ) (e : writing_answer s table lines file ≡ Ok n) where
+  was_written : (check_writing s table lines file ≡ Ok tt) × (take n (writing_file s table lines file) ≡ written_file s table lines)
   unfolding writing_answer writing_file
   was_written = taken (check_writing s table lines file) (written_file s table lines) file n e
 
@@ -54,8 +52,8 @@ module _ (s : Settings) (table : List ℕ) (lines : ℕ) (file : List ℕ) (n : 
       record { settings = a.0; off = off; whole = b.0; settings-words = sw; table-words = tw }
 
 -- What a reader has then: as many lines, the same text length, the same lines, the same settings.
-pub record Arrived (s : Settings) (table : List ℕ) (lines : ℕ) (settings other : List ℕ) (z : FileRead) (handed rows : List ℕ) : Type 0 where
-  pub answer : z ≡ fileread.Lines lines (text_length (entries_in lines table))
+pub record Arrived (s : Settings) (table : List ℕ) (lines : ℕ) (settings other : List ℕ) (z : Result FileRead Refusal) (handed rows : List ℕ) : Type 0 where
+  pub answer : z ≡ Ok (record { lines = lines; bytes = text_length (entries_in lines table) })
   pub lines_same : entries_in lines rows ≡ entries_in lines table
   pub settings-same : handed ≡ written settings (of_settings s)
   pub holds : entry_numbers * lines ≤ length rows
@@ -74,17 +72,17 @@ arrived s table lines w f settings other q room fit =
       holds = rw (read_table s table lines w settings other room fit) (omega (arith, written-length other (of_all of_entry es) h));
     })
 
-was_read : (c : Checked) (n m : ℕ) → readingNumber (answered c (fileread.Lines n m) fileread.Refused) ≡ 0 → c ≡ Good
-was_read Good n m e = refl
-was_read (Refused r) n m e = absurd (refusal_some r e)
+was_read : (c : Checked) (n : FileRead) → answer_number (answered c (Ok n) Err) ≡ 0 → c ≡ Ok tt
+was_read (Ok tt) n e = refl
+was_read (Err r) n e = absurd (refusal_some r e)
 
 -- ---- what is written reads back the same
 
 module _ (s : Settings) (table : Lent) (lines : ℕ) (out : LentMut) (file : Lent) (settings other : LentMut) (n : ℕ) (after : List ℕ)
     (off : s.trailing ≡ 0) (sw : SettingsWords s) (tw : Words table.now) (sent : file.now ≡ take n after)
     (room : settings_numbers ≤ length settings.now) (fit : entry_numbers * lines ≤ length other.now) where
-  pub file-read-back : (κs : Lfts 2) (λs : Lfts 3) (z : FileRead) (handed rows : List ℕ)
-      → WriteFile κs s table lines out (filed.Bytes n) after → ReadFile λs file settings other z handed rows
+  pub file-read-back : (κs : Lfts 2) (λs : Lfts 3) (z : Result FileRead Refusal) (handed rows : List ℕ)
+      → WriteFile κs s table lines out (Ok n) after → ReadFile λs file settings other z handed rows
       → Arrived s table.now lines settings.now other.now z handed rows
   file-read-back κs λs z handed rows p q =
       let e = sym p.0 in
@@ -93,8 +91,8 @@ module _ (s : Settings) (table : Lent) (lines : ℕ) (out : LentMut) (file : Len
       rw (q.0, q.1.0, q.1.1) (arrived s table.now lines w file.now settings.now other.now f room fit)
 
   -- A table that was the layout of a text is its layout where it is read: what laying again is given there (`EditOf`).
-  pub file_brings_layout : (κs : Lfts 2) (λs : Lfts 3) (z : FileRead) (handed rows old : List ℕ)
-      → WriteFile κs s table lines out (filed.Bytes n) after → ReadFile λs file settings other z handed rows
+  pub file_brings_layout : (κs : Lfts 2) (λs : Lfts 3) (z : Result FileRead Refusal) (handed rows old : List ℕ)
+      → WriteFile κs s table lines out (Ok n) after → ReadFile λs file settings other z handed rows
       → entries_in lines table.now ≡ layout s old
       → (entry_numbers * lines ≤ length rows) × (entries_in lines rows ≡ layout s old)
   file_brings_layout κs λs z handed rows old p q h =
@@ -109,13 +107,13 @@ module _ (s : Settings) (table : Lent) (lines : ℕ) (out : LentMut) (file : Len
   unfolding settings_of
   c-file-read-back κs λs value first second z handed rows count bytes p q =
       let answer = writing_answer s table.now lines out.now in
-      let e = writing_done answer (sym p.0) ∙ ap filed.Bytes (sym p.1.1) in
+      let e = writing_done answer (sym p.0) ∙ ap Ok (sym p.1.1) in
       let w = writable s table.now lines out.now n e off sw tw in
       let f = sent ∙ ap (take n) p.1.0 ∙ (was_written s table.now lines out.now n e).1 in
       let a = arrived s table.now lines w file.now settings.now other.now f room fit in (
-        q.0 ∙ ap readingNumber a.answer,
+        q.0 ∙ ap answer_number a.answer,
         q.1.1.1.0 ∙ ap readingValue a.answer,
-        q.1.1.1.1 ∙ ap (λ (x : FileRead). readingLength x second.now) a.answer,
+        q.1.1.1.1 ∙ ap (λ (x : Result FileRead Refusal). readingLength x second.now) a.answer,
         ap (entries_in lines) q.1.1.0 ∙ a.lines_same,
         q.1.0 ∙ a.settings-same,
         rw q.1.1.0 a.holds,
@@ -137,14 +135,14 @@ module _ (file : Lent) (settings table : LentMut) (again : Lent) (out : LentMut)
       → (z ≡ 0) × (n ≡ length file.now) × (after ≡ written out.now file.now)
   unfolding settings_of reading_answer
   c-file-written-back κs λs value bytes other handed rows lines len z after n p t q =
-      let g = was_read (check_reading file.now settings.now table.now) (length (file_entries file.now)) (file_text_length file.now) (sym p.0) in
+      let g = was_read (check_reading file.now settings.now table.now) (record { lines = length (file_entries file.now); bytes = file_text_length file.now }) (sym p.0) in
       let count : lines ≡ file_lines file.now =
-      p.1.1.1.0 ∙ ap (λ (c : Checked). readingValue (answered c (fileread.Lines (length (file_entries file.now)) (file_text_length file.now)) fileread.Refused)) g ∙ entries_many file.now in
+      p.1.1.1.0 ∙ ap (λ (c : Checked). readingValue (answered c (Ok (record { lines = length (file_entries file.now); bytes = file_text_length file.now })) Err)) g ∙ entries_many file.now in
       let u : again.now ≡ reading_table file.now settings.now table.now = t ∙ p.1.1.0 in
       let s = file_settings file.now in
-      let answer : writing_answer s again.now lines out.now ≡ filed.Bytes (length file.now) =
+      let answer : writing_answer s again.now lines out.now ≡ Ok (length file.now) =
       rw (u, count) (back-answer file.now settings.now table.now g b out.now fits) in (
-        q.0 ∙ ap writingNumber answer,
-        q.1.1 ∙ ap writingValue answer,
+        q.0 ∙ ap answer_number answer,
+        q.1.1 ∙ ap count_value answer,
         q.1.0 ∙ rw (u, count) (back-file file.now settings.now table.now g b out.now fits),
       )

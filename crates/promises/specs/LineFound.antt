@@ -1,7 +1,8 @@
 -- What callers may rely on of an index: it holds rule 11's y of every line, it is never refused where a line is looked for in it, and
 -- the line found is the last with y at most the given one. By the contracts of the calls.
 -- Assumes nothing.
-use Rattle.std.specs.Prelude.{ℕ, ◌<◌, ◌≡◌, List, ℤ, pos, take}
+use Rattle.std.specs.Prelude.{ℕ, ◌<◌, ◌≡◌, List, ℤ, pos, take, Err, None, Ok, Option, Result, Some}
+use Rattle.meaning.specs.declared.refusals.Refusal.{Refusal}
 use Rattle.std.proofs.Math.Path.{refl, ap}
 use Rattle.std.proofs.Common.{sym, subst, ◌∙◌, arith, get_or-take}
 use contract.Lifetimes.{Lfts}
@@ -10,11 +11,8 @@ use Rattle.meaning.specs.Table.{entries_in}
 use Rattle.meaning.specs.Height.{y_of}
 use Rattle.meaning.specs.YIndex.{index_of, find_in}
 use Rattle.meaning.specs.Calls.{index_answer, index_after, find_answer}
-use Rattle.meaning.specs.Answers.{findNumber, findValue}
+use Rattle.meaning.specs.Answers.{answer_number, found_value}
 use Rattle.meaning.specs.declared.settings.Settings.{Settings}
-use Rattle.meaning.specs.declared.answers.Indexed.TheVariants as indexed
-use Rattle.meaning.specs.declared.answers.FoundLine.{FoundLine}
-use Rattle.meaning.specs.declared.answers.FoundLine.TheVariants as found
 use Rattle.laws.specs.TableLaws.{entries_length}
 use Rattle.laws.specs.Indexes.{y_at, index_at}
 use Rattle.heights.specs.LineUnder.{SaysOfLines, found-line}
@@ -30,7 +28,7 @@ module _ (s : Settings) (table : Lent) (lines : ℕ) (index : LentYsMut) where
     pub held : take lines after ≡ index_of s (entries_in lines table.now)
     pub each : (k : ℕ) → k < lines → y_at after k ≡ y_of s k (entries_in lines table.now)
 
-  indexes : (n : ℕ) → index_answer s table.now lines index.now ≡ indexed.Lines n → (after : List ℤ)
+  indexes : (n : ℕ) → index_answer s table.now lines index.now ≡ Ok n → (after : List ℤ)
       → after ≡ index_after s table.now lines index.now → Indexes after
   indexes n e after a =
       let held = ap (take lines) a ∙ index-held s table.now lines index.now n e in
@@ -40,7 +38,7 @@ module _ (s : Settings) (table : Lent) (lines : ℕ) (index : LentYsMut) where
             ∙ index_at s (entries_in lines table.now) k (omega (arith, entries_length lines table.now));
       }
 
-  pub make_index-holds : (κs : Lfts 2) (n : ℕ) (after : List ℤ) → MakeIndex κs s table lines index (indexed.Lines n) after
+  pub make_index-holds : (κs : Lfts 2) (n : ℕ) (after : List ℤ) → MakeIndex κs s table lines index (Ok n) after
       → (n ≡ lines) × Indexes after
   make_index-holds κs n after p =
       (index-lines s table.now lines index.now n (sym p.0), indexes n (sym p.0) after p.1)
@@ -57,34 +55,28 @@ module _ (s : Settings) (table : Lent) (lines : ℕ) (index : LentYsMut) where
 
   -- An index of these ys, lent with the same table.
   module _ (ys : LentYs) (y : ℤ) where
-    answer : (n : ℕ) → index_answer s table.now lines index.now ≡ indexed.Lines n → ys.now ≡ index_of s (entries_in lines table.now)
-        → find_answer table.now lines ys.now y ≡ find_in y (index_of s (entries_in lines table.now))
+    answer : (n : ℕ) → index_answer s table.now lines index.now ≡ Ok n → ys.now ≡ index_of s (entries_in lines table.now)
+        → find_answer table.now lines ys.now y ≡ Ok (find_in y (index_of s (entries_in lines table.now)))
     answer n e i =
         ap (λ (l : List ℤ). find_answer table.now lines l y) i
         ∙ find_good s table.now lines (index-table s table.now lines index.now n e) y
 
     -- It is not refused: the answer says of the lines what rule 11 asks.
-    pub find_line-under : (κs κs' : Lfts 2) (n : ℕ) (after : List ℤ) (z : FoundLine) → MakeIndex κs s table lines index (indexed.Lines n) after
-        → ys.now ≡ take lines after → FindLine κs' table lines ys y z → SaysOfLines s (entries_in lines table.now) y z
+    pub find_line-under : (κs κs' : Lfts 2) (n : ℕ) (after : List ℤ) (z : Result (Option ℕ) Refusal) → MakeIndex κs s table lines index (Ok n) after
+        → ys.now ≡ take lines after → FindLine κs' table lines ys y z → let f = find_in y (index_of s (entries_in lines table.now)) in (z ≡ Ok f) × SaysOfLines s (entries_in lines table.now) y f
     find_line-under κs κs' n after z p i q =
         let m = make_index-holds κs n after p in
-        subst (SaysOfLines s (entries_in lines table.now) y) (sym (q ∙ answer n (sym p.0) (i ∙ m.1.held)))
-        (found-line s (entries_in lines table.now) y)
+        (q ∙ answer n (sym p.0) (i ∙ m.1.held), found-line s (entries_in lines table.now) y)
 
     -- For C: 0 is returned, and the value is that line's, or the one that stands for none.
     pub c_find_line-under : (κs κs' : Lfts 3) (value value' : LentNumber) (after : List ℤ) (count z line : ℕ)
         → CIndex κs s table lines index value 0 after count → ys.now ≡ take lines after → CFindLine κs' table lines ys y value' z line
         → let f = find_in y (index_of s (entries_in lines table.now)) in
-        (z ≡ 0) × (line ≡ findValue f) × SaysOfLines s (entries_in lines table.now) y f
+        (z ≡ 0) × (line ≡ found_value (Ok f)) × SaysOfLines s (entries_in lines table.now) y f
     unfolding settings_of
     c_find_line-under κs κs' value value' after count z line p i q =
         let m = c-index-holds κs value after count p in
         let e = index-done (index_answer s table.now lines index.now) (sym p.0) in
         let a = answer _ e (i ∙ m.1.held) in
         let says = found-line s (entries_in lines table.now) y in
-        (q.0 ∙ ap findNumber a ∙ not-refused (find_in y (index_of s (entries_in lines table.now))) says, q.1 ∙ ap findValue a, says)
-      where
-        not-refused : (f : FoundLine) → SaysOfLines s (entries_in lines table.now) y f → findNumber f ≡ 0
-        not-refused (found.Line k) u = refl
-        not-refused found.NoLine u = refl
-        not-refused (found.Refused r) u = absurd u
+        (q.0 ∙ ap answer_number a, q.1 ∙ ap found_value a, says)

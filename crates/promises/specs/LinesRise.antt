@@ -2,7 +2,7 @@
 -- before it, the last alone ends the text, and there is at most one line more than the text has characters. By the contracts of the
 -- calls.
 -- Assumes nothing.
-use Rattle.std.specs.Prelude.{ℕ, suc, ◌≤◌, ◌≡◌, List, length}
+use Rattle.std.specs.Prelude.{ℕ, suc, ◌≤◌, ◌≡◌, List, length, Ok}
 use Rattle.std.proofs.Common.{sym, ap, subst, ◌∙◌, arith}
 use contract.Lifetimes.{Lfts}
 use Rattle.utf8.specs.Decoding.{decode_all}
@@ -11,7 +11,6 @@ use Rattle.meaning.specs.Layout.{most_lines, layout}
 use Rattle.meaning.specs.Calls.{text_rows, text_entries}
 use Rattle.meaning.specs.declared.settings.Settings.{Settings}
 use Rattle.meaning.specs.declared.line.Entry.{Entry}
-use Rattle.meaning.specs.declared.answers.Laid.TheVariants as laid
 use Rattle.laws.specs.TableLaws.{entries_length}
 use Rattle.laws.specs.LayoutBounds.{few_entries}
 use Rattle.laws.specs.WellFormedLayout.{RisingToEnd, layout-rises-to-end}
@@ -31,7 +30,7 @@ module _ (s : Settings) (text : Lent) (table : LentMut) where
       let cs = decode_all text.now in
       record { rise = layout-rises-to-end s cs; few = few_entries s cs }
 
-  pub layout-lines-rise : (κs : Lfts 2) (n : ℕ) (after : List ℕ) → Layout κs s text table (laid.Lines n) after
+  pub layout-lines-rise : (κs : Lfts 2) (n : ℕ) (after : List ℕ) → Layout κs s text table (Ok n) after
       → LinesRise (decode_all text.now) (entries_in n after) × (n ≤ most_lines (decode_all text.now))
   layout-lines-rise κs n after p =
       let r = subst (LinesRise (decode_all text.now)) (sym (layout-table-holds s text table κs n after p)) entries_rise in

@@ -1,7 +1,9 @@
 -- A layout does not depend on line spacing, paragraph spacing, base, box height, box top and vertical alignment, by the contracts of the
 -- calls that lay a text.
 -- Assumes nothing.
-use Rattle.std.specs.Prelude.{ℕ, ◌≡◌, List}
+use Rattle.std.specs.Prelude.{ℕ, ◌≡◌, List, Result}
+use Rattle.meaning.specs.declared.answers.Drawing.{Drawing}
+use Rattle.meaning.specs.declared.refusals.Refusal.{Refusal}
 use Rattle.std.proofs.Math.Path.{sym, ap}
 use Rattle.std.proofs.Common.{◌∙◌}
 use contract.Lifetimes.{Lfts}
@@ -9,10 +11,8 @@ use Rattle.utf8.specs.Decoding.{decode_all}
 use Rattle.meaning.specs.Settings.{settings_of}
 use Rattle.meaning.specs.Checks.{check_settings}
 use Rattle.meaning.specs.Calls.{text_rows, text_entries, text_events, check_layout, layout_answer, layout_table, check_drawing, drawing_answer, drawing_table, drawing_events}
-use Rattle.meaning.specs.Answers.{layoutNumber, layoutValue, drawingNumber, drawingValue, drawingCount}
+use Rattle.meaning.specs.Answers.{answer_number, count_value, drawingValue, drawingCount}
 use Rattle.meaning.specs.declared.settings.Settings.{Settings}
-use Rattle.meaning.specs.declared.answers.Laid.{Laid}
-use Rattle.meaning.specs.declared.answers.LaidWithEvents.{LaidWithEvents}
 use Rattle.promises.specs.SameLines.{SameLines, same_rows}
 use Rattle.promises.specs.Passed.{Lent, LentNumber, LentMut}
 use Rattle.promises.specs.CallContracts.{Layout, LayoutWithEvents, CLayout, CLayoutEvents}
@@ -51,7 +51,7 @@ module _ {s s' : Settings} (e : SameLines s s') (c : check_settings s ≡ check_
   unfolding drawing_events text_events
   drawing-events-same t b v = rw (drawing-check-same t b v, rows_same t)
 
-  pub layout_other_settings : (κs : Lfts 2) (text : Lent) (table : LentMut) (z z' : Laid) (after after' : List ℕ) → Layout κs s text table z after
+  pub layout_other_settings : (κs : Lfts 2) (text : Lent) (table : LentMut) (z z' : Result ℕ Refusal) (after after' : List ℕ) → Layout κs s text table z after
       → Layout κs s' text table z' after' → (z ≡ z') × (after ≡ after')
   layout_other_settings κs text table z z' after after' p q =
       (p.0 ∙ answer-same text.now table.now ∙ sym q.0, p.1 ∙ table_same text.now table.now ∙ sym q.1)
@@ -62,12 +62,12 @@ module _ {s s' : Settings} (e : SameLines s s') (c : check_settings s ≡ check_
   unfolding settings_of
   c-layout_other_settings κs text table value z z' after after' count count' p q =
       let a = answer-same text.now table.now in (
-        p.0 ∙ ap layoutNumber a ∙ sym q.0,
-        p.1.1 ∙ ap layoutValue a ∙ sym q.1.1,
+        p.0 ∙ ap answer_number a ∙ sym q.0,
+        p.1.1 ∙ ap count_value a ∙ sym q.1.1,
         p.1.0 ∙ table_same text.now table.now ∙ sym q.1.0,
       )
 
-  pub layout_with_events_other_settings : (κs : Lfts 3) (text : Lent) (table events : LentMut) (z z' : LaidWithEvents) (after after' drawn drawn' : List ℕ)
+  pub layout_with_events_other_settings : (κs : Lfts 3) (text : Lent) (table events : LentMut) (z z' : Result Drawing Refusal) (after after' drawn drawn' : List ℕ)
       → LayoutWithEvents κs s text table events z after drawn → LayoutWithEvents κs s' text table events z' after' drawn'
       → (z ≡ z') × (after ≡ after') × (drawn ≡ drawn')
   layout_with_events_other_settings κs text table events z z' after after' drawn drawn' p q =
@@ -90,9 +90,9 @@ module _ {s s' : Settings} (e : SameLines s s') (c : check_settings s ≡ check_
       let b = table.now in
       let v = events.now in
       let a = drawing-answer-same t b v in (
-        p.0 ∙ ap drawingNumber a ∙ sym q.0,
+        p.0 ∙ ap answer_number a ∙ sym q.0,
         p.1.1.1.0 ∙ ap drawingValue a ∙ sym q.1.1.1.0,
-        p.1.1.1.1 ∙ ap (λ (x : LaidWithEvents). drawingCount x count.now) a ∙ sym q.1.1.1.1,
+        p.1.1.1.1 ∙ ap (λ (x : Result Drawing Refusal). drawingCount x count.now) a ∙ sym q.1.1.1.1,
         p.1.0 ∙ drawing-table-same t b v ∙ sym q.1.0,
         p.1.1.0 ∙ drawing-events-same t b v ∙ sym q.1.1.0,
       )

@@ -2,6 +2,7 @@
 -- again).
 -- Assumes nothing.
 use Rattle.std.specs.Prelude.{ℕ, zero, suc, ◌*◌, ◌/◌, ◌≤◌, ◌<◌, ◌≡◌, refl, List, ◌∷◌, ◌++◌, map, length, take}
+use Rattle.meaning.specs.Refusals.{Checked}
 use Rattle.std.proofs.Math.Path.{sym}
 use Rattle.std.proofs.Common.{ap, ◌∙◌, div-mul-le_self, arith, take-take}
 use Rattle.utf8.specs.Encoding.{size, encode_all}
@@ -17,7 +18,6 @@ use Rattle.meaning.specs.PageCalls.{text_pages, check_paging, paging_list, table
 use Rattle.meaning.specs.declared.settings.Settings.{Settings}
 use Rattle.meaning.specs.declared.edit.Edit.{Edit}
 use Rattle.meaning.specs.declared.line.Entry.{Entry}
-use Rattle.meaning.specs.declared.refusals.Checked.{Checked}
 use Rattle.laws.specs.Affected.{affected_split, layout-first}
 use Rattle.promises.specs.Demand3Calls.{EditOf, demand_3_holds}
 use Rattle.laws.specs.GoodChecks.{limit-good, table-good}

@@ -1,7 +1,10 @@
 -- After an edit, the pages that are listed again from the first affected line on are exactly those that laying and listing the new text
 -- afresh leaves, and no page before the one that holds that line is written. By the contracts of the calls.
 -- Assumes nothing.
-use Rattle.std.specs.Prelude.{ℕ, ◌*◌, ◌≤◌, ◌≡◌, List, length, take}
+use Rattle.std.specs.Prelude.{ℕ, ◌*◌, ◌≤◌, ◌≡◌, List, length, take, Result}
+use Rattle.meaning.specs.declared.answers.Paged.{Paged}
+use Rattle.meaning.specs.declared.refusals.Refusal.{Refusal}
+use Rattle.meaning.specs.declared.answers.Relaid.{Relaid}
 use Rattle.std.proofs.Math.Path.{sym}
 use Rattle.std.proofs.Common.{ap, ◌∙◌}
 use contract.Lifetimes.{Lfts}
@@ -15,9 +18,6 @@ use Rattle.meaning.specs.Pages.{pages_of, page_numbers, of_page, kept_pages}
 use Rattle.meaning.specs.PageCalls.{paging_again_list, paging_list}
 use Rattle.meaning.specs.declared.settings.Settings.{Settings}
 use Rattle.meaning.specs.declared.edit.Edit.{Edit}
-use Rattle.meaning.specs.declared.answers.Relaid.{Relaid}
-use Rattle.meaning.specs.declared.answers.Paged.{Paged}
-use Rattle.meaning.specs.declared.answers.PagedAgain.{PagedAgain}
 use Rattle.promises.specs.Demand3Calls.{EditOf}
 use Rattle.paging.specs.PagesKept.{pages-kept, pages_untouched}
 use Rattle.promises.specs.PagedAgain.{edit-pages}
@@ -27,7 +27,7 @@ use Rattle.promises.specs.CallContracts.{LayAgain, LayPages, ListAgain, CLayAgai
 -- ---- what is not written
 
 module _ (table : Lent) (lines h first : ℕ) (pages : LentMut) (listed : List ℕ) where
-  pub list_again-keeps : (κs : Lfts 2) (z : PagedAgain) → ListAgain κs table lines h first pages z listed
+  pub list_again-keeps : (κs : Lfts 2) (z : Result ℕ Refusal) → ListAgain κs table lines h first pages z listed
       → take (page_numbers * kept_pages h first lines) listed ≡ take (page_numbers * kept_pages h first lines) pages.now
   list_again-keeps κs z p =
       ap (take (page_numbers * kept_pages h first lines)) p.1 ∙ pages-kept table.now lines h pages.now first
@@ -38,7 +38,7 @@ module _ (table : Lent) (lines h first : ℕ) (pages : LentMut) (listed : List �
       ap (take (page_numbers * kept_pages h first lines)) p.1.0 ∙ pages-kept table.now lines h pages.now first
 
   -- A line past the last one has nothing written.
-  pub list_again_untouched : (κs : Lfts 2) (z : PagedAgain) → ListAgain κs table lines h first pages z listed → lines ≤ first → listed ≡ pages.now
+  pub list_again_untouched : (κs : Lfts 2) (z : Result ℕ Refusal) → ListAgain κs table lines h first pages z listed → lines ≤ first → listed ≡ pages.now
   list_again_untouched κs z p g = p.1 ∙ pages_untouched table.now lines h pages.now first g
 
   pub c-pages-again_untouched : (κs : Lfts 3) (value : LentNumber) (z value' : ℕ) → CPagesAgain κs table lines h first pages value z listed value'
@@ -68,7 +68,7 @@ module _ (s : Settings) (ed : Edit) (old new : List ℕ) (part : Lent) (table : 
         ∙ edit-pages k h some pages.now held
         ∙ (λ i. paging_list s h (sym text-is i) (sym other-is i) (sym same i))
 
-    pub list_again_as_fresh : (κs κs' : Lfts 2) (κs'' : Lfts 3) (z : Relaid) (a : PagedAgain) (b : Paged) (again fresh laid-afresh : List ℕ)
+    pub list_again_as_fresh : (κs κs' : Lfts 2) (κs'' : Lfts 3) (z : Result Relaid Refusal) (a : Result ℕ Refusal) (b : Result Paged Refusal) (again fresh laid-afresh : List ℕ)
         → LayAgain κs s part table lines ed z after → ListAgain κs' laid count h first pages a again
         → LayPages κs'' s text h other list b laid-afresh fresh → again ≡ fresh
     list_again_as_fresh κs κs' κs'' z a b again fresh laid-afresh p q r = q.1 ∙ again-is p.1 ∙ sym r.1.1

@@ -1,16 +1,14 @@
 -- A call that chooses a text or lists pages and refuses leaves every buffer that it is lent as it was, and every number but the one that
 -- goes besides the refusal's.
 -- Assumes nothing.
-use Rattle.std.specs.Prelude.{ℕ, ◌<◌, ◌≡◌, List}
+use Rattle.std.specs.Prelude.{ℕ, ◌<◌, ◌≡◌, List, Err}
 use Rattle.std.proofs.Common.{arith, ap, ◌∙◌}
 use contract.Lifetimes.{Lfts}
 use Rattle.meaning.specs.Settings.{settings_of}
 use Rattle.meaning.specs.PageCalls.{choosing_answer, paging_answer}
-use Rattle.meaning.specs.Answers.{pagingNumber, pagingAgainNumber}
+use Rattle.meaning.specs.Answers.{answer_number}
 use Rattle.meaning.specs.declared.settings.Settings.{Settings}
 use Rattle.meaning.specs.declared.refusals.Refusal.{Refusal}
-use Rattle.meaning.specs.declared.answers.Paged.TheVariants as paged
-use Rattle.meaning.specs.declared.answers.PagedAgain.TheVariants as pagedagain
 use Rattle.promises.specs.Passed.{Lent, LentNumber, LentMut}
 use Rattle.promises.specs.CallContracts.{LayPages, ListAgain, CChoose, CPages, CPagesAgain}
 use Rattle.promises.specs.PagesUnwritten.{paging-kept, paging-again-kept, choosing-kept, paging-counted}
@@ -18,13 +16,13 @@ use Rattle.promises.specs.PagesUnwritten.{paging-kept, paging-again-kept, choosi
 -- ---- the calls in Rattle
 
 pub lay_pages-refused : (κs : Lfts 3) (s : Settings) (text : Lent) (h : ℕ) (table pages : LentMut) (r : Refusal) (after listed : List ℕ)
-    → LayPages κs s text h table pages (paged.Refused r) after listed → (after ≡ table.now) × (listed ≡ pages.now)
+    → LayPages κs s text h table pages (Err r) after listed → (after ≡ table.now) × (listed ≡ pages.now)
 lay_pages-refused κs s text h table pages r after listed p =
-    let k = paging-kept s h text.now table.now pages.now (λ n m e. let z : ◌≡◌ {A = ℕ} 0 1 = cc in omega arith) in
+    let k = paging-kept s h text.now table.now pages.now (λ n e. let z : ◌≡◌ {A = ℕ} 0 1 = cc in omega arith) in
     (p.1.0 ∙ k.0, p.1.1 ∙ k.1)
 
 pub list_again-refused : (κs : Lfts 2) (table : Lent) (lines h first : ℕ) (pages : LentMut) (r : Refusal) (listed : List ℕ)
-    → ListAgain κs table lines h first pages (pagedagain.Refused r) listed → listed ≡ pages.now
+    → ListAgain κs table lines h first pages (Err r) listed → listed ≡ pages.now
 list_again-refused κs table lines h first pages r listed p =
     p.1 ∙ paging-again-kept table.now lines h first pages.now (λ m e. let z : ◌≡◌ {A = ℕ} 0 1 = cc in omega arith)
 
@@ -42,7 +40,7 @@ pub c-pages-refused : (κs : Lfts 5) (s : Settings) (text : Lent) (h : ℕ) (tab
     → (after ≡ table.now) × (listed ≡ pages.now) × (count' ≡ count.now)
 unfolding settings_of
 c-pages-refused κs s text h table pages value count z after listed value' count' p g =
-    let k = paging-kept s h text.now table.now pages.now (λ n m e. omega (arith, p.0 ∙ ap pagingNumber e)) in (
+    let k = paging-kept s h text.now table.now pages.now (λ n e. omega (arith, p.0 ∙ ap answer_number e)) in (
       p.1.0 ∙ k.0,
       p.1.1.0 ∙ k.1,
       p.1.1.1.1 ∙ paging-counted (paging_answer s h text.now table.now pages.now) count.now (omega (arith, p.0)),
@@ -51,4 +49,4 @@ c-pages-refused κs s text h table pages value count z after listed value' count
 pub c-pages-again-refused : (κs : Lfts 3) (table : Lent) (lines h first : ℕ) (pages : LentMut) (value : LentNumber) (z : ℕ) (listed : List ℕ)
     (value' : ℕ) → CPagesAgain κs table lines h first pages value z listed value' → 0 < z → listed ≡ pages.now
 c-pages-again-refused κs table lines h first pages value z listed value' p g =
-    p.1.0 ∙ paging-again-kept table.now lines h first pages.now (λ m e. omega (arith, p.0 ∙ ap pagingAgainNumber e))
+    p.1.0 ∙ paging-again-kept table.now lines h first pages.now (λ m e. omega (arith, p.0 ∙ ap answer_number e))

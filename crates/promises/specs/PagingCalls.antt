@@ -1,6 +1,9 @@
 -- What an answer of the call that lays a text and lists its pages tells its caller (rule 10).
 -- Assumes nothing.
-use Rattle.std.specs.Prelude.{ℕ, ◌*◌, ◌≤◌, ◌≡◌, refl, eqb, length, take}
+use Rattle.meaning.specs.declared.refusals.Refusal.{Refusal}
+use Rattle.meaning.specs.declared.answers.Paged.{Paged}
+use Rattle.std.specs.Prelude.{ℕ, ◌*◌, ◌≤◌, ◌≡◌, refl, eqb, length, take, Err, Ok, Result}
+use Rattle.meaning.specs.Refusals.{Checked}
 use Rattle.std.proofs.Common.{sym, ◌∙◌, arith, take_at, drop_at}
 use Rattle.std.proofs.Math.Path.{ap}
 use mathlib.Core.List.{List, [], ◌∷◌}
@@ -12,10 +15,7 @@ use Rattle.meaning.specs.Pages.{page_numbers, of_page}
 use Rattle.meaning.specs.Calls.{text_entries, check_layout}
 use Rattle.meaning.specs.PageCalls.{text_pages, check_paging, paging_answer, paging_table, paging_list}
 use Rattle.meaning.specs.declared.settings.Settings.{Settings}
-use Rattle.meaning.specs.declared.answers.Paged.TheVariants as paged
 use Rattle.meaning.specs.declared.refusals.Refusal.TheVariants.{SettingOutOfRange}
-use Rattle.meaning.specs.declared.refusals.Checked.{Checked}
-use Rattle.meaning.specs.declared.refusals.Checked.TheVariants.{Good, Refused}
 use Rattle.laws.specs.GoodChecks.{refuse_good}
 use Rattle.laws.specs.PageLaws.{page_count, pages-count}
 use Rattle.laws.specs.PageStretches.{joined, text-joins}
@@ -35,17 +35,19 @@ pub record PagingSaid (s : Settings) (h : ℕ) (t table pages : List ℕ) (lines
 
 -- ---- why
 
-paged_answer : (c : Checked) (a b lines n : ℕ) → answered c (paged.Pages a b) paged.Refused ≡ paged.Pages lines n
-    → (c ≡ Good) × (lines ≡ a) × (n ≡ b)
-paged_answer Good a b lines n e = (refl, cc, cc)
-paged_answer (Refused r) a b lines n e = (cc, cc, cc)
+paged_answer : (c : Checked) (a b lines n : ℕ) → ◌≡◌ {A = Result Paged Refusal} (answered c (Ok (record { lines = a; pages = b })) Err) (Ok (record { lines = lines; pages = n }))
+    → (c ≡ Ok tt) × (lines ≡ a) × (n ≡ b)
+paged_answer (Ok tt) a b lines n e =
+    let q : ◌≡◌ {A = Paged} (record { lines = a; pages = b }) (record { lines = lines; pages = n }) = cc in
+    (refl, sym (ap (λ (p : Paged). p.lines) q), sym (ap (λ (p : Paged). p.pages) q))
+paged_answer (Err r) a b lines n e = (cc, cc, cc)
 
-limit-some : (h : ℕ) → check_limit h ≡ Good → 1 ≤ h
+limit-some : (h : ℕ) → check_limit h ≡ Ok tt → 1 ≤ h
 unfolding check_limit
 limit-some h e = let d = eqb-false h 0 (refuse_good (eqb h 0) SettingOutOfRange e) in omega arith
 
 module _ (s : Settings) (h : ℕ) (t table pages : List ℕ) where
-  layout-text : check_layout s t table ≡ Good → check_utf8 t ≡ Good
+  layout-text : check_layout s t table ≡ Ok tt → check_utf8 t ≡ Ok tt
   unfolding check_layout
   layout-text e =
       let last = check_room (capacity_of entry_numbers table) (length (text_entries s t)) ∷ [] in
@@ -53,12 +55,12 @@ module _ (s : Settings) (h : ℕ) (t table pages : List ℕ) where
       let q = none_refuses (check_length (length t)) (check_utf8 t ∷ last) p.1 in
       (none_refuses (check_utf8 t) last q.1).0
 
-  module _ (lines n : ℕ) (e : paging_answer s h t table pages ≡ paged.Pages lines n) where
-    answer : (check_paging s h t table pages ≡ Good) × (lines ≡ length (text_entries s t)) × (n ≡ length (text_pages s h t))
+  module _ (lines n : ℕ) (e : paging_answer s h t table pages ≡ Ok (record { lines = lines; pages = n })) where
+    answer : (check_paging s h t table pages ≡ Ok tt) × (lines ≡ length (text_entries s t)) × (n ≡ length (text_pages s h t))
     unfolding paging_answer
     answer = paged_answer (check_paging s h t table pages) (length (text_entries s t)) (length (text_pages s h t)) lines n e
 
-    checked : (1 ≤ h) × (check_utf8 t ≡ Good)
+    checked : (1 ≤ h) × (check_utf8 t ≡ Ok tt)
     unfolding check_paging
     checked =
         let room = check_room (capacity_of page_numbers pages) (length (text_pages s h t)) in

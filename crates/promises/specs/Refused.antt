@@ -1,82 +1,74 @@
 -- A call that refuses leaves every buffer that it is lent as it was, and every number but the one that goes besides the refusal's.
 -- Assumes nothing.
-use Rattle.std.specs.Prelude.{ℕ, ◌<◌, ◌≡◌, List, ℤ}
+use Rattle.std.specs.Prelude.{ℕ, ◌<◌, ◌≡◌, List, ℤ, Err}
 use Rattle.std.proofs.Common.{arith, ap, ◌∙◌}
 use contract.Lifetimes.{Lfts}
 use Rattle.meaning.specs.Settings.{settings_of}
 use Rattle.meaning.specs.Calls.{drawing_answer, frame_answer, relay_answer, y_answer, index_after, index_again_after, reading_answer}
-use Rattle.meaning.specs.Answers.{tokensNumber, layoutNumber, drawingNumber, frameNumber, relayNumber, indexNumber, writingNumber, readingNumber}
+use Rattle.meaning.specs.Answers.{answer_number}
 use Rattle.meaning.specs.YIndex.{kept_before}
 use Rattle.meaning.specs.Refusals.{number_of}
 use Rattle.meaning.specs.declared.settings.Settings.{Settings}
 use Rattle.meaning.specs.declared.edit.Edit.{Edit}
 use Rattle.meaning.specs.declared.refusals.Refusal.{Refusal}
-use Rattle.meaning.specs.declared.answers.Tokenized.TheVariants as tokenized
-use Rattle.meaning.specs.declared.answers.Laid.TheVariants as laid
-use Rattle.meaning.specs.declared.answers.LaidWithEvents.TheVariants as drawing
 use Rattle.meaning.specs.declared.line.Rest.{Rest}
-use Rattle.meaning.specs.declared.answers.Framed.TheVariants as framed
-use Rattle.meaning.specs.declared.answers.Relaid.TheVariants as relaid
 use Rattle.bisquemop.specs.Edits.{rest_from}
 use Rattle.promises.specs.Passed.{Lent, LentNumber, LentSigned, LentMut, LentYsMut}
 use Rattle.promises.specs.CallContracts.{Tokenize, Layout, LayoutWithEvents, OneLine, LayAgain, CTokens, CLayout, CLayoutEvents, COneLine, CLayAgain, CLineY, MakeIndex, MakeIndexAgain, CIndex, CIndexAgain, WriteFile, ReadFile, CWriteFile, CReadFile}
 use Rattle.promises.specs.Unwritten.{tokens-kept, layout-kept, drawing-kept, frame_kept, relay_kept, drawing-counted, frame_rested, relay_counted, y_kept, index_kept, writing_kept, reading_kept, settings-kept, reading_counted, refusal_some}
-use Rattle.meaning.specs.declared.answers.Indexed.TheVariants as indexed
-use Rattle.meaning.specs.declared.answers.FileWritten.TheVariants as filed
-use Rattle.meaning.specs.declared.answers.FileRead.TheVariants as fileread
 
 -- ---- the calls in Rattle
 
 pub tokenize-refused : (κs : Lfts 2) (text : Lent) (buffer : LentMut) (r : Refusal) (after : List ℕ)
-    → Tokenize κs text buffer (tokenized.Refused r) after → after ≡ buffer.now
+    → Tokenize κs text buffer (Err r) after → after ≡ buffer.now
 tokenize-refused κs text buffer r after p =
     p.1 ∙ tokens-kept text.now buffer.now (λ n e. let z : ◌≡◌ {A = ℕ} 0 1 = cc in omega arith)
 
 pub layout-refused : (κs : Lfts 2) (s : Settings) (text : Lent) (table : LentMut) (r : Refusal) (after : List ℕ)
-    → Layout κs s text table (laid.Refused r) after → after ≡ table.now
+    → Layout κs s text table (Err r) after → after ≡ table.now
 layout-refused κs s text table r after p =
     p.1 ∙ layout-kept s text.now table.now (λ n e. let z : ◌≡◌ {A = ℕ} 0 1 = cc in omega arith)
 
 pub layout_with_events-refused : (κs : Lfts 3) (s : Settings) (text : Lent) (table events : LentMut) (r : Refusal) (after drawn : List ℕ)
-    → LayoutWithEvents κs s text table events (drawing.Refused r) after drawn → (after ≡ table.now) × (drawn ≡ events.now)
+    → LayoutWithEvents κs s text table events (Err r) after drawn → (after ≡ table.now) × (drawn ≡ events.now)
 layout_with_events-refused κs s text table events r after drawn p =
-    let k = drawing-kept s text.now table.now events.now (λ n m e. let z : ◌≡◌ {A = ℕ} 0 1 = cc in omega arith) in
+    let k = drawing-kept s text.now table.now events.now (λ n e. let z : ◌≡◌ {A = ℕ} 0 1 = cc in omega arith) in
     (p.1.0 ∙ k.0, p.1.1 ∙ k.1)
 
 pub one-line-refused : (κs : Lfts 2) (s : Settings) (text : Lent) (start : ℕ) (r : Rest) (entry : LentMut) (q : Refusal) (after : List ℕ)
-    → OneLine κs s text start r entry (framed.Refused q) after → after ≡ entry.now
+    → OneLine κs s text start r entry (Err q) after → after ≡ entry.now
 one-line-refused κs s text start r entry q after p =
-    p.1 ∙ frame_kept s text.now start r entry.now (λ n x e. let z : ◌≡◌ {A = ℕ} 0 1 = cc in omega arith)
+    p.1 ∙ frame_kept s text.now start r entry.now (λ n e. let z : ◌≡◌ {A = ℕ} 0 1 = cc in omega arith)
 
 pub lay_again-refused : (κs : Lfts 2) (s : Settings) (part : Lent) (table : LentMut) (lines : ℕ) (ed : Edit) (r : Refusal) (after : List ℕ)
-    → LayAgain κs s part table lines ed (relaid.Refused r) after → after ≡ table.now
+    → LayAgain κs s part table lines ed (Err r) after → after ≡ table.now
 lay_again-refused κs s part table lines ed r after p =
-    p.1 ∙ relay_kept s part.now table.now lines ed (λ n m e. let z : ◌≡◌ {A = ℕ} 0 1 = cc in omega arith)
+    p.1 ∙ relay_kept s part.now table.now lines ed (λ n e. let z : ◌≡◌ {A = ℕ} 0 1 = cc in omega arith)
 
 pub make_index-refused : (κs : Lfts 2) (s : Settings) (table : Lent) (lines : ℕ) (index : LentYsMut) (r : Refusal) (after : List ℤ)
-    → MakeIndex κs s table lines index (indexed.Refused r) after → after ≡ index.now
+    → MakeIndex κs s table lines index (Err r) after → after ≡ index.now
 unfolding index_after
 make_index-refused κs s table lines index r after p =
     p.1 ∙ index_kept s table.now lines 0 index.now (λ n e. let z : ◌≡◌ {A = ℕ} 0 1 = cc in omega arith)
 
 pub make_index-again-refused : (κs : Lfts 2) (s : Settings) (table : Lent) (lines first : ℕ) (index : LentYsMut) (r : Refusal) (after : List ℤ)
-    → MakeIndexAgain κs s table lines first index (indexed.Refused r) after → after ≡ index.now
+    → MakeIndexAgain κs s table lines first index (Err r) after → after ≡ index.now
 unfolding index_again_after
 make_index-again-refused κs s table lines first index r after p =
     p.1 ∙ index_kept s table.now lines (kept_before s first) index.now (λ n e. let z : ◌≡◌ {A = ℕ} 0 1 = cc in omega arith)
 
 pub write_file-refused : (κs : Lfts 2) (s : Settings) (table : Lent) (lines : ℕ) (file : LentMut) (r : Refusal) (after : List ℕ)
-    → WriteFile κs s table lines file (filed.Refused r) after → after ≡ file.now
+    → WriteFile κs s table lines file (Err r) after → after ≡ file.now
 write_file-refused κs s table lines file r after p =
-    p.1 ∙ writing_kept s table.now lines file.now (λ n e. refusal_some r (ap writingNumber (p.0 ∙ e)))
+    p.1 ∙ writing_kept s table.now lines file.now (λ n e. refusal_some r (ap answer_number (p.0 ∙ e)))
 
 -- No line entry goes with a refusal, 12 among them, and settings go with 12 alone.
 pub read-file-refused : (κs : Lfts 3) (file : Lent) (settings table : LentMut) (r : Refusal) (handed after : List ℕ)
-    → ReadFile κs file settings table (fileread.Refused r) handed after
+    → ReadFile κs file settings table (Err r) handed after
     → (after ≡ table.now) × ((number_of r ≡ 12 → ⊥) → handed ≡ settings.now)
 read-file-refused κs file settings table r handed after p = (
-  p.1.1 ∙ reading_kept file.now settings.now table.now (λ n m e. refusal_some r (ap readingNumber (p.0 ∙ e))),
-  λ d. p.1.0 ∙ settings-kept file.now settings.now table.now (λ e. refusal_some r (ap readingNumber p.0 ∙ e)) (λ e. d (ap readingNumber p.0 ∙ e)),
+  p.1.1 ∙ reading_kept file.now settings.now table.now (λ n e. refusal_some r (ap answer_number (p.0 ∙ e))),
+  λ d. p.1.0 ∙ settings-kept file.now settings.now table.now (λ e. refusal_some r (ap answer_number p.0 ∙ e)) (λ e. d (ap answer_number p.0 ∙ e)),
 )
 
 -- ---- the calls for C: a refusal returns no 0
@@ -84,20 +76,20 @@ read-file-refused κs file settings table r handed after p = (
 pub c-tokens-refused : (κs : Lfts 3) (text : Lent) (tokens : LentMut) (value : LentNumber) (z : ℕ) (after : List ℕ) (value' : ℕ)
     → CTokens κs text tokens value z after value' → 0 < z → after ≡ tokens.now
 c-tokens-refused κs text tokens value z after value' p h =
-    p.1.0 ∙ tokens-kept text.now tokens.now (λ n e. omega (arith, p.0 ∙ ap tokensNumber e))
+    p.1.0 ∙ tokens-kept text.now tokens.now (λ n e. omega (arith, p.0 ∙ ap answer_number e))
 
 pub c-layout-refused : (κs : Lfts 3) (s : Settings) (text : Lent) (table : LentMut) (value : LentNumber) (z : ℕ) (after : List ℕ) (value' : ℕ)
     → CLayout κs s text table value z after value' → 0 < z → after ≡ table.now
 unfolding settings_of
 c-layout-refused κs s text table value z after value' p h =
-    p.1.0 ∙ layout-kept s text.now table.now (λ n e. omega (arith, p.0 ∙ ap layoutNumber e))
+    p.1.0 ∙ layout-kept s text.now table.now (λ n e. omega (arith, p.0 ∙ ap answer_number e))
 
 pub c-layout-events-refused : (κs : Lfts 5) (s : Settings) (text : Lent) (table events : LentMut) (value count : LentNumber) (z : ℕ)
     (after drawn : List ℕ) (value' count' : ℕ) → CLayoutEvents κs s text table events value count z after drawn value' count' → 0 < z
     → (after ≡ table.now) × (drawn ≡ events.now) × (count' ≡ count.now)
 unfolding settings_of
 c-layout-events-refused κs s text table events value count z after drawn value' count' p h =
-    let k = drawing-kept s text.now table.now events.now (λ n m e. omega (arith, p.0 ∙ ap drawingNumber e)) in
+    let k = drawing-kept s text.now table.now events.now (λ n e. omega (arith, p.0 ∙ ap answer_number e)) in
     let c = drawing-counted (drawing_answer s text.now table.now events.now) count.now (omega (arith, p.0)) in
     (p.1.0 ∙ k.0, p.1.1.0 ∙ k.1, p.1.1.1.1 ∙ c)
 
@@ -107,7 +99,7 @@ pub c-one-line-refused : (κs : Lfts 5) (s : Settings) (text : Lent) (start end 
 unfolding settings_of
 c-one-line-refused κs s text start end count entry value stops counts z after value' stops' counts' p h =
     let r = rest_from end count in
-    let k = frame_kept s text.now start r entry.now (λ n x e. omega (arith, p.0 ∙ ap frameNumber e)) in
+    let k = frame_kept s text.now start r entry.now (λ n e. omega (arith, p.0 ∙ ap answer_number e)) in
     let c = frame_rested (frame_answer s text.now start r entry.now) stops.now counts.now (omega (arith, p.0)) in
     (p.1.0 ∙ k, p.1.1.1.0 ∙ c.0, p.1.1.1.1 ∙ c.1)
 
@@ -116,7 +108,7 @@ pub c_lay_again-refused : (κs : Lfts 4) (s : Settings) (part : Lent) (table : L
     → (after ≡ table.now) × (laid' ≡ laid.now)
 unfolding settings_of
 c_lay_again-refused κs s part table lines ed value laid z after value' laid' p h =
-    let k = relay_kept s part.now table.now lines ed (λ n m e. omega (arith, p.0 ∙ ap relayNumber e)) in
+    let k = relay_kept s part.now table.now lines ed (λ n e. omega (arith, p.0 ∙ ap answer_number e)) in
     let c = relay_counted (relay_answer s part.now table.now lines ed) laid.now (omega (arith, p.0)) in
     (p.1.0 ∙ k, p.1.1.1 ∙ c)
 
@@ -130,25 +122,25 @@ pub c-index-refused : (κs : Lfts 3) (s : Settings) (table : Lent) (lines : ℕ)
     (value' : ℕ) → CIndex κs s table lines index value z after value' → 0 < z → after ≡ index.now
 unfolding settings_of index_after
 c-index-refused κs s table lines index value z after value' p h =
-    p.1.0 ∙ index_kept s table.now lines 0 index.now (λ n e. omega (arith, p.0 ∙ ap indexNumber e))
+    p.1.0 ∙ index_kept s table.now lines 0 index.now (λ n e. omega (arith, p.0 ∙ ap answer_number e))
 
 pub c-index-again-refused : (κs : Lfts 3) (s : Settings) (table : Lent) (lines first : ℕ) (index : LentYsMut) (value : LentNumber) (z : ℕ)
     (after : List ℤ) (value' : ℕ) → CIndexAgain κs s table lines first index value z after value' → 0 < z → after ≡ index.now
 unfolding settings_of index_again_after
 c-index-again-refused κs s table lines first index value z after value' p h =
-    p.1.0 ∙ index_kept s table.now lines (kept_before s first) index.now (λ n e. omega (arith, p.0 ∙ ap indexNumber e))
+    p.1.0 ∙ index_kept s table.now lines (kept_before s first) index.now (λ n e. omega (arith, p.0 ∙ ap answer_number e))
 
 pub c_write_file-refused : (κs : Lfts 3) (s : Settings) (table : Lent) (lines : ℕ) (file : LentMut) (value : LentNumber) (z : ℕ)
     (after : List ℕ) (value' : ℕ) → CWriteFile κs s table lines file value z after value' → 0 < z → after ≡ file.now
 unfolding settings_of
 c_write_file-refused κs s table lines file value z after value' p h =
-    p.1.0 ∙ writing_kept s table.now lines file.now (λ n e. omega (arith, p.0 ∙ ap writingNumber e))
+    p.1.0 ∙ writing_kept s table.now lines file.now (λ n e. omega (arith, p.0 ∙ ap answer_number e))
 
 pub c-read-file-refused : (κs : Lfts 5) (file : Lent) (settings table : LentMut) (value bytes : LentNumber) (z : ℕ) (handed after : List ℕ)
     (value' bytes' : ℕ) → CReadFile κs file settings table value bytes z handed after value' bytes' → 0 < z
     → (after ≡ table.now) × (bytes' ≡ bytes.now) × ((z ≡ 12 → ⊥) → handed ≡ settings.now)
 c-read-file-refused κs file settings table value bytes z handed after value' bytes' p h = (
-  p.1.1.0 ∙ reading_kept file.now settings.now table.now (λ n m e. omega (arith, p.0 ∙ ap readingNumber e)),
+  p.1.1.0 ∙ reading_kept file.now settings.now table.now (λ n e. omega (arith, p.0 ∙ ap answer_number e)),
   p.1.1.1.1 ∙ reading_counted (reading_answer file.now settings.now table.now) bytes.now (omega (arith, p.0)),
   λ d. p.1.0 ∙ settings-kept file.now settings.now table.now (λ e. omega (arith, p.0 ∙ e)) (λ e. d (p.0 ∙ e)),
 )

@@ -2,7 +2,8 @@
 -- Rule 10.
 -- Assumes nothing.
 use Prim.Native.Nat.{ℕ, zero, suc, ◌+◌}
-use Rattle.std.specs.Prelude.{◌≡◌, List, [], ◌∷◌, map, pos, length, take, drop}
+use Rattle.meaning.specs.declared.counts.Pixels.{Pixels}
+use Rattle.std.specs.Prelude.{◌≡◌, List, [], ◌∷◌, map, pos, length, take, drop, None, Option, Some}
 use Rattle.std.proofs.Math.Path.{refl, sym, ap}
 use Rattle.std.proofs.Common.{◌∙◌}
 use Rattle.utf8.specs.Encoding.{size}
@@ -14,8 +15,6 @@ use Rattle.meaning.specs.Line.{unmeasured, measured, line_tokens, start_place, L
 use Rattle.meaning.specs.Layout.{Row, row_at, unless_ended, rows_by, rows, entry_of_row, layout, all_events, layout_events}
 use Rattle.meaning.specs.declared.settings.Settings.{Settings}
 use Rattle.meaning.specs.declared.cursor.Place.{Place}
-use Rattle.meaning.specs.declared.cursor.NextWord.{NextWord}
-use Rattle.meaning.specs.declared.cursor.NextWord.TheVariants.{Nothing, Width}
 use Rattle.meaning.specs.declared.line.Entry.{Entry}
 use Rattle.meaning.specs.declared.line.Event.{Event}
 
@@ -48,10 +47,10 @@ line_settings s =
       wrap = s.wrap;
     }
 
-break_alone : (s : Settings) (p : Place) (at : ℕ) (w : NextWord) (reach : ℕ) → on_break s p at w reach ≡ on_break (line_settings s) p at w reach
+break_alone : (s : Settings) (p : Place) (at : ℕ) (w : Option Pixels) (reach : ℕ) → on_break s p at w reach ≡ on_break (line_settings s) p at w reach
 unfolding on_break hyphenated
-break_alone s p at Nothing reach = refl
-break_alone s p at (Width w) reach = refl
+break_alone s p at None reach = refl
+break_alone s p at (Some w) reach = refl
 
 step_alone : (s : Settings) (p : Place) (at : ℕ) (t : Tok) (ts : List Tok) → step s p at t ts ≡ step (line_settings s) p at t ts
 unfolding step on_tab on_space on_word skips draws_space cut_run cut_word unfit_word
@@ -59,7 +58,7 @@ step_alone s p at newLine ts = refl
 step_alone s p at carriageReturn ts = refl
 step_alone s p at tab ts = refl
 step_alone s p at softHyphen ts =
-    let ahead = next_width s.glyph.0 Nothing (at + size_of softHyphen) ts in
+    let ahead = next_width s.glyph.0 None (at + size_of softHyphen) ts in
     break_alone s p at ahead.width ahead.reach
 step_alone s p at (space cs n e) ts = refl
 step_alone s p at (word cs e) ts = refl

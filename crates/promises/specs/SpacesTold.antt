@@ -1,7 +1,7 @@
 -- What the table that a layout call writes tells of a line's spaces: they are plain, or share out the line's room. By the contracts of
 -- the calls.
 -- Assumes nothing.
-use Rattle.std.specs.Prelude.{ℕ, List}
+use Rattle.std.specs.Prelude.{ℕ, List, Ok}
 use Rattle.std.proofs.Common.{sym, subst}
 use contract.Lifetimes.{Lfts}
 use Rattle.utf8.specs.Decoding.{decode_all}
@@ -9,7 +9,6 @@ use Rattle.meaning.specs.Table.{entries_in}
 use Rattle.meaning.specs.Layout.{layout}
 use Rattle.meaning.specs.Calls.{text_rows, text_entries}
 use Rattle.meaning.specs.declared.settings.Settings.{Settings}
-use Rattle.meaning.specs.declared.answers.Laid.TheVariants as laid
 use Rattle.laws.specs.RowInduction.{Each}
 use Rattle.promises.specs.TableSpaces.{EntrySaid, table-spaces}
 use Rattle.promises.specs.Passed.{Lent, LentNumber, LentMut}
@@ -21,7 +20,7 @@ module _ (s : Settings) (text : Lent) (table : LentMut) where
   unfolding text_entries text_rows layout
   entries_tell = table-spaces s (decode_all text.now)
 
-  pub layout-spaces-told : (κs : Lfts 2) (n : ℕ) (after : List ℕ) → Layout κs s text table (laid.Lines n) after
+  pub layout-spaces-told : (κs : Lfts 2) (n : ℕ) (after : List ℕ) → Layout κs s text table (Ok n) after
       → Each (EntrySaid s) (entries_in n after)
   layout-spaces-told κs n after p = subst (Each (EntrySaid s)) (sym (layout-table-holds s text table κs n after p)) entries_tell
 

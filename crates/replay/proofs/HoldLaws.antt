@@ -14,7 +14,7 @@ use Rattle.replay.specs.Shape.{part, Parts}
 use Rattle.replay.specs.Numbers.{line_numbers}
 use Rattle.replay.specs.Record.{settings_in, first_eight, record_of, Laid, Holds, Judged, Told}
 use Rattle.replay.specs.declared.judge.Verdict.{Verdict}
-use Rattle.replay.specs.declared.judge.Verdict.TheVariants.{Comment, Agrees, Differs, Malformed}
+use Rattle.replay.specs.declared.judge.Verdict.TheVariants.{Comment, Agrees, Differs}
 use Rattle.replay.specs.declared.shape.Case.{Case}
 use Rattle.replay.proofs.PartLaws.{part_length, part_cut}
 
@@ -86,4 +86,3 @@ pub judged-told : (line ns : List ℕ) (v : Verdict) → ns ≡ line_numbers 409
 judged-told line ns Comment e j = absurd j
 judged-told line ns Agrees e j = subst Holds e j
 judged-told line ns Differs e j = tt
-judged-told line ns Malformed e j = tt

@@ -24,10 +24,3 @@ module _ {ns : List ℕ} {at each most next : ℕ} (a : After ns at each most ne
       ∙ ap (λ (l : List ℕ). get_or ns at 0 ∷ l)
       (sym (take-append-drop (next - (at + 1)) rest)
       ∙ ap (λ (l : List ℕ). part ns at next ++ l) (drop-drop (next - (at + 1)) (at + 1) ns ∙ ap (λ (k : ℕ). drop k ns) after))
-
--- The text's bytes, at the front of an array.
-pub text-kept : {ns : List ℕ} {most tokens : ℕ} → After ns 6 1 most tokens → (text : List ℕ)
-    → take (length (part ns 6 tokens)) text ≡ part ns 6 tokens → take (tokens - 7) text ≡ part ns 6 tokens
-text-kept {ns} {most} {tokens} a text e =
-    let long : tokens - 7 ≡ length (part ns 6 tokens) = omega (arith, part_length a, a.next-is) in
-    ap (λ (k : ℕ). take k text) long ∙ e

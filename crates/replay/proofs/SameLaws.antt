@@ -9,6 +9,7 @@ use native.Mathlib.Numerals.{add-one}
 use native.Mathlib.Omega.{arith}
 use borrow.Author.Tests.{eq-eqb, ne_eqb}
 use lib.Dec.{eqb}
+use Rattle.std.specs.Cmp.Lexicographic.{pointwise}
 use lib.ListN.{length, get_or, set, take, drop, drop_of_length-le, length-drop, length-append}
 use lib.Seq.{drop-cons, drop-drop, take-suc, take-suc-set, length-take-le}
 use Rattle.meaning.specs.Table.{entry_numbers}
@@ -26,18 +27,13 @@ unequal_length [] (y ∷ ys) n = refl
 unequal_length (x ∷ xs) [] n = refl
 unequal_length (x ∷ xs) (y ∷ ys) n = rw (unequal_length xs ys (λ e. n (ap suc e))) (and_false (eqb x y))
 
-module _ (a b : List ℕ) (i : ℕ) (ha : i < length a) (hb : i < length b) where
-  pub equal-on : get_or a i 0 ≡ get_or b i 0 → equal (drop i a) (drop i b) ≡ equal (drop (i + 1) a) (drop (i + 1) b)
-  unfolding equal
-  equal-on e = rw (add-one, drop-cons a i 0, drop-cons b i 0, eq-eqb _ _ e)
-
-  pub equal-not : (get_or a i 0 ≡ get_or b i 0 → ⊥) → equal (drop i a) (drop i b) ≡ false
-  unfolding equal
-  equal-not n = rw (drop-cons a i 0, drop-cons b i 0, ne_eqb _ _ n)
-
-pub equal-end : (a b : List ℕ) (i : ℕ) → length a ≤ i → length b ≤ i → equal (drop i a) (drop i b) ≡ true
+-- What std's `==` tests.
+pub equal-pointwise : (xs ys : List ℕ) → pointwise eqb xs ys ≡ equal xs ys
 unfolding equal
-equal-end a b i ha hb = rw (drop_of_length-le a ha, drop_of_length-le b hb)
+equal-pointwise [] [] = refl
+equal-pointwise [] (y ∷ ys) = refl
+equal-pointwise (x ∷ xs) [] = refl
+equal-pointwise (x ∷ xs) (y ∷ ys) = ap (λ (p : Bool). eqb x y && p) (equal-pointwise xs ys)
 
 -- ---- line after line
 
@@ -114,10 +110,3 @@ lines-done table recorded n k h right =
     let none : n - k ≡ 0 = omega arith in
     let past : length recorded ≤ 8 * k = omega arith in
     rw (none, drop_of_length-le recorded past)
-
--- ---- numbers copied one after the other
-
-pub copied_next : (a b : List ℕ) (i : ℕ) → take i b ≡ take i a → i < length a → i < length b
-    → take (i + 1) (set b i (get_or a i 0)) ≡ take (i + 1) a
-copied_next a b i e ha hb =
-    rw add-one (take-suc-set b i (get_or a i 0) hb ∙ ap (λ (l : List ℕ). l ++ get_or a i 0 ∷ []) e ∙ sym (take-suc a i 0 ha))

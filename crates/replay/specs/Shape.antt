@@ -1,12 +1,8 @@
 -- Where the parts of a case stand among its numbers.
 -- Assumes nothing.
-use Rattle.std.specs.Prelude.{ℕ, ◌+◌, ◌-◌, ◌*◌, ◌≤◌, ◌≡◌, List, length, get_or, take, drop}
+use Rattle.std.specs.Prelude.{ℕ, ◌+◌, ◌-◌, ◌*◌, ◌≤◌, ◌≡◌, List, length, get_or, take, drop, Result, Ok, Err}
 use Rattle.meaning.specs.Table.{event_numbers, token_numbers}
 use Rattle.replay.specs.declared.shape.Case.{Case}
-use Rattle.replay.specs.declared.shape.Place.{Place}
-use Rattle.replay.specs.declared.shape.Place.TheVariants as place
-use Rattle.replay.specs.declared.shape.Shape.{Shape}
-use Rattle.replay.specs.declared.shape.Shape.TheVariants as shape
 
 -- A place comes after the count at another one, which is at most so much, and after what that counts, so many numbers each.
 pub record After (ns : List ℕ) (at each most next : ℕ) : Type 0 where
@@ -14,9 +10,9 @@ pub record After (ns : List ℕ) (at each most next : ℕ) : Type 0 where
   pub next-is : next ≡ at + 1 + each * get_or ns at 0
   pub within : next ≤ length ns
 
-abbrev pub Past : List ℕ → (at each most : ℕ) → Place → Type 0
-Past ns at each most (place.At k) = After ns at each most k
-Past ns at each most place.Malformed = Unit {0}
+abbrev pub Past : {E : Type 0} → List ℕ → (at each most : ℕ) → Result ℕ E → Type 0
+Past ns at each most (Ok k) = After ns at each most k
+Past ns at each most (Err e) = Unit {0}
 
 -- What is counted at a place: the numbers after the count, up to another place.
 abbrev pub part : List ℕ → (at next : ℕ) → List ℕ
@@ -29,6 +25,6 @@ pub record Parts (ns : List ℕ) (c : Case) : Type 0 where
   pub lines : After ns c.lines 8 130 c.events
   pub events : After ns c.events event_numbers 400 (length ns)
 
-abbrev pub Shaped : List ℕ → Shape → Type 0
-Shaped ns (shape.Case c) = Parts ns c
-Shaped ns shape.Malformed = Unit {0}
+abbrev pub Shaped : {E : Type 0} → List ℕ → Result Case E → Type 0
+Shaped ns (Ok c) = Parts ns c
+Shaped ns (Err e) = Unit {0}

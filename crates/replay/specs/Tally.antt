@@ -6,8 +6,6 @@ use Rattle.basis.specs.Choice.{pick}
 use Rattle.replay.specs.declared.judge.Verdict.{Verdict}
 use Rattle.replay.specs.declared.judge.Verdict.TheVariants as verdict
 use Rattle.replay.specs.declared.tally.Tally.{Tally}
-use Rattle.replay.specs.declared.tally.Counted.{Counted}
-use Rattle.replay.specs.declared.tally.Counted.TheVariants as counted
 
 -- One more case; and one more that differs.
 abbrev pub agreed_of : Tally → Tally
@@ -16,11 +14,10 @@ agreed_of t = record { cases = t.cases + 1; differ = t.differ; first = t.first }
 unfoldable pub differed_of : Tally → Tally
 differed_of t = record { cases = t.cases + 1; differ = t.differ + 1; first = pick (eqb t.differ 0) (t.cases + 1) t.first }
 
-abbrev pub counted_of : Tally → Verdict → Counted
-counted_of t verdict.Comment = counted.To t
-counted_of t verdict.Agrees = counted.To (agreed_of t)
-counted_of t verdict.Differs = counted.To (differed_of t)
-counted_of t verdict.Malformed = counted.Malformed
+abbrev pub counted_of : Tally → Verdict → Tally
+counted_of t verdict.Comment = t
+counted_of t verdict.Agrees = agreed_of t
+counted_of t verdict.Differs = differed_of t
 
 -- There are at most so many cases, and no more that differ.
 pub record Sound (n : ℕ) (t : Tally) : Type 0 where
@@ -28,13 +25,8 @@ pub record Sound (n : ℕ) (t : Tally) : Type 0 where
   pub part : t.differ ≤ t.cases
 
 -- So are they after a line more.
-abbrev pub SoundIf : (n : ℕ) → Counted → Type 0
-SoundIf n (counted.To t) = Sound n t
-SoundIf n counted.Malformed = Unit {0}
-
-pub counted-sound : (n : ℕ) (t : Tally) (v : Verdict) → Sound n t → SoundIf (n + 1) (counted_of t v)
+pub counted-sound : (n : ℕ) (t : Tally) (v : Verdict) → Sound n t → Sound (n + 1) (counted_of t v)
 unfolding differed_of
 counted-sound n t verdict.Comment h = record { few = omega (arith, h.few); part = h.part }
 counted-sound n t verdict.Agrees h = record { few = omega (arith, h.few); part = omega (arith, h.part) }
 counted-sound n t verdict.Differs h = record { few = omega (arith, h.few); part = omega (arith, h.part) }
-counted-sound n t verdict.Malformed h = tt

@@ -1,4 +1,4 @@
-// The input, line by line, through one buffer.
+// The input, line by line, through one buffer. std's `read_until` would take a line of any length, and the heap for it.
 ghost use Rattle.std.specs.Prelude.{◌≤◌, ◌<◌, ◌≡◌, length, take, drop};
 ghost use Rattle.replay.specs.Lines.{line_end, Came, Within};
 
@@ -20,109 +20,100 @@ pub struct Part {
     pub end: usize,
 }
 
-// What one read gave: bytes up to a place, or no more.
+// Why no line came, though the input has not ended between two.
 #[derive(Clone, Copy)]
-pub enum Got {
-    UpTo(usize),
-    Nothing,
-    Failed,
-}
-
-#[derive(Clone, Copy)]
-pub enum Line {
-    Found(Part),
-    Ended,
+pub enum LineError {
     // the input ends within a line, or a line is longer than the buffer
     Broken,
+    // the input cannot be read
     Failed,
 }
 
-// The place of the first line feed from a place up to another, or that other place if there is none.
-fn find(s: &[u8], from: usize, end: usize) -> usize
+impl From<io::Error> for LineError {
+    fn from(_: io::Error) -> LineError {
+        LineError::Failed
+    }
+}
+
+// The place of the first line feed from a place up to another.
+fn find(s: &[u8], from: usize, end: usize) -> Option<usize>
     requires { end ≤ length s.now }
     ensures { result ≡ line_end from (drop from (take end s.now)) }
 {
-    let mut i = from;
-    while i < end {
+    for i in from..end {
         if s[i] == b'\n' {
-            return i;
+            return Some(i);
         }
-        i += 1;
     }
-    i
+    None
 }
 
-// Reads once, into the buffer from a place on, and answers how many bytes came.
-fn read_more(input: &mut impl io::Read, buffer: &mut [u8], end: usize) -> Got
+// Reads once, into the buffer from a place on, and answers where the bytes end that came, if any did.
+fn read_more(input: &mut impl io::Read, buffer: &mut [u8], end: usize) -> io::Result<Option<usize>>
     requires { end < length buffer.old }
     ensures { Came end (length buffer.new) result }
 {
-    match input.read(&mut buffer[end..]) {
-        Ok(more) => {
-            if more == 0 {
-                return Got::Nothing;
-            }
-            Got::UpTo(end + more)
-        }
-        Err(_) => Got::Failed,
+    let more = input.read(&mut buffer[end..])?;
+    if more == 0 {
+        return Ok(None);
     }
+    Ok(Some(end + more))
 }
 
 // The input has ended, with so many bytes after its last line feed.
-fn ended(bytes: usize) -> Line
+fn ended(bytes: usize) -> Result<Option<Part>, LineError>
     ensures { Within 0 result }
 {
     if bytes == 0 {
-        return Line::Ended;
+        return Ok(None);
     }
-    Line::Broken
+    Err(LineError::Broken)
 }
 
 // Reads on until the line at the buffer's front, of which so many bytes are there, has its line feed.
-fn read_line(input: &mut impl io::Read, buffer: &mut [u8], have: usize) -> Line
+fn read_line(
+    input: &mut impl io::Read,
+    buffer: &mut [u8],
+    have: usize,
+) -> Result<Option<Part>, LineError>
     requires { have ≤ length buffer.old }
     ensures { Within (length buffer.new) result }
 {
     let mut end = have;
     while end < buffer.len() {
-        match read_more(input, buffer, end) {
-            Got::UpTo(read) => {
-                let stop = find(buffer, end, read);
-                if stop < read {
-                    return Line::Found(Part {
-                        start: 0,
-                        stop,
-                        end: read,
-                    });
-                }
-                end = read;
-            }
-            Got::Nothing => {
-                return ended(end);
-            }
-            Got::Failed => {
-                return Line::Failed;
-            }
+        let Some(read) = read_more(input, buffer, end)? else {
+            return ended(end);
+        };
+        if let Some(stop) = find(buffer, end, read) {
+            return Ok(Some(Part {
+                start: 0,
+                stop,
+                end: read,
+            }));
         }
+        end = read;
     }
-    Line::Broken
+    Err(LineError::Broken)
 }
 
-// The next line of the input.
-pub fn next_line(input: &mut impl io::Read, buffer: &mut [u8], held: Held) -> Line
+// The next line of the input, if it has not ended.
+pub fn next_line(
+    input: &mut impl io::Read,
+    buffer: &mut [u8],
+    held: Held,
+) -> Result<Option<Part>, LineError>
     requires at_le_end { held.at ≤ held.end }
     requires end_in_bounds { held.end ≤ length buffer.old }
     ensures { Within (length buffer.new) result }
 {
     let at = held.at;
     let end = held.end;
-    let stop = find(buffer, at, end);
-    if stop < end {
-        return Line::Found(Part {
+    if let Some(stop) = find(buffer, at, end) {
+        return Ok(Some(Part {
             start: at,
             stop,
             end,
-        });
+        }));
     }
     let have = to_front(buffer, at, end);
     read_line(input, buffer, have)

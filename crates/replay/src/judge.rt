@@ -1,11 +1,12 @@
 // What the library says of a line of the recording.
-ghost use Rattle.std.specs.Prelude.{◌≡◌, true, [], ◌∷◌, take};
+ghost use Rattle.std.specs.Prelude.{◌≡◌, true, [], ◌∷◌, take, IfOk};
 ghost use Rattle.replay.specs.Shape.{part, Parts};
 ghost use Rattle.replay.specs.Record.{Judged, Told};
 
 use crate::case::{bytes, layout_agrees, settings, tokens_agree};
+use crate::malformed::Malformed;
 use crate::numbers::parse;
-use crate::shape::{BYTES, Case, SETTINGS, Shape, shape_of};
+use crate::shape::{BYTES, Case, SETTINGS, shape_of};
 
 // Where a case has its text, behind the settings and the count of its bytes.
 const TEXT: usize = SETTINGS + 1;
@@ -18,7 +19,6 @@ pub enum Verdict {
     Comment,
     Agrees,
     Differs,
-    Malformed,
 }
 
 // The text is what the case has for it.
@@ -40,45 +40,38 @@ fn judge_text(numbers: &[u32], text: &[u8], c: Case) -> Verdict
     Verdict::Agrees
 }
 
-fn judge_case(numbers: &[u32], c: Case) -> Verdict
+fn judge_case(numbers: &[u32], c: Case) -> Result<Verdict, Malformed>
     requires { Parts numbers.now c }
-    ensures { Judged numbers.now result }
+    ensures { IfOk result (Judged numbers.now) }
 {
     let tokens = c.tokens;
     let mut text = [0u8; BYTES as usize];
-    if !bytes(&numbers[TEXT..tokens], &mut text) {
-        return Verdict::Malformed;
-    }
+    bytes(&numbers[TEXT..tokens], &mut text)?;
     let length = tokens - TEXT;
-    judge_text(numbers, &text[..length], c)
+    Ok(judge_text(numbers, &text[..length], c))
 }
 
-fn judge_numbers(numbers: &[u32]) -> Verdict
-    ensures { Judged numbers.now result }
+fn judge_numbers(numbers: &[u32]) -> Result<Verdict, Malformed>
+    ensures { IfOk result (Judged numbers.now) }
 {
-    match shape_of(numbers) {
-        Shape::Case(c) => judge_case(numbers, c),
-        Shape::Malformed => Verdict::Malformed,
-    }
+    let c = shape_of(numbers)?;
+    judge_case(numbers, c)
 }
 
 fn is_comment(line: &[u8]) -> bool
     ensures { result ≡ true → take 1 line.now ≡ 35 ∷ [] }
 {
-    if line.len() == 0 {
-        return false;
-    }
-    line[0] == b'#'
+    line.starts_with(b"#")
 }
 
 // What agrees is proved to be what the definitions give, and nothing but a comment is passed over.
-pub fn judge(line: &[u8]) -> Verdict
-    ensures { Told line.now result }
+pub fn judge(line: &[u8]) -> Result<Verdict, Malformed>
+    ensures { IfOk result (Told line.now) }
 {
     if is_comment(line) {
-        return Verdict::Comment;
+        return Ok(Verdict::Comment);
     }
     let mut numbers = [0u32; NUMBERS];
-    let n = parse(line, &mut numbers);
+    let n = parse(line, &mut numbers)?;
     judge_numbers(&numbers[..n])
 }

@@ -9,16 +9,17 @@
 mod case;
 mod input;
 mod judge;
+mod malformed;
 mod numbers;
 mod same;
 mod say;
 mod shape;
 mod tally;
 
-use crate::input::{Held, Line, next_line};
+use crate::input::{Held, LineError, next_line};
 use crate::judge::judge;
 use crate::say::{say_failed, say_malformed, say_replayed};
-use crate::tally::{Counted, count, nothing};
+use crate::tally::{count, nothing};
 use console::buffers::large_buffer;
 use std::io;
 
@@ -30,29 +31,25 @@ fn main(rt: HostRuntime) -> io::Result<()> {
     let mut buffer = large_buffer();
     let mut held = Held { at: 0, end: 0 };
     let mut t = nothing();
-    let mut lines: u64 = 0;
-    while lines < MANY {
+    for lines in 0..MANY {
         match next_line(&mut input, &mut buffer, held) {
-            Line::Found(part) => {
-                let start = part.start;
-                let stop = part.stop;
-                let Counted::To(next) = count(t, judge(&buffer[start..stop])) else {
+            Ok(Some(part)) => {
+                let Ok(verdict) = judge(&buffer[part.start..part.stop]) else {
                     return say_malformed(&rt, t);
                 };
-                t = next;
+                t = count(t, verdict);
                 held = Held {
-                    at: stop + 1,
+                    at: part.stop + 1,
                     end: part.end,
                 };
-                lines += 1;
             }
-            Line::Ended => {
+            Ok(None) => {
                 return say_replayed(&rt, t);
             }
-            Line::Broken => {
+            Err(LineError::Broken) => {
                 return say_malformed(&rt, t);
             }
-            Line::Failed => {
+            Err(LineError::Failed) => {
                 return say_failed(&rt, t);
             }
         }

@@ -1,88 +1,24 @@
 // The numbers of a line: decimals with a space between any two.
-ghost use Rattle.std.specs.Prelude.{◌≡◌, length, take};
-ghost use Rattle.replay.specs.Numbers.{unbegun, fed_of, line_numbers};
+ghost use Rattle.std.specs.Prelude.{◌≡◌, length, take, MatchResult, IfOk, []};
+ghost use Rattle.replay.specs.Numbers.{line_numbers};
 
-// What was read of a number: whether it has a digit yet, and its value so far.
-#[derive(Clone, Copy)]
-pub struct Number {
-    pub begun: bool,
-    pub value: u32,
-}
+use crate::malformed::Malformed;
+use console::digits::decimal_in;
 
-// What the next byte makes of it.
-#[derive(Clone, Copy)]
-pub enum Fed {
-    Grown(u32),
-    Ended,
-    Malformed,
-}
-
-fn feed(n: Number, b: u8) -> Fed
-    ensures { result ≡ fed_of n b }
-{
-    if b == b' ' {
-        if n.begun {
-            return Fed::Ended;
-        }
-        return Fed::Malformed;
-    }
-    if b < b'0' {
-        return Fed::Malformed;
-    }
-    if b'9' < b {
-        return Fed::Malformed;
-    }
-    let value = 10 * (n.value as u64) + (b - b'0') as u64;
-    if 0xFFFFFFFF < value {
-        return Fed::Malformed;
-    }
-    Fed::Grown(value as u32)
-}
-
-fn unread() -> Number
-    ensures { result ≡ unbegun }
-{
-    Number {
-        begun: false,
-        value: 0,
-    }
-}
-
-// Puts the line's numbers to the front of the array, and answers how many they are: 0 if the line is no such list, or
-// the array has no room for it.
-pub fn parse(line: &[u8], numbers: &mut [u32]) -> usize
-    ensures value { result ≡ length (line_numbers (length numbers.old) line.now) }
-    ensures numbers_after { take result numbers.new ≡ line_numbers (length numbers.old) line.now }
+// Puts the line's numbers to the front of the array, and answers how many they are, if the line is such a list and the array has
+// room for it.
+pub fn parse(line: &[u8], numbers: &mut [u32]) -> Result<usize, Malformed>
+    ensures value { MatchResult result (λ n. n ≡ length (line_numbers (length numbers.old) line.now)) (λ _. line_numbers (length numbers.old) line.now ≡ []) }
+    ensures numbers_after { IfOk result (λ n. take n numbers.new ≡ line_numbers (length numbers.old) line.now) }
 {
     let mut count: usize = 0;
-    let mut number = unread();
-    let mut i: usize = 0;
-    while i < line.len() {
-        match feed(number, line[i]) {
-            Fed::Grown(value) => {
-                number = Number { begun: true, value };
-                i += 1;
-            }
-            Fed::Ended => {
-                if numbers.len() <= count {
-                    return 0;
-                }
-                numbers[count] = number.value;
-                count += 1;
-                number = unread();
-                i += 1;
-            }
-            Fed::Malformed => {
-                return 0;
-            }
+    for word in line.split(|byte| *byte == b' ') {
+        let number = decimal_in(word, u32::MAX).ok_or(Malformed)?;
+        if numbers.len() <= count {
+            return Err(Malformed);
         }
+        numbers[count] = number;
+        count += 1;
     }
-    if !number.begun {
-        return 0;
-    }
-    if numbers.len() <= count {
-        return 0;
-    }
-    numbers[count] = number.value;
-    count + 1
+    Ok(count)
 }

@@ -2,6 +2,7 @@
 ghost use Rattle.std.specs.Prelude.{◌≤◌};
 ghost use Rattle.replay.specs.Shape.{Past, Shaped};
 
+use crate::malformed::Malformed;
 use meaning::sizes::{EVENT_NUMBERS, TOKEN_NUMBERS};
 
 // The places of three counts: of the tokens, the lines and the events. The count of the text's bytes stands at 6, after the
@@ -11,18 +12,6 @@ pub struct Case {
     pub tokens: usize,
     pub lines: usize,
     pub events: usize,
-}
-
-#[derive(Clone, Copy)]
-pub enum Shape {
-    Case(Case),
-    Malformed,
-}
-
-#[derive(Clone, Copy)]
-pub enum Place {
-    At(usize),
-    Malformed,
 }
 
 // The most that a case may have.
@@ -41,43 +30,32 @@ pub const SETTINGS: usize = 6;
 pub const RECORDED: usize = 8;
 
 // The place after a count and what it counts, which is so many numbers each.
-fn past(numbers: &[u32], at: usize, each: usize, most: u32) -> Place
+fn past(numbers: &[u32], at: usize, each: usize, most: u32) -> Result<usize, Malformed>
     requires { each ≤ 8 }
     ensures { Past numbers.now at each most result }
 {
-    if numbers.len() <= at {
-        return Place::Malformed;
-    }
-    let count = numbers[at];
+    let count = *numbers.get(at).ok_or(Malformed)?;
     if most < count {
-        return Place::Malformed;
+        return Err(Malformed);
     }
     let size = each * count as usize;
     if numbers.len() - at <= size {
-        return Place::Malformed;
+        return Err(Malformed);
     }
-    Place::At(at + 1 + size)
+    Ok(at + 1 + size)
 }
 
-pub fn shape_of(numbers: &[u32]) -> Shape
+pub fn shape_of(numbers: &[u32]) -> Result<Case, Malformed>
     ensures { Shaped numbers.now result }
 {
-    let Place::At(tokens) = past(numbers, SETTINGS, 1, BYTES) else {
-        return Shape::Malformed;
-    };
-    let Place::At(lines) = past(numbers, tokens, TOKEN_NUMBERS, TOKENS) else {
-        return Shape::Malformed;
-    };
-    let Place::At(events) = past(numbers, lines, RECORDED, LINES) else {
-        return Shape::Malformed;
-    };
-    let Place::At(end) = past(numbers, events, EVENT_NUMBERS, EVENTS) else {
-        return Shape::Malformed;
-    };
+    let tokens = past(numbers, SETTINGS, 1, BYTES)?;
+    let lines = past(numbers, tokens, TOKEN_NUMBERS, TOKENS)?;
+    let events = past(numbers, lines, RECORDED, LINES)?;
+    let end = past(numbers, events, EVENT_NUMBERS, EVENTS)?;
     if end != numbers.len() {
-        return Shape::Malformed;
+        return Err(Malformed);
     }
-    Shape::Case(Case {
+    Ok(Case {
         tokens,
         lines,
         events,

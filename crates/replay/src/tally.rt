@@ -12,12 +12,6 @@ pub struct Tally {
     pub first: u64,
 }
 
-#[derive(Clone, Copy)]
-pub enum Counted {
-    To(Tally),
-    Malformed,
-}
-
 pub fn nothing() -> Tally
     ensures { Sound 0 result }
 {
@@ -60,16 +54,15 @@ fn differed(t: Tally) -> Tally
     }
 }
 
-// A comment is no case, and after a line that is malformed there is nothing to count.
-pub fn count(t: Tally, v: Verdict) -> Counted
+// A comment is no case.
+pub fn count(t: Tally, v: Verdict) -> Tally
     requires cases_bound { t.cases < 2 ^ 63 }
     requires differ_bound { t.differ < 2 ^ 63 }
     ensures { result ≡ counted_of t v }
 {
     match v {
-        Verdict::Comment => Counted::To(t),
-        Verdict::Agrees => Counted::To(agreed(t)),
-        Verdict::Differs => Counted::To(differed(t)),
-        Verdict::Malformed => Counted::Malformed,
+        Verdict::Comment => t,
+        Verdict::Agrees => agreed(t),
+        Verdict::Differs => differed(t),
     }
 }

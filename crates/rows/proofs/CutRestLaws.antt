@@ -22,7 +22,7 @@ use Rattle.steps.specs.declared.step.Resumed.{Resumed}
 use Rattle.steps.specs.declared.step.Ended.{Ended}
 use Rattle.steps.proofs.RestLaws.{rest_read}
 use Rattle.blanks.specs.CutRests.{CutRest, cut_end, cut-filled, thin-taken, cut-few, cut_ran}
-use Rattle.placing.specs.LineFrom.{LineAt, line_from}
+use Rattle.placing.specs.LineFrom.{line_from}
 use Rattle.placing.specs.Taken.{Taken, front-taken}
 use Rattle.placing.specs.Laying.{LineReady, passed_from, plainly, placed_by, laid_at}
 use Rattle.placing.specs.PlaceLaws.{place_fine}

@@ -1,8 +1,10 @@
 -- How a pass ends that begins with a soft hyphen, where the word behind it waits and where it is dropped (rule 8).
 -- Assumes nothing.
 use Prim.Native.Nat.{ℕ, ◌+◌, ◌≤◌, max}
+use Rattle.std.specs.Prelude.{None, Option, Some}
+use Rattle.steps.specs.declared.step.Ended.{Ended}
 use native.Mathlib.Omega.{arith}
-use mathlib.Core.Path.{◌≡◌, refl, sym, ap, ◌∙◌}
+use mathlib.Core.Path.{◌≡◌, sym, ap, ◌∙◌}
 use mathlib.Core.Bool.{true, false, ◌&&◌}
 use mathlib.Core.List.{List}
 use borrow.Author.Tests.{eq-eqb, ne_eqb}
@@ -19,15 +21,12 @@ use Rattle.meaning.specs.declared.line.LineEnd.TheVariants.{LineBreak}
 use Rattle.parser.specs.Lexing.{chars_from, lexed_at}
 use Rattle.parser.specs.Marks.{Mark}
 use Rattle.parser.specs.declared.lexeme.Lexeme.{Lexeme}
-use Rattle.parser.specs.declared.lexeme.Lexed.TheVariants.{Token}
 use Rattle.steps.specs.Stepping.{ran_from}
 use Rattle.steps.specs.Running.{PassReady}
 use Rattle.steps.specs.Stopping.{ends_before}
 use Rattle.steps.specs.declared.step.Resumed.{Resumed}
 use Rattle.strides.specs.LoneHyphens.{Lone, lone_measure, lone-waits, lone_drops, lone_ran}
 use Rattle.rows.specs.Hyphened.{Starts, HyphenedIs, Dashes, DashedIs}
-use Rattle.rows.specs.declared.hyphened.Hyphened.{Hyphened}
-use Rattle.rows.specs.declared.hyphened.Hyphened.TheVariants.{Not, Line}
 
 -- The cursor leaves its starting place by a glyph.
 leaves : (c : LineCursor) (g : ℕ) → 1 ≤ g → c.position.0 ≡ c.start.0 → has_moved (advance c g) ≡ true
@@ -46,14 +45,14 @@ starts-at s left sp t at r p e h =
     }
 
 -- A rest of no characters is none.
-pub resumes_none : (s : Settings) (p : Place) (t : List ℕ) (at : ℕ) (r : Resumed) → PassReady s p t at r unmeasured → r.chars.0 ≡ 0 → (h : Hyphened)
+pub resumes_none : (s : Settings) (p : Place) (t : List ℕ) (at : ℕ) (r : Resumed) → PassReady s p t at r unmeasured → r.chars.0 ≡ 0 → (h : Option Ended)
     → DashedIs s p t at h → HyphenedIs s p t at r h
-resumes_none s p t at r f e Not d = tt
-resumes_none s p t at r f e (Line z) d =
+resumes_none s p t at r f e None d = tt
+resumes_none s p t at r f e (Some z) d =
     let k : r.count.0 ≡ 0 = omega (arith, f.rest.counts) in
     d ∙ (λ i. ran_from s p t at (sym e i) (sym k i) unmeasured)
 
-module _ {s : Settings} {p : Place} {t : List ℕ} {at : ℕ} (d : Dashes s p t at) (x : Lexeme) (e : lexed_at (at + 2) (tokens (chars_from t (at + 2))) ≡ Token x)
+module _ {s : Settings} {p : Place} {t : List ℕ} {at : ℕ} (d : Dashes s p t at) (x : Lexeme) (e : lexed_at (at + 2) (tokens (chars_from t (at + 2))) ≡ Some x)
     (k : x.kind ≡ Word) (b : Mark t x.end.0 2)
   where
     abbrev lone : Lone s p t at x

@@ -1,6 +1,6 @@
 -- Lines that are found, written one after the other.
 -- Assumes nothing.
-use Rattle.std.specs.Prelude.{ℕ, suc, ◌+◌, ◌*◌, ◌/◌, ◌≤◌, ◌≡◌, refl, Bool, true, false, List, map, length}
+use Rattle.std.specs.Prelude.{ℕ, suc, ◌+◌, ◌*◌, ◌/◌, ◌≤◌, ◌≡◌, refl, true, false, List, map, length, Option, Some}
 use Rattle.std.proofs.Common.{le-div_iff_mul-le, subst, arith}
 use Rattle.std.proofs.Math.Path.{sym, ap}
 use Rattle.std.proofs.lemmas.Bool.{false≢true}
@@ -34,11 +34,11 @@ plain_stand at before = record { at = record { 0 = at }; before = record { 0 = b
 abbrev pub WentPast : Settings → List ℕ → List ℕ → (n : ℕ) → Stand → List ℕ → Passed → Type 0
 WentPast s t u n p v r = Went s t u n p v r.lines (plain_stand r.at.0 r.before.0)
 
-abbrev pub reached_at : (lines at before : ℕ) → Bool → Reached
-reached_at lines at before done = record { lines = lines; stand = plain_stand at before; done = done }
+abbrev pub reached_at : (lines at before : ℕ) → Reached
+reached_at lines at before = record { lines = lines; stand = Some (plain_stand at before) }
 
 abbrev pub ReachedFrom : Settings → List ℕ → List ℕ → (n : ℕ) → Stand → List ℕ → Reached → Type 0
-ReachedFrom s t u n p v r = Reaches s t u n p v r.lines r.stand r.done
+ReachedFrom s t u n p v r = Reaches s t u n p v r.lines r.stand
 
 -- ---- one such line
 
@@ -135,6 +135,6 @@ module _ (s : Settings) (t : List ℕ) (p : Stand) (c : StandReady s t p) (none 
   all_here : (u : List ℕ) (n : ℕ) (v : List ℕ) (m : ℕ) → AllWritten s t u n here v m → AllWritten s t u n p v m
   all_here u n v m a = record { count = rw (sym entries_here) a.count; put = rw (sym entries_here) a.put }
 
-  pub reaches_here : (u : List ℕ) (n : ℕ) (v : List ℕ) (m : ℕ) (q : Stand) (done : Bool) → Reaches s t u n here v m q done → Reaches s t u n p v m q done
-  reaches_here u n v m q done r =
-      record { same = r.same; on = λ e. went-here u n v m q (r.on e); all = λ e. all_here u n v m (r.all e) }
+  pub reaches_here : (u : List ℕ) (n : ℕ) (v : List ℕ) (m : ℕ) (q : Option Stand) → Reaches s t u n here v m q → Reaches s t u n p v m q
+  reaches_here u n v m q r =
+      record { same = r.same; on = λ next e. went-here u n v m next (r.on next e); all = λ e. all_here u n v m (r.all e) }

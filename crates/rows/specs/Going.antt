@@ -1,8 +1,8 @@
 -- Lines written one after the other from a stand on: what is still to be written stays the same.
 -- Assumes nothing.
-use Rattle.std.specs.Prelude.{ℕ, ◌+◌, ◌*◌, ◌≤◌, ◌≡◌, refl, Bool, true, false, List, [], ◌∷◌, length}
-use Rattle.std.proofs.Common.{arith, sym, ap, ◌∙◌}
-use Rattle.std.proofs.lemmas.Bool.{false≢true}
+use Rattle.std.specs.Prelude.{ℕ, ◌+◌, ◌*◌, ◌≤◌, ◌≡◌, refl, true, false, List, [], ◌∷◌, length, Option, Some, None}
+use Rattle.std.proofs.Common.{arith, sym, ap, subst, ◌∙◌}
+use Rattle.std.proofs.lemmas.Option.{none-some, same_Some}
 use Rattle.meaning.specs.Checks.{text_limit}
 use Rattle.meaning.specs.Table.{entry_numbers, of_entry, of_all, written}
 use Rattle.meaning.specs.declared.settings.Settings.{Settings}
@@ -11,7 +11,7 @@ use Rattle.rows.specs.Standing.{StandReady, laid_row, ready-next, further}
 use Rattle.stands.specs.Stands.{StandsAt}
 use Rattle.rows.specs.RowsFrom.{entries_of, entries_from, entry_here, some_entries, few_entries, last_entry, more_entries}
 use Rattle.rows.specs.Writing.{lines_put, none-put, first-put}
-use Rattle.rows.specs.Turns.{Counted, Wrote}
+use Rattle.rows.specs.Turns.{Wrote}
 use Rattle.stands.specs.declared.stand.Stand.{Stand}
 use Rattle.stands.specs.declared.row.LaidRow.{LaidRow}
 
@@ -29,10 +29,10 @@ pub record AllWritten (s : Settings) (t u : List ℕ) (n : ℕ) (p : Stand) (v :
   pub put : v ≡ lines_put u n (entries_from s t 0 p)
 
 -- The one, or the other.
-pub record Reaches (s : Settings) (t u : List ℕ) (n : ℕ) (p : Stand) (v : List ℕ) (m : ℕ) (q : Stand) (done : Bool) : Type 0 where
+pub record Reaches (s : Settings) (t u : List ℕ) (n : ℕ) (p : Stand) (v : List ℕ) (m : ℕ) (q : Option Stand) : Type 0 where
   pub same : length v ≡ length u
-  pub on : done ≡ false → Went s t u n p v m q
-  pub all : done ≡ true → AllWritten s t u n p v m
+  pub on : (next : Stand) → q ≡ Some next → Went s t u n p v m next
+  pub all : q ≡ None → AllWritten s t u n p v m
 
 -- There is room in a table for all lines from a stand on, behind n others, and no count of them wraps.
 abbrev pub RoomFrom : Settings → List ℕ → List ℕ → (n : ℕ) → Stand → Type 0
@@ -63,8 +63,8 @@ module _ (s : Settings) (t u : List ℕ) (n : ℕ) (p : Stand) where
           forward = omega (arith, g.forward, h.forward);
         }
 
-    pub reaches_on : Reaches s t u n p v m q false
-    reaches_on = record { same = g.same; on = λ _. g; all = λ e. absurd (false≢true e) }
+    pub reaches_on : Reaches s t u n p v m (Some q)
+    reaches_on = record { same = g.same; on = λ next e. subst (Went s t u n p v m) (same_Some q next e) g; all = λ e. absurd (none-some q (sym e)) }
 
     pub went-few : RoomFrom s t u n p → m ≤ text_limit
     went-few room = omega (arith, g.count, room.1, some_entries s t 0 q)
@@ -110,9 +110,9 @@ module _ (s : Settings) (t u : List ℕ) (n : ℕ) (p : Stand) where
                   ∙ g.left;
             }
 
-pub reaches_all : (s : Settings) (t u : List ℕ) (n : ℕ) (p : Stand) (v : List ℕ) (m : ℕ) (q : Stand) → length v ≡ length u → AllWritten s t u n p v m
-    → Reaches s t u n p v m q true
-reaches_all s t u n p v m q same a = record { same = same; on = λ e. absurd (false≢true (sym e)); all = λ _. a }
+pub reaches_all : (s : Settings) (t u : List ℕ) (n : ℕ) (p : Stand) (v : List ℕ) (m : ℕ) → length v ≡ length u → AllWritten s t u n p v m
+    → Reaches s t u n p v m None
+reaches_all s t u n p v m same a = record { same = same; on = λ next e. absurd (none-some next e); all = λ _. a }
 
 -- What the loop over all lines keeps is kept so.
 pub wrote_on : (s : Settings) (t t₀ u : List ℕ) (n : ℕ) (p : Stand) (v : List ℕ) (m : ℕ) (q : Stand) → Wrote s t t₀ u n p → Went s t u n p v m q → Wrote s t t₀ v m q

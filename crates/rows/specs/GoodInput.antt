@@ -1,6 +1,6 @@
 -- What the checks of settings and text say for the lines: no sum wraps.
 -- Assumes nothing.
-use Rattle.std.specs.Prelude.{ℕ, ◌≡◌, true, ◌&&◌, List}
+use Rattle.std.specs.Prelude.{ℕ, ◌≡◌, true, ◌&&◌, List, Err, Ok}
 use borrow.Author.Tests.{leb-true}
 use Rattle.std.proofs.Math.Dec.{leb}
 use Rattle.basis.specs.Choice.{pick, and_true}
@@ -9,18 +9,17 @@ use Rattle.meaning.specs.Settings.{top_in_range, sizes_in_range, in_range, is_sw
 use Rattle.meaning.specs.Checks.{check_settings, check_text}
 use Rattle.meaning.specs.declared.settings.Settings.{Settings}
 use Rattle.meaning.specs.declared.refusals.Refusal.TheVariants.{SettingOutOfRange, UnknownAlignment}
-use Rattle.meaning.specs.declared.refusals.Checked.TheVariants.{Good, Refused}
 use Rattle.parser.specs.GoodText.{good_length}
 use Rattle.moves.specs.Fine.{FineSettings}
 use Rattle.laws.specs.GoodLines.{good-both}
 use Rattle.rows.specs.RowsFrom.{TextReady}
 
-module _ (s : Settings) (h : check_settings s ≡ Good) where
+module _ (s : Settings) (h : check_settings s ≡ Ok tt) where
   judged : (in_range s ≡ true) × (known_alignment s.alignment ≡ true)
   unfolding check_settings
   judged =
-      let vertical = pick (known_vertical s.vertical) Good (Refused (UnknownAlignment s.vertical)) in
-      let a = good-both (in_range s) (pick (known_alignment s.alignment) vertical (Refused (UnknownAlignment s.alignment))) SettingOutOfRange h in
+      let vertical = pick (known_vertical s.vertical) (Ok tt) (Err (UnknownAlignment s.vertical)) in
+      let a = good-both (in_range s) (pick (known_alignment s.alignment) vertical (Err (UnknownAlignment s.alignment))) SettingOutOfRange h in
       (a.0, (good-both (known_alignment s.alignment) vertical (UnknownAlignment s.alignment) a.1).0)
 
   pub fine_settings : FineSettings s
@@ -55,5 +54,5 @@ module _ (s : Settings) (h : check_settings s ≡ Good) where
         leb-true s.leading 1 leading.1,
       )
 
-  pub text-ready : (t : List ℕ) → check_text t ≡ Good → TextReady s t
+  pub text-ready : (t : List ℕ) → check_text t ≡ Ok tt → TextReady s t
   text-ready t e = record { settings = fine_settings; short = good_length t e }

@@ -9,7 +9,6 @@ use Rattle.meaning.specs.declared.settings.Settings.{Settings}
 use Rattle.meaning.specs.declared.counts.Offset.{Offset}
 use Rattle.meaning.specs.declared.line.LineEnd.{LineEnd}
 use Rattle.meaning.specs.declared.line.LineEnd.TheVariants.{NewLine, CarriageReturn, EndOfText, LineBreak}
-use Rattle.parser.specs.Shorter.{Between}
 use Rattle.steps.specs.Knowing.{KnownFits}
 use Rattle.placing.specs.Laying.{LineReady}
 use Rattle.placing.specs.LineFrom.{LineAt, line_from}

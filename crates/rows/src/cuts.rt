@@ -41,10 +41,9 @@ pub fn write_cuts(
     let mut at = start;
     let mut before = chars;
     let mut left = word.chars.0;
-    let reach = word.reach;
     while most < left {
         let next = cut_row(text, at as usize, word, left, most);
-        let entry = plain_entry(s, Offset(at), most, reach, Chars(before));
+        let entry = plain_entry(s, Offset(at), most, word.reach, Chars(before));
         write_entry(table, n, entry);
         n += 1;
         at = next as u32;
@@ -72,13 +71,12 @@ pub fn write_long(
     requires room_from { RoomFrom s text.now table.old lines (plain_stand start chars) }
     ensures { Went s text.now table.old lines (plain_stand start chars) table.new result.lines (plain_stand result.at result.before) }
 {
-    let word = long_word(text, start as usize, most);
-    if word.chars.0 == 0 {
+    let Some(word) = long_word(text, start as usize, most) else {
         return CutTo {
             lines,
             at: start,
             before: chars,
         };
-    }
+    };
     write_cuts(text, s, table, lines, start, chars, most, word)
 }

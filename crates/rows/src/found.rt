@@ -9,7 +9,7 @@ use crate::line::is_last;
 use crate::plain::{plain_stand, write_plain};
 use meaning::counts::{Chars, Offset};
 use meaning::settings::Settings;
-use parser::lexeme::Lexed;
+use parser::lexeme::Lexeme;
 use placing::long_word::long_known;
 use placing::plain::ended_entry;
 use placing::told::told_row;
@@ -17,19 +17,21 @@ use stands::stand::Stand;
 use steps::first::Known;
 use table::entries::write_entry;
 
-// How many lines are in the table, and where the next one is to be laid; or that none is left.
+// How many lines are in the table, and where the next one is to be laid, if any is left.
 #[derive(Clone, Copy)]
 pub struct Reached {
     pub lines: usize,
-    pub stand: Stand,
-    pub done: bool,
+    pub stand: Option<Stand>,
 }
 
-fn reached_at(lines: usize, at: u32, before: u32, done: bool) -> Reached
-    ensures { result ≡ reached_at lines at before done }
+fn reached_at(lines: usize, at: u32, before: u32) -> Reached
+    ensures { result ≡ reached_at lines at before }
 {
     let stand = plain_stand(Offset(at), Chars(before));
-    Reached { lines, stand, done }
+    Reached {
+        lines,
+        stand: Some(stand),
+    }
 }
 
 // As many lines as follow one another from an offset on and are told by their bytes: those of plain words as many as there are, then
@@ -62,19 +64,19 @@ fn write_told(
         if far.at.0 < at {
             continue;
         }
-        let row = told_row(text, at as usize, most);
+        let Some(row) = told_row(text, at as usize, most) else {
+            return reached_at(n, at, before);
+        };
         let next = row.next.0;
-        if next == 0 {
-            return reached_at(n, at, before, false);
-        }
         let columns = row.columns.0;
-        let reach = row.reach;
-        let ended = row.ended;
-        let entry = ended_entry(s, Offset(at), columns, reach, Chars(before), ended);
+        let entry = ended_entry(s, Offset(at), columns, row.reach, Chars(before), row.ended);
         write_entry(table, n, entry);
         n += 1;
-        if is_last(ended) {
-            return reached_at(n, at, before, true);
+        if is_last(row.ended) {
+            return Reached {
+                lines: n,
+                stand: None,
+            };
         }
         at = next;
         before += columns + 1;
@@ -83,11 +85,7 @@ fn write_told(
 
 // Is a word known, or another token.
 pub fn is_known(known: Known) -> bool {
-    let first = known.first;
-    match first {
-        Lexed::Token(_) => true,
-        Lexed::End => false,
-    }
+    known.first.is_some()
 }
 
 // The lines that a known word fills, which may be none.
@@ -98,17 +96,14 @@ fn write_known(text: &[u8], s: Settings, table: &mut [u32], lines: usize, stand:
 {
     let most = s.width.0 / s.glyph.0;
     let at = stand.at.0;
-    let known = stand.known;
-    let word = long_known(text, at as usize, known, most);
-    if word.chars.0 == 0 {
+    let Some(word) = long_known(text, at as usize, stand.known, most) else {
         return Reached {
             lines,
-            stand,
-            done: false,
+            stand: Some(stand),
         };
-    }
+    };
     let far = write_cuts(text, s, table, lines, at, stand.before.0, most, word);
-    reached_at(far.lines, far.at, far.before, false)
+    reached_at(far.lines, far.at, far.before)
 }
 
 // As many such lines as follow from a stand on where nothing is resumed. There may be none.
@@ -120,7 +115,5 @@ pub fn write_on(text: &[u8], s: Settings, table: &mut [u32], lines: usize, stand
     if is_known(stand.known) {
         return write_known(text, s, table, lines, stand);
     }
-    let at = stand.at;
-    let before = stand.before;
-    write_told(text, s, table, lines, at, before)
+    write_told(text, s, table, lines, stand.at, stand.before)
 }

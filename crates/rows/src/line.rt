@@ -7,7 +7,7 @@ ghost use Rattle.rows.specs.Standing.{is_last, row_of};
 ghost use Rattle.rows.specs.Passing.{line_by, LaidBy};
 ghost use Rattle.placing.specs.Laying.{LineReady, passed_from, plainly, as_measured, placed_by, laid_at};
 
-use crate::hyphened::{Hyphened, hyphened_pass};
+use crate::hyphened::hyphened_pass;
 use crate::pass::run_pass;
 use crate::resumed::{is_cut_again, lay_rest};
 use meaning::counts::{Chars, Offset, Pixels};
@@ -18,7 +18,7 @@ use moves::place::start_place;
 use placing::alignment::{place_line, plain_spaces};
 use placing::cut::cut_line;
 use placing::entry::entry_at;
-use placing::quick::{Quick, quick_line};
+use placing::quick::quick_line;
 use placing::taken::chars_to;
 use stands::row::LaidRow;
 use steps::first::{Known, known_here};
@@ -76,11 +76,8 @@ fn placed_by(s: Settings, e: Ended) -> Placed
     requires { FineSettings s × (e.measure.count.0 ≤ 65535) }
     ensures { result ≡ placed_by s e }
 {
-    let ended = e.ended;
     let m = e.measure;
-    let width = m.width;
-    let count = m.count;
-    place_line(s, ended, width, count)
+    place_line(s, e.ended, m.width, m.count)
 }
 
 // The pass over a line that is so placed.
@@ -88,10 +85,8 @@ fn pass_over(text: &[u8], s: Settings, at: usize, rest: Resumed, p: Placed, know
     requires { LineReady s text.now at rest × FineSpaces p.spaces × (p.left.0 ≤ s.width.0) × KnownFits text.now known }
     ensures { result ≡ passed_from s text.now at rest p }
 {
-    let left = p.left;
-    let spaces = p.spaces;
-    let start = start_place(s, left, spaces);
-    if let Hyphened::Line(e) = hyphened_pass(text, s, start, at, rest) {
+    let start = start_place(s, p.left, p.spaces);
+    if let Some(e) = hyphened_pass(text, s, start, at, rest) {
         return e;
     }
     run_pass(text, s, start, at, rest, nothing_measured(), known)
@@ -111,14 +106,12 @@ fn laid_at(
     ensures { result ≡ row_of (laid_at at.0 before.0 rest p width.0 looked.0 e chars.0) }
 {
     let entry = entry_at(at, before, rest, p, width, looked, e);
-    let ended = e.ended;
-    let last = is_last(ended);
-    let next = e.next;
+    let last = is_last(e.ended);
     let held = e.rest;
     LaidRow {
         entry,
         last,
-        next,
+        next: e.next,
         chars,
         rest: held,
     }
@@ -137,10 +130,9 @@ fn laid_alike(
     ensures { result ≡ row_of (laid_at at.0 before.0 rest (placed_by s e) e.measure.width.0 e.reach.0 e chars.0) }
 {
     let m = e.measure;
-    let width = m.width;
     let p = placed_by(s, e);
     let looked = e.reach;
-    laid_at(at, before, rest, p, width, looked, e, chars)
+    laid_at(at, before, rest, p, m.width, looked, e, chars)
 }
 
 // The line in two passes. One that is placed as it was measured is drawn as it was.
@@ -153,26 +145,23 @@ fn lay_twice(text: &[u8], s: Settings, at: usize, rest: Resumed, known: Known) -
     }
     let first = pass_over(text, s, at, rest, placed_plainly(s), known);
     let m = first.measure;
-    let width = m.width;
     let p = placed_by(s, first);
     let looked = first.reach;
     if as_measured(s, p) {
-        let next = first.next;
-        let chars = chars_to(text, at, next);
+        let chars = chars_to(text, at, first.next);
         return Passes {
             placed: p,
-            width,
+            width: m.width,
             looked,
             drawn: first,
             chars,
         };
     }
     let drawn = pass_over(text, s, at, rest, p, known);
-    let next = drawn.next;
-    let chars = chars_to(text, at, next);
+    let chars = chars_to(text, at, drawn.next);
     Passes {
         placed: p,
-        width,
+        width: m.width,
         looked,
         drawn,
         chars,
@@ -184,11 +173,8 @@ fn laid_by(at: Offset, before: Chars, rest: Resumed, x: Passes) -> LaidRow
     ensures { result ≡ row_of (line_by at.0 before.0 rest x) }
 {
     let p = x.placed;
-    let width = x.width;
-    let looked = x.looked;
     let e = x.drawn;
-    let chars = x.chars;
-    laid_at(at, before, rest, p, width, looked, e, chars)
+    laid_at(at, before, rest, p, x.width, x.looked, e, x.chars)
 }
 
 // The line at an offset of a text, behind so many characters and after a rest that it resumes, where a word may be known.
@@ -205,12 +191,12 @@ pub fn lay_line(
 {
     let start = at as u32;
     if rest.chars.0 == 0 {
-        if let Quick::Line(e, n) = quick_line(text, s, at, known) {
-            return laid_alike(s, Offset(start), before, rest, e, n);
+        if let Some(q) = quick_line(text, s, at, known) {
+            return laid_alike(s, Offset(start), before, rest, q.ended, q.taken);
         }
         let here = known_here(text, at, known);
-        if let Quick::Line(e, n) = cut_line(text, s, at, here) {
-            return laid_alike(s, Offset(start), before, rest, e, n);
+        if let Some(q) = cut_line(text, s, at, here) {
+            return laid_alike(s, Offset(start), before, rest, q.ended, q.taken);
         }
         let x = lay_twice(text, s, at, rest, here);
         return laid_by(Offset(start), before, rest, x);

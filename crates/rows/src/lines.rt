@@ -37,8 +37,7 @@ fn write_each(text: &[u8], s: Settings, table: &mut [u32]) -> usize
     let mut stand = at_start(text);
     loop {
         let row = lay_row(text, s, stand);
-        let entry = row.entry;
-        write_entry(table, n, entry);
+        write_entry(table, n, row.entry);
         n += 1;
         if row.last {
             return n;
@@ -60,14 +59,17 @@ fn write_found(text: &[u8], s: Settings, table: &mut [u32]) -> usize
         if stand.rest.chars.0 == 0 {
             let far = write_on(text, s, table, n, stand);
             n = far.lines;
-            if far.done {
-                return n;
+            match far.stand {
+                Some(next) => {
+                    stand = next;
+                }
+                None => {
+                    return n;
+                }
             }
-            stand = far.stand;
         }
         let row = lay_row(text, s, stand);
-        let entry = row.entry;
-        write_entry(table, n, entry);
+        write_entry(table, n, row.entry);
         n += 1;
         if row.last {
             return n;

@@ -5,17 +5,16 @@ ghost use Rattle.steps.specs.Unrolled as unrolled;
 ghost use Rattle.steps.specs.Knowing.{KnownFits};
 ghost use Rattle.steps.specs.Running.{PassReady};
 
-use basis::numbers::greater;
 use blanks::ahead::look_after;
 use blanks::token::step_token;
 use meaning::counts::{Chars, Offset};
 use meaning::cursor::Place;
 use meaning::line::{LineEnd, Measure};
 use meaning::settings::Settings;
-use parser::lexeme::Lexed;
+use parser::lexeme::Lexeme;
 use steps::ending::{ends_before, nothing_left};
 use steps::first::{Known, first_token};
-use steps::foreseen::Foreseen;
+use steps::foreseen::Look;
 use steps::step::{Ended, Resumed, Stepped};
 use strides::strides::strides_unless;
 use strides::waiting::ends_waiting;
@@ -24,7 +23,7 @@ use strides::waiting::ends_waiting;
 fn looked_to(reach: u32, e: Ended) -> Ended
     ensures { result ≡ unrolled.farther reach e }
 {
-    let far = greater(reach, e.reach.0);
+    let far = reach.max(e.reach.0);
     let mut all = e;
     all.reach.0 = far;
     all
@@ -48,7 +47,7 @@ pub fn run_pass(
     let mut held = rest;
     let mut sum = m;
     let mut reach: u32 = 0;
-    let mut seen = Foreseen::Nothing;
+    let mut seen = None;
     loop {
         let g = strides_unless(text, s, p, at, held, sum, seen);
         if g.waits.next.0 != 0 {
@@ -58,16 +57,16 @@ pub fn run_pass(
         let so = g.measure;
         let to = g.at.0 as usize;
         let token = first_token(text, to, held, known);
-        let Lexed::Token(x) = token else {
+        let Some(x) = token else {
             let end = g.at;
-            let far = greater(reach, end.0 + 1);
+            let far = reach.max(end.0 + 1);
             return ends_before(LineEnd::EndOfText, so, end, Chars(0), Offset(far));
         };
         let ahead = look_after(text, s, here, to, x, seen);
         let stepped = step_token(text, s, here, to, x, so, ahead);
         match stepped {
             Stepped::Go(q, n, far) => {
-                reach = greater(reach, greater(x.reach.0, far.0));
+                reach = reach.max(x.reach.0.max(far.0));
                 p = q;
                 sum = n;
                 at = x.end.0 as usize;
@@ -75,7 +74,7 @@ pub fn run_pass(
                 seen = ahead;
             }
             Stepped::Stop(e) => {
-                return looked_to(greater(reach, x.reach.0), e);
+                return looked_to(reach.max(x.reach.0), e);
             }
         }
     }

@@ -52,18 +52,16 @@ pub fn write_plain(
     let mut at = start.0;
     let mut before = chars.0;
     loop {
-        let line = plain_row(text, at as usize, most);
-        let end = line.end.0;
-        if end == 0 {
+        let Some(line) = plain_row(text, at as usize, most) else {
             return Passed {
                 lines: n,
                 at: Offset(at),
                 before: Chars(before),
             };
-        }
+        };
+        let end = line.end.0;
         let columns = end - at;
-        let reach = line.reach;
-        let entry = plain_entry(s, Offset(at), columns, reach, Chars(before));
+        let entry = plain_entry(s, Offset(at), columns, line.reach, Chars(before));
         write_entry(table, n, entry);
         n += 1;
         at = end + 1;

@@ -7,7 +7,6 @@ ghost use Rattle.rows.specs.Passing.{LaidBy};
 ghost use Rattle.rows.specs.CutRests.{CutAgain, CutNumbers};
 
 use crate::line::Passes;
-use basis::numbers::lesser;
 use blanks::spaces::held_rest;
 use meaning::counts::{Chars, Offset, Pixels};
 use meaning::line::LineEnd;
@@ -37,10 +36,7 @@ fn cut_again(at: usize, rest: Resumed, fitting: u32, taken: u32, reach: u32) -> 
     requires { CutNumbers at rest fitting taken }
     ensures { result ≡ cut_end at rest fitting taken reach }
 {
-    let end = rest.end;
-    let chars = rest.chars;
-    let count = rest.count;
-    let left = held_rest(end, chars, count, taken);
+    let left = held_rest(rest.end, rest.chars, rest.count, taken);
     let measure = noted_space(nothing_measured(), Chars(fitting), Pixels(0));
     let next = at as u32 + taken;
     Ended {
@@ -62,7 +58,7 @@ pub fn lay_rest(text: &[u8], s: Settings, at: usize, rest: Resumed) -> Passes
     let ender = ender_at(text, rest.end.0 as usize);
     let reach = rest.end.0 + ender;
     let fitting = (s.width.0 - placed.left.0) / s.glyph.0;
-    let taken = lesser(fitting + 1, rest.count.0);
+    let taken = (fitting + 1).min(rest.count.0);
     let drawn = cut_again(at, rest, fitting, taken, reach);
     Passes {
         placed,

@@ -13,8 +13,6 @@ pub fn lay_row(text: &[u8], s: Settings, stand: Stand) -> LaidRow
     ensures { result ≡ laid_row s text.now stand }
 {
     let at = stand.at.0 as usize;
-    let before = stand.before;
     let held = stand.rest;
-    let known = stand.known;
-    lay_line(text, s, at, before, held, known)
+    lay_line(text, s, at, stand.before, held, stand.known)
 }

@@ -87,11 +87,15 @@ pub fn next_stand(text: &[u8], stand: Stand, row: LaidRow) -> Stand
     requires { NextReady text.now stand row }
     ensures { StandsAt text.now row.next (stand.before.0 + row.chars.0) row.rest result }
 {
-    let next = row.next;
     let before = stand.before.0 + row.chars.0;
-    let rest = row.rest;
-    let known = stand.known;
     let from = stand.at;
-    let chars = row.chars;
-    stand_at(text, next, Chars(before), rest, known, from, chars)
+    stand_at(
+        text,
+        row.next,
+        Chars(before),
+        row.rest,
+        stand.known,
+        from,
+        row.chars,
+    )
 }

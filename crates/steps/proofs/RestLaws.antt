@@ -1,6 +1,7 @@
 -- What a line resumes, and the character that ends it.
 -- Assumes nothing.
 use Prim.Native.Nat.{ℕ, zero, suc, ◌+◌, ◌≤◌}
+use Rattle.std.specs.Prelude.{Some}
 use native.Mathlib.Nat.{add_assoc}
 use native.Mathlib.Omega.{arith}
 use mathlib.Core.Path.{◌≡◌, refl, sym}
@@ -15,7 +16,6 @@ use Rattle.laws.specs.TokenLaws.{length-size}
 use Rattle.laws.specs.PassBounds.{size-take}
 use Rattle.parser.specs.NextLaws.{chars_after}
 use Rattle.parser.specs.Lexing.{chars_from, lexeme_at, lexed_at}
-use Rattle.parser.specs.declared.lexeme.Lexed.TheVariants as lexed
 use Rattle.steps.specs.Lexed.{chars-within}
 use Rattle.steps.specs.declared.step.Resumed.{Resumed}
 use Rattle.steps.specs.Pending.{RestFits, rest_lexeme}
@@ -32,7 +32,7 @@ part-inside t at k d h =
 
 read-rest : (t : List ℕ) (at chars count end : ℕ) → chars ≤ length (chars_from t at) → (chars ≡ 0 → ⊥)
     → end ≡ at + size (take chars (chars_from t at))
-    → lexed.Token
+    → Some
     (rest_lexeme (record { end = record { 0 = end }; chars = record { 0 = chars }; count = record { 0 = count } }) (ender (chars_from t end)))
     ≡ lexed_at at (held_tokens chars count (chars_from t at))
 unfolding rest_lexeme held_tokens lexed_at lexeme_at chars_of size_of need_of ender_of
@@ -46,7 +46,7 @@ module _ (t : List ℕ) (at : ℕ) (r : Resumed) (f : RestFits t at r) (d : r.ch
   pub rest-inside : r.end.0 ≤ length t
   rest-inside = rw (f.ends d) (part-inside t at r.chars.0 d f.within)
 
-  pub rest_read : (n : ℕ) → n ≡ ender (chars_from t r.end.0) → lexed.Token (rest_lexeme r n) ≡ lexed_at at (held_tokens r.chars.0 r.count.0 (chars_from t at))
+  pub rest_read : (n : ℕ) → n ≡ ender (chars_from t r.end.0) → Some (rest_lexeme r n) ≡ lexed_at at (held_tokens r.chars.0 r.count.0 (chars_from t at))
   rest_read n e = rw e (read-rest t at r.chars.0 r.count.0 r.end.0 f.within d (f.ends d))
 
 pub ender-at-most : (t : List ℕ) (at n : ℕ) → n ≡ ender (chars_from t at) → n ≤ 4

@@ -1,6 +1,7 @@
 -- A step that ends a line and holds something holds all of its token that it does not take (rule 9).
 -- Assumes nothing.
-use Rattle.std.specs.Prelude.{ℕ, ◌+◌, ◌-◌, ◌*◌, ◌/◌, ◌≤◌, min, ◌≡◌, refl, ◌&&◌, ◌||◌, List, eqb, length}
+use Rattle.std.specs.Prelude.{ℕ, ◌+◌, ◌-◌, ◌*◌, ◌/◌, ◌≤◌, min, ◌≡◌, refl, ◌&&◌, ◌||◌, List, eqb, length, None, Option, Some}
+use Rattle.meaning.specs.declared.counts.Pixels.{Pixels}
 use Rattle.std.proofs.Math.Bool.{not}
 use Rattle.std.proofs.Common.{arith}
 use Rattle.basis.specs.Choice.{pick_cases}
@@ -11,8 +12,6 @@ use Rattle.meaning.specs.Lookahead.{Looked}
 use Rattle.meaning.specs.LineIter.{Held, nothing_held, held_after, Step, go, stop, skips, cut_run, on_space, on_tab, hyphenated, on_break, wrap_on, unfit_word, cut_word, on_word, step}
 use Rattle.meaning.specs.declared.settings.Settings.{Settings}
 use Rattle.meaning.specs.declared.cursor.Place.{Place}
-use Rattle.meaning.specs.declared.cursor.NextWord.{NextWord}
-use Rattle.meaning.specs.declared.cursor.NextWord.TheVariants.{Nothing, Width}
 use Rattle.laws.specs.Spell.{spell, SoundTok}
 
 -- Of a token of n characters k are taken: nothing is held, or all the others are.
@@ -44,10 +43,10 @@ module _ (s : Settings) (p : Place) (at : ℕ) where
       let P = WholeStep 1 in
       pick_cases P (skips s p) (λ _. tt) λ _. pick_cases P (fits_in p.cursor (tab_width p.cursor)) (λ _. tt) (λ _. tt)
 
-  break_whole : (w : NextWord) (r : ℕ) → WholeStep 1 (on_break s p at w r)
+  break_whole : (w : Option Pixels) (r : ℕ) → WholeStep 1 (on_break s p at w r)
   unfolding on_break hyphenated
-  break_whole Nothing r = tt
-  break_whole (Width w) r =
+  break_whole None r = tt
+  break_whole (Some w) r =
       let P = WholeStep 1 in
       pick_cases P (p.empty || not (fits_in p.cursor w.0))
       (λ _.

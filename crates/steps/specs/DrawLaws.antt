@@ -1,6 +1,6 @@
 -- Whether white space is drawn, and a space run that fits.
 -- Assumes nothing.
-use Rattle.std.specs.Prelude.{ℕ, ◌+◌, ◌≡◌, true, false, List}
+use Rattle.std.specs.Prelude.{ℕ, ◌+◌, ◌≡◌, true, false, List, Option, Some}
 use Rattle.std.proofs.Math.Path.{sym}
 use Rattle.std.proofs.Common.{ap, ◌∙◌, eq-eqb, ne_eqb}
 use Rattle.basis.specs.Choice.{pick}
@@ -19,8 +19,6 @@ use Rattle.steps.specs.Stepping.{look_of}
 use Rattle.steps.specs.Runs.{whole_answer}
 use Rattle.steps.specs.Foreseeing.{Foresees}
 use Rattle.steps.specs.declared.foreseen.Look.{Look}
-use Rattle.steps.specs.declared.foreseen.Foreseen.{Foreseen}
-use Rattle.steps.specs.declared.foreseen.Foreseen.TheVariants.{Known}
 use Rattle.steps.specs.declared.step.Stepped.TheVariants.{Go}
 
 module _ (s : Settings) (q : Place) (at : ℕ) (ts : List Tok) where
@@ -34,8 +32,8 @@ module _ (s : Settings) (q : Place) (at : ℕ) (ts : List Tok) where
   draws-some l e g = rw e g
 
   -- The look is known.
-  pub draws-known : (f : Foreseen) (l : Look) → q.empty ≡ false → Foresees s.glyph.0 q.cursor q.spaces at ts f
-      → f ≡ Known l → l ≡ look_of (draws_space s q at ts)
+  pub draws-known : (f : Option Look) (l : Look) → q.empty ≡ false → Foresees s.glyph.0 q.cursor q.spaces at ts f
+      → f ≡ Some l → l ≡ look_of (draws_space s q at ts)
   draws-known f l e h k = draws-some l e (rw k at h)
 
 module _ (s : Settings) (q : Place) (t : List ℕ) (x : Lexeme) (width : ℕ) (m : Measure) (l : Look)

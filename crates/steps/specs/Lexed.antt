@@ -1,6 +1,6 @@
 -- What a token that was read at an offset of a text says of the text.
 -- Assumes nothing.
-use Rattle.std.specs.Prelude.{ℕ, ◌+◌, ◌-◌, ◌≤◌, ◌<◌, ◌≡◌, refl, List, [], ◌∷◌, ◌++◌, length, drop}
+use Rattle.std.specs.Prelude.{ℕ, ◌+◌, ◌-◌, ◌≤◌, ◌<◌, ◌≡◌, refl, List, [], ◌∷◌, ◌++◌, length, drop, None, Some}
 use Rattle.std.proofs.Common.{arith, sym, ap, ◌∙◌, subst, length-drop, take_at}
 use Rattle.utf8.specs.Encoding.{size}
 use Rattle.utf8.specs.Sizes.{size_append}
@@ -14,7 +14,6 @@ use Rattle.laws.specs.Reaches.{need_bound}
 use Rattle.parser.specs.NextLaws.{chars_after, next-none}
 use Rattle.parser.specs.Lexing.{chars_from, glues_of, lexeme_at, lexed_at}
 use Rattle.parser.specs.declared.lexeme.Lexeme.{Lexeme}
-use Rattle.parser.specs.declared.lexeme.Lexed.TheVariants as lexed
 use Rattle.steps.specs.Stepping.{tok_of}
 
 -- The characters from an offset on lie in the text.
@@ -98,7 +97,7 @@ module _ (t : List ℕ) (at : ℕ) (u : Tok) (r : List ℕ) (h : chars_from t at
         looks = omega (arith, inside, need_bound u r s);
       }
 
-lexes-chars : (t : List ℕ) (at : ℕ) (x : Lexeme) (cs : List ℕ) → chars_from t at ≡ cs → lexed_at at (tokens cs) ≡ lexed.Token x → Lexes t at x
+lexes-chars : (t : List ℕ) (at : ℕ) (x : Lexeme) (cs : List ℕ) → chars_from t at ≡ cs → lexed_at at (tokens cs) ≡ Some x → Lexes t at x
 unfolding lexed_at
 lexes-chars t at x [] h e = let z : ◌≡◌ {A = ℕ} 0 1 = cc (rw tokens_none at e) in absurd (omega arith)
 lexes-chars t at x (c ∷ cs) h e =
@@ -109,8 +108,8 @@ lexes-chars t at x (c ∷ cs) h e =
     (lexes-tok t at u r (h ∙ sym (first-text c cs)) (rw (tokens_cover r) at (rw (tokens-step c cs) at (tokens-sound (c ∷ cs))).0) (ap tokens h ∙ tokens-step c cs))
 
 -- What stands at an offset where a token is read, and where the text's end is.
-pub lexes : (t : List ℕ) (at : ℕ) (x : Lexeme) → lexed_at at (tokens (chars_from t at)) ≡ lexed.Token x → Lexes t at x
+pub lexes : (t : List ℕ) (at : ℕ) (x : Lexeme) → lexed_at at (tokens (chars_from t at)) ≡ Some x → Lexes t at x
 lexes t at x e = lexes-chars t at x (chars_from t at) refl e
 
-pub lexes-end : (t : List ℕ) (at : ℕ) → lexed_at at (tokens (chars_from t at)) ≡ lexed.End → tokens (chars_from t at) ≡ []
+pub lexes-end : (t : List ℕ) (at : ℕ) → lexed_at at (tokens (chars_from t at)) ≡ None → tokens (chars_from t at) ≡ []
 lexes-end t at e = next-none t at e

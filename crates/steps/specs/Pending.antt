@@ -1,6 +1,6 @@
 -- What a line begins with: the resumed rest as one token, or else the token at its offset.
 -- Assumes nothing.
-use Rattle.std.specs.Prelude.{ℕ, zero, suc, ◌+◌, ◌≤◌, ◌≡◌, refl, List, [], ◌∷◌, ◌++◌, length, take, drop}
+use Rattle.std.specs.Prelude.{ℕ, zero, suc, ◌+◌, ◌≤◌, ◌≡◌, refl, List, [], ◌∷◌, ◌++◌, length, take, drop, None, Some}
 use Rattle.std.proofs.Common.{arith, sym, subst, take-append-drop, length-take-le}
 use Rattle.std.proofs.Math.Path.{ap}
 use Rattle.utf8.specs.Encoding.{size}
@@ -12,7 +12,6 @@ use Rattle.laws.specs.TokenLaws.{sound-size}
 use Rattle.laws.specs.Reaches.{need_bound}
 use Rattle.parser.specs.Lexing.{chars_from, lexeme_at, lexed_at}
 use Rattle.parser.specs.declared.lexeme.Lexeme.{Lexeme}
-use Rattle.parser.specs.declared.lexeme.Lexed.TheVariants as lexed
 use Rattle.steps.specs.Stepping.{tok_of}
 use Rattle.steps.specs.Lexed.{lexes, tok-named, rest-is, inside}
 use Rattle.steps.specs.Ready.{Standing}
@@ -68,7 +67,7 @@ module _ (t : List ℕ) (at : ℕ) (u : Tok) (r : List ℕ) (h : chars_from t at
 
 -- It is what stands there.
 pending-read : (t : List ℕ) (at chars count : ℕ) (x : Lexeme) → chars ≤ length (chars_from t at) → count ≤ chars
-    → lexed_at at (held_tokens chars count (chars_from t at)) ≡ lexed.Token x → Pending t at chars count x
+    → lexed_at at (held_tokens chars count (chars_from t at)) ≡ Some x → Pending t at chars count x
 unfolding held_tokens lexed_at
 pending-read t at zero count x h g e =
     let l = lexes t at x e in
@@ -83,11 +82,11 @@ pending-read t at (suc k) count x h g e =
     (pending-tok t at u r (sym (take-append-drop (suc k) cs)) (omega arith, omega arith, omega arith) (suc k) count refl)
 
 pub pending : (t : List ℕ) (at : ℕ) (r : Resumed) (x : Lexeme) → RestFits t at r
-    → lexed_at at (held_tokens r.chars.0 r.count.0 (chars_from t at)) ≡ lexed.Token x → Pending t at r.chars.0 r.count.0 x
+    → lexed_at at (held_tokens r.chars.0 r.count.0 (chars_from t at)) ≡ Some x → Pending t at r.chars.0 r.count.0 x
 pending t at r x f e = pending-read t at r.chars.0 r.count.0 x f.within f.counts e
 
 -- Nothing stands at the text's end.
-pub none-pending : (at : ℕ) (ts : List Tok) → lexed_at at ts ≡ lexed.End → ts ≡ []
+pub none-pending : (at : ℕ) (ts : List Tok) → lexed_at at ts ≡ None → ts ≡ []
 unfolding lexed_at
 none-pending at [] e = refl
 none-pending at (u ∷ ts) e = cc

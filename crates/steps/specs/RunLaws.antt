@@ -1,7 +1,8 @@
 -- A space run: one that is too wide for its line, its numbers and the answer that they make; and what becomes of any run.
 -- Assumes nothing.
 use Prim.Native.Nat.{ℕ, ◌+◌, ◌-◌, ◌*◌, ◌/◌, ◌≤◌, ◌<◌, min}
-use Rattle.std.specs.Prelude.{◌≡◌, refl, true, false, eqb, length, take}
+use Rattle.steps.specs.declared.foreseen.Look.{Look}
+use Rattle.std.specs.Prelude.{◌≡◌, refl, true, false, eqb, length, take, None, Option, Some}
 use Rattle.std.proofs.Math.Path.{ap}
 use mathlib.Core.List.{List, [], ◌∷◌}
 use Rattle.std.proofs.Math.Nat.{mul-le-mul_left, div-mul-le_self, div-le_self}
@@ -32,8 +33,6 @@ use Rattle.steps.specs.Stepping.{resumed_at, stepped_at, tok_of}
 use Rattle.steps.specs.Ready.{Standing, Ready, step_from}
 use Rattle.steps.specs.Ahead.{white_width}
 use Rattle.steps.specs.Foreseeing.{Foresees, ForeseesAfter}
-use Rattle.steps.specs.declared.foreseen.Foreseen.{Foreseen}
-use Rattle.steps.specs.declared.foreseen.Foreseen.TheVariants.{Nothing, Known}
 use Rattle.steps.specs.Runs.{chars_in, WholeRun, whole_answer, cut_shown, CutRun, cut_answer}
 use Rattle.steps.specs.declared.step.Resumed.{Resumed}
 use Rattle.steps.specs.declared.step.Stepped.TheVariants.{Go, Stop}
@@ -140,15 +139,15 @@ module _ {s : Settings} {p : Place} {t : List ℕ} {at : ℕ} {x : Lexeme} {m : 
       omega (arith, run-fewer t at x k st, run-chars t at x k st, run_end t at x k st, length-size cs, st.within, h.short)
 
   -- What is known of the look from after a run is what is known from where the line stands then.
-  pub run_foresees : (f : Foreseen) → ForeseesAfter s p t x f → (width : ℕ) → width ≡ spaces_width p.spaces x.count.0
+  pub run_foresees : (f : Option Look) → ForeseesAfter s p t x f → (width : ℕ) → width ≡ spaces_width p.spaces x.count.0
       → Foresees s.glyph.0 (advance p.cursor width) (spaces_after p.spaces x.count.0) x.end.0 (tokens (chars_from t x.end.0)) f
   unfolding white_width
-  run_foresees Nothing b width w = tt
-  run_foresees (Known l) b width w = rw w (rw k at b.sees)
+  run_foresees None b width w = tt
+  run_foresees (Some l) b width w = rw w (rw k at b.sees)
 
   -- The line stands in its box after a run that fits.
   pub whole_ready : (used q : Place) (width : ℕ) → used ≡ used_up p x.count.0 → q ≡ moved_on used width → fits_in p.cursor width ≡ true
-      → width ≡ spaces_width p.spaces x.count.0 → (seen : Foreseen) → ForeseesAfter s p t x seen → WholeRun s q t x width m seen
+      → width ≡ spaces_width p.spaces x.count.0 → (seen : Option Look) → ForeseesAfter s p t x seen → WholeRun s q t x width m seen
   whole_ready used q width u e f w seen b =
       let st = h.stands in
       let r = fits-room p.cursor width f in

@@ -1,6 +1,7 @@
 -- What the running steps say of a space run: one that fits, and one that is too wide for its line (rule 9).
 -- Assumes nothing.
-use Rattle.std.specs.Prelude.{ℕ, ◌+◌, ◌≤◌, ◌<◌, ◌≡◌, false, List, eqb, length, take}
+use Rattle.std.specs.Prelude.{ℕ, ◌+◌, ◌≤◌, ◌<◌, ◌≡◌, false, List, eqb, length, take, Option}
+use Rattle.steps.specs.declared.foreseen.Look.{Look}
 use Rattle.basis.specs.Choice.{pick}
 use Rattle.meaning.specs.Tokens.{tokens}
 use Rattle.meaning.specs.Cursor.{fits_in}
@@ -18,7 +19,6 @@ use Rattle.moves.specs.Fine.{FineSettings, FinePlace}
 use Rattle.steps.specs.Stepping.{stepped_at, tok_of}
 use Rattle.steps.specs.Ready.{Ready}
 use Rattle.steps.specs.Foreseeing.{Foresees}
-use Rattle.steps.specs.declared.foreseen.Foreseen.{Foreseen}
 use Rattle.steps.specs.declared.step.Stepped.{Stepped}
 use Rattle.steps.specs.declared.step.Stepped.TheVariants.{Go}
 
@@ -29,7 +29,7 @@ chars_in t at x = take x.chars.0 (chars_from t at)
 -- ---- a run that fits
 
 -- It ends in the text, and what it measures stays small. The line stands at q after it, from where a look may be known.
-pub record WholeRun (s : Settings) (q : Place) (t : List ℕ) (x : Lexeme) (width : ℕ) (m : Measure) (f : Foreseen) : Type 0 where
+pub record WholeRun (s : Settings) (q : Place) (t : List ℕ) (x : Lexeme) (width : ℕ) (m : Measure) (f : Option Look) : Type 0 where
   pub settings : FineSettings s
   pub place : FinePlace q
   pub short : length t ≤ 65535

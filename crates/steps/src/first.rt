@@ -14,7 +14,7 @@ use meaning::counts::{Chars, Offset};
 use meaning::tokens::TokenKind;
 use parser::ascii::worth_knowing;
 use parser::later::token_left;
-use parser::lexeme::{Lexed, Lexeme};
+use parser::lexeme::Lexeme;
 use parser::lexer::token_at;
 use parser::scan::ender_at;
 
@@ -22,7 +22,7 @@ use parser::scan::ender_at;
 #[derive(Clone, Copy)]
 pub struct Known {
     pub at: Offset,
-    pub first: Lexed,
+    pub first: Option<Lexeme>,
 }
 
 // Nothing is known.
@@ -31,11 +31,11 @@ pub fn nothing_known() -> Known
 {
     Known {
         at: Offset(0),
-        first: Lexed::End,
+        first: None,
     }
 }
 
-pub fn known_at(at: usize, first: Lexed) -> Known
+pub fn known_at(at: usize, first: Option<Lexeme>) -> Known
     requires { at ≤ 65535 }
     ensures { result ≡ known_at at first }
 {
@@ -46,19 +46,17 @@ pub fn known_at(at: usize, first: Lexed) -> Known
 }
 
 // The token at an offset: of a word that is known at an offset before, what is left of it after so many characters.
-fn known_token(text: &[u8], at: usize, known: Known, from: usize, chars: u32) -> Lexed
+fn known_token(text: &[u8], at: usize, known: Known, from: usize, chars: u32) -> Option<Lexeme>
     requires { (length text.now ≤ 65535) × KnownFits text.now known × Between text.now from at chars }
     ensures { result ≡ lexed_at at (tokens (chars_from text.now at)) }
 {
     if known.at.0 as usize != from {
         return token_at(text, at);
     }
-    let first = known.first;
-    let Lexed::Token(x) = first else {
+    let Some(x) = known.first else {
         return token_at(text, at);
     };
-    let kind = x.kind;
-    match kind {
+    match x.kind {
         TokenKind::Word => token_left(text, from, x, at, chars),
         _ => token_at(text, at),
     }
@@ -69,21 +67,18 @@ fn rest_lexeme(rest: Resumed, ender: u32) -> Lexeme
     requires { (rest.end.0 ≤ 65535) × (ender ≤ 4) }
     ensures { result ≡ rest_lexeme rest ender }
 {
-    let end = rest.end;
-    let chars = rest.chars;
-    let count = rest.count;
     Lexeme {
         kind: TokenKind::Whitespace,
-        end,
-        chars,
-        count,
+        end: rest.end,
+        chars: rest.chars,
+        count: rest.count,
         glues: Chars(0),
         reach: Offset(rest.end.0 + ender),
     }
 }
 
 // The rest that a line resumes, or else the token at its offset.
-pub fn first_token(text: &[u8], at: usize, rest: Resumed, known: Known) -> Lexed
+pub fn first_token(text: &[u8], at: usize, rest: Resumed, known: Known) -> Option<Lexeme>
     requires { (length text.now ≤ 65535) × RestFits text.now at rest × KnownFits text.now known }
     ensures { result ≡ lexed_at at (held_tokens rest.chars.0 rest.count.0 (chars_from text.now at)) }
 {
@@ -93,7 +88,7 @@ pub fn first_token(text: &[u8], at: usize, rest: Resumed, known: Known) -> Lexed
         }
         return known_token(text, at, known, at, 0);
     }
-    Lexed::Token(rest_lexeme(rest, ender_at(text, rest.end.0 as usize)))
+    Some(rest_lexeme(rest, ender_at(text, rest.end.0 as usize)))
 }
 
 // What is known for a line at an offset, from what was known for the line before it, which took so many characters. A line that resumes
@@ -124,8 +119,7 @@ pub fn known_here(text: &[u8], at: usize, known: Known) -> Known
     requires { (length text.now ≤ 65535) × (at ≤ length text.now) × KnownFits text.now known }
     ensures { KnownFits text.now result }
 {
-    let first = known.first;
-    if let Lexed::Token(_) = first {
+    if let Some(_) = known.first {
         return known;
     }
     known_at(at, token_at(text, at))

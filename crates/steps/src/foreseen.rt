@@ -1,6 +1,5 @@
 // What a look ahead answers, and what is known of one before it is taken (rule 8 and rule 12).
-use meaning::counts::Offset;
-use meaning::cursor::NextWord;
+use meaning::counts::{Offset, Pixels};
 
 // Whether the next word fits, and the offset after the furthest character looked at.
 #[derive(Clone, Copy)]
@@ -9,16 +8,9 @@ pub struct Look {
     pub reach: Offset,
 }
 
-// What is known of a look before it is taken.
-#[derive(Clone, Copy)]
-pub enum Foreseen {
-    Nothing,
-    Known(Look),
-}
-
 // The next word's width, and the offset after the furthest character looked at.
 #[derive(Clone, Copy)]
 pub struct WidthAhead {
-    pub width: NextWord,
+    pub width: Option<Pixels>,
     pub reach: Offset,
 }

@@ -35,9 +35,8 @@ pub fn word_place(glyph: Pixels, p: Place, n: Chars, g: Chars) -> Place
     ensures { result ≡ word_place glyph.0 p n.0 g.0 }
 {
     let before = p.cursor;
-    let spaces = p.spaces;
     let cursor = advanced(before, n.0 * glyph.0);
-    let left = spaces_after(spaces, g.0);
+    let left = spaces_after(p.spaces, g.0);
     Place {
         cursor,
         spaces: left,
@@ -58,14 +57,12 @@ fn unfit_word(text: &[u8], s: Settings, p: Place, at: usize, x: Lexeme, m: Measu
         × (room_of p.cursor / s.glyph.0 ≡ 0) }
     ensures { result ≡ step_from s p text.now at x m }
 {
-    let cursor = p.cursor;
     let here = at as u32;
-    if waits(s, cursor) {
+    if waits(s, p.cursor) {
         return Stepped::Stop(ends_before(LineEnd::LineBreak, m, Offset(here), Chars(0), Offset(0)));
     }
-    let end = x.end;
     let dropped = x.chars;
-    Stepped::Stop(ends_before(LineEnd::LineBreak, m, end, dropped, Offset(0)))
+    Stepped::Stop(ends_before(LineEnd::LineBreak, m, x.end, dropped, Offset(0)))
 }
 
 // A word too wide for an empty line gives its longest fitting part.
@@ -73,17 +70,13 @@ fn cut_word(text: &[u8], s: Settings, p: Place, at: usize, x: Lexeme, m: Measure
     requires { Ready s p text.now at x m × (x.kind ≡ Word) × (fits_in p.cursor (x.chars.0 * s.glyph.0) ≡ false) × (p.empty ≡ true) }
     ensures { result ≡ step_from s p text.now at x m }
 {
-    let cursor = p.cursor;
-    let fitting = room(cursor) / s.glyph.0;
+    let fitting = room(p.cursor) / s.glyph.0;
     if fitting == 0 {
         return unfit_word(text, s, p, at, x, m);
     }
-    let spaces = p.spaces;
-    let glyph = s.glyph;
     let part = part_of(text, at, fitting);
-    let glues = part.glues;
     let next = part.end;
-    let after = word_measure(glyph, spaces, m, Chars(fitting), glues);
+    let after = word_measure(s.glyph, p.spaces, m, Chars(fitting), part.glues);
     Stepped::Stop(ends_before(LineEnd::LineBreak, after, next, Chars(0), Offset(0)))
 }
 
@@ -94,11 +87,9 @@ pub fn on_word(text: &[u8], s: Settings, p: Place, at: usize, x: Lexeme, m: Meas
 {
     let glyph = s.glyph;
     let n = x.chars;
-    let cursor = p.cursor;
-    if fits(cursor, n.0 * glyph.0) {
+    if fits(p.cursor, n.0 * glyph.0) {
         let g = x.glues;
-        let spaces = p.spaces;
-        let after = word_measure(glyph, spaces, m, n, g);
+        let after = word_measure(glyph, p.spaces, m, n, g);
         return Stepped::Go(word_place(glyph, p, n, g), after, Offset(0));
     }
     if p.empty {

@@ -1,6 +1,7 @@
 -- How far a pass comes over words: where it stops, and what waits there.
 -- Assumes nothing.
-use Rattle.std.specs.Prelude.{◌≡◌, refl, false, List, ℕ, ◌-◌}
+use Rattle.std.specs.Prelude.{◌≡◌, refl, false, List, ℕ, None, Option}
+use Rattle.steps.specs.declared.foreseen.Look.{Look}
 use Rattle.std.proofs.Common.{sym, ◌∙◌, arith}
 use Rattle.std.proofs.Math.Path.{ap, subst}
 use Rattle.meaning.specs.declared.settings.Settings.{Settings}
@@ -12,8 +13,6 @@ use Rattle.steps.specs.Running.{PassReady, none-fits}
 use Rattle.pairs.specs.PlainWords.{Found}
 use Rattle.strides.specs.Strides.{waiting_at, going_at, Onward, Waits, Goes, WaitReady}
 use Rattle.steps.specs.Foreseeing.{ForeseesFrom}
-use Rattle.steps.specs.declared.foreseen.Foreseen.{Foreseen}
-use Rattle.steps.specs.declared.foreseen.Foreseen.TheVariants.{Nothing}
 use Rattle.steps.specs.declared.step.Resumed.{Resumed}
 use Rattle.steps.specs.declared.step.Ended.{Ended}
 use Rattle.strides.specs.declared.going.Waiting.{Waiting}
@@ -113,10 +112,10 @@ module _ {s : Settings} {p : Place} {t : List ℕ} {at : ℕ} {r : Resumed} {m :
 
 -- ---- where a look may be known
 
-pub stays_foreseen : (s : Settings) (p : Place) (t : List ℕ) (at : ℕ) (r : Resumed) (m : Measure) (f : Foreseen) (w : Waiting) (g : Going) → g ≡ going_at p m at w
+pub stays_foreseen : (s : Settings) (p : Place) (t : List ℕ) (at : ℕ) (r : Resumed) (m : Measure) (f : Option Look) (w : Waiting) (g : Going) → g ≡ going_at p m at w
     → ForeseesFrom s p t at r f → ForeseesFrom s g.place t g.at.0 r f
 unfolding going_at
 stays_foreseen s p t at r m f w g is h = rw is h
 
-pub nothing_foreseen : (s : Settings) (p : Place) (t : List ℕ) (at : ℕ) (r : Resumed) (f : Foreseen) → f ≡ Nothing → ForeseesFrom s p t at r f
+pub nothing_foreseen : (s : Settings) (p : Place) (t : List ℕ) (at : ℕ) (r : Resumed) (f : Option Look) → f ≡ None → ForeseesFrom s p t at r f
 nothing_foreseen s p t at r f e = rw e tt

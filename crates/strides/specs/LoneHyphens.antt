@@ -3,7 +3,7 @@
 use Prim.Native.Nat.{ℕ, ◌+◌, ◌-◌, ◌*◌, ◌/◌, ◌≤◌, ◌<◌, max}
 use Rattle.std.proofs.Common.{div-lt_iff_lt-mul, sym, ◌∙◌}
 use native.Mathlib.Omega.{arith}
-use Rattle.std.specs.Prelude.{◌≡◌, true, false, ◌&&◌, ◌||◌, not, length}
+use Rattle.std.specs.Prelude.{◌≡◌, true, false, ◌&&◌, ◌||◌, not, length, None, Option, Some}
 use Rattle.std.proofs.Math.Path.{refl, ap}
 use mathlib.Core.List.{List, [], ◌∷◌}
 use borrow.Author.Tests.{le-leb, lt-leb}
@@ -16,8 +16,6 @@ use Rattle.meaning.specs.Line.{measured, noted, held_tokens}
 use Rattle.meaning.specs.declared.tokens.TokenKind.TheVariants.{Word, Break}
 use Rattle.meaning.specs.declared.settings.Settings.{Settings}
 use Rattle.meaning.specs.declared.cursor.Place.{Place}
-use Rattle.meaning.specs.declared.cursor.NextWord.{NextWord}
-use Rattle.meaning.specs.declared.cursor.NextWord.TheVariants.{Nothing, Width}
 use Rattle.meaning.specs.declared.counts.Pixels.{Pixels}
 use Rattle.meaning.specs.declared.line.EventKind.TheVariants.{Printed}
 use Rattle.meaning.specs.declared.line.LineEnd.TheVariants.{LineBreak}
@@ -26,7 +24,6 @@ use Rattle.parser.specs.Lexing.{chars_from, lexed_at}
 use Rattle.parser.specs.Scanning.{alone_at}
 use Rattle.parser.specs.Marks.{Mark}
 use Rattle.parser.specs.declared.lexeme.Lexeme.{Lexeme}
-use Rattle.parser.specs.declared.lexeme.Lexed.TheVariants.{Token}
 use Rattle.moves.specs.FineLaws.{times_bound}
 use Rattle.steps.specs.Stepping.{ahead_of, stepped_at, ran_from}
 use Rattle.steps.specs.Unrolled.{farther, farther-near, nothing_resumed}
@@ -35,7 +32,6 @@ use Rattle.steps.specs.Running.{PassReady, none-fits, step_keeps, pass-goes}
 use Rattle.steps.specs.Stopping.{ends_before}
 use Rattle.steps.specs.WordLaws.{word_at, WordAt, word-at, moved-waits, word_drops}
 use Rattle.steps.specs.BreakLaws.{tok_break, break_shows}
-use Rattle.steps.specs.declared.step.Ended.{Ended}
 use Rattle.steps.specs.declared.step.Stepped.TheVariants.{Go, Stop}
 use Rattle.strides.specs.OnwardLaws.{read-pending, stops-onward}
 use Rattle.strides.specs.MarkLaws.{hyphen-read, hyphen-first, look_join}
@@ -43,7 +39,7 @@ use Rattle.strides.specs.MarkLaws.{hyphen-read, hyphen-first, look_join}
 -- A soft hyphen before a word, in such a line.
 pub record Lone (s : Settings) (p : Place) (t : List ℕ) (at : ℕ) (x : Lexeme) : Type 0 where
   pub hyphen : Mark t at 2
-  pub word : lexed_at (at + 2) (tokens (chars_from t (at + 2))) ≡ Token x
+  pub word : lexed_at (at + 2) (tokens (chars_from t (at + 2))) ≡ Some x
   pub kind : x.kind ≡ Word
   pub empty : p.empty ≡ true
   pub shown : s.glyph.0 ≤ room_of p.cursor
@@ -51,12 +47,12 @@ pub record Lone (s : Settings) (p : Place) (t : List ℕ) (at : ℕ) (x : Lexeme
 
 -- ---- a word is seen ahead
 
-pub record Told (w : NextWord) : Type 0 where
+pub record Told (w : Option Pixels) : Type 0 where
   pub pixels : Pixels
-  pub is : w ≡ Width pixels
+  pub is : w ≡ Some pixels
 
 -- A width that is seen stays seen.
-stays-told : (g : ℕ) (v : Pixels) (at : ℕ) (ts : List Tok) → Told (next_width g (Width v) at ts).width
+stays-told : (g : ℕ) (v : Pixels) (at : ℕ) (ts : List Tok) → Told (next_width g (Some v) at ts).width
 unfolding next_width added
 stays-told g v at [] = record { pixels = v; is = refl }
 stays-told g v at (newLine ∷ ts) = record { pixels = v; is = refl }
@@ -66,7 +62,7 @@ stays-told g v at (space cs n e ∷ ts) = record { pixels = v; is = refl }
 stays-told g v at (softHyphen ∷ ts) = record { pixels = _; is = refl }
 stays-told g v at (word cs e ∷ ts) = stays-told g (record { 0 = v.0 + length cs * g }) _ ts
 
-word-told : (g at : ℕ) (cs : List ℕ) (e : ℕ) (ts : List Tok) → Told (next_width g Nothing at (word cs e ∷ ts)).width
+word-told : (g at : ℕ) (cs : List ℕ) (e : ℕ) (ts : List Tok) → Told (next_width g None at (word cs e ∷ ts)).width
 unfolding next_width added
 word-told g at cs e ts = stays-told g _ _ ts
 
@@ -78,7 +74,7 @@ module _ {s : Settings} {p : Place} {t : List ℕ} {at : ℕ} {x : Lexeme} {m : 
   lone_measure = noted Printed (m.pen.0 + s.glyph.0) (m.spaces.0 + 0) m
 
   abbrev Seen : Ahead
-  Seen = next_width s.glyph.0 Nothing (at + 2) (tokens (chars_from t (at + 2)))
+  Seen = next_width s.glyph.0 None (at + 2) (tokens (chars_from t (at + 2)))
 
   word-is : WordAt t (at + 2) x
   word-is = word-at t (at + 2) x (read-pending t (at + 2) x l.word).stands l.kind
@@ -165,7 +161,7 @@ module _ {s : Settings} {p : Place} {t : List ℕ} {at : ℕ} {x : Lexeme} {m : 
         let size : x.end.0 ≡ at + 2 + size_of (word cs e) = pw.end ∙ ap (λ (u : Tok). at + 2 + size_of u) word-is.tok in
         let last : x.end.0 + 2 ≡ x.end.0 + need_of softHyphen = pz.reach ∙ ap (λ (u : Tok). x.end.0 + need_of u) (tok_break t x.end.0 _ refl) in
         let all = behind ∙ ap (λ (ts : List Tok). word cs e ∷ ts) (hyphen-first t x.end.0 b) in
-        ap (λ (a : Ahead). a.reach) (ap (next_width s.glyph.0 Nothing (at + 2)) all ∙ look_join s.glyph.0 (at + 2) cs e _)
+        ap (λ (a : Ahead). a.reach) (ap (next_width s.glyph.0 None (at + 2)) all ∙ look_join s.glyph.0 (at + 2) cs e _)
         ∙ omega (arith, need, size, last)
 
     looked : (next dropped k j reach : ℕ) → reach ≡ max k j

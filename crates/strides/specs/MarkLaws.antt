@@ -1,8 +1,8 @@
 -- A pass over a soft hyphen that does not show and the word behind it, and over zero width spaces: where it then stands (rule 8).
 -- Assumes nothing.
 use Prim.Native.Nat.{ℕ, ◌+◌, ◌-◌, ◌*◌, ◌≤◌, ◌<◌, max}
-use Rattle.std.proofs.Common.{arith, subst, ◌∙◌}
-use Rattle.std.specs.Prelude.{◌≡◌, Bool, true, false, ◌||◌, not, List, ◌∷◌}
+use Rattle.std.proofs.Common.{arith, ◌∙◌}
+use Rattle.std.specs.Prelude.{◌≡◌, true, false, ◌||◌, not, List, ◌∷◌, None, Some}
 use Rattle.std.proofs.Math.Path.{refl, sym, ap}
 use borrow.Author.Tests.{le-leb}
 use Rattle.std.proofs.Math.ListN.{length}
@@ -13,28 +13,25 @@ use Rattle.meaning.specs.SpaceConfig.{spaces_width}
 use Rattle.meaning.specs.Lookahead.{Ahead, added, next_fits, next_width}
 use Rattle.meaning.specs.LineIter.{skips, draws_space, when, moved_on, used_up}
 use Rattle.meaning.specs.Line.{held_tokens}
-use Rattle.meaning.specs.declared.tokens.TokenKind.TheVariants.{Whitespace, Word, Break}
+use Rattle.meaning.specs.declared.tokens.TokenKind.TheVariants.{Whitespace, Break}
 use Rattle.meaning.specs.declared.settings.Settings.{Settings}
 use Rattle.meaning.specs.declared.cursor.LineCursor.{LineCursor}
 use Rattle.meaning.specs.declared.cursor.Spaces.{Spaces}
 use Rattle.meaning.specs.declared.cursor.Place.{Place}
-use Rattle.meaning.specs.declared.cursor.NextWord.TheVariants.{Nothing, Width}
 use Rattle.meaning.specs.declared.line.Measure.{Measure}
 use Rattle.parser.specs.Lexing.{chars_from, lexed_at}
 use Rattle.parser.specs.Scanning.{alone_at, word_of}
 use Rattle.parser.specs.Marks.{mark_kind, Mark}
 use Rattle.parser.specs.MarkLaws.{mark-room, mark-lexed}
 use Rattle.parser.specs.declared.lexeme.Lexeme.{Lexeme}
-use Rattle.parser.specs.declared.lexeme.Lexed.TheVariants.{Token}
 use Rattle.parser.specs.declared.scan.Scanned.{Scanned}
 use Rattle.steps.specs.Ahead.{white_width}
 use Rattle.steps.specs.Lexed.{lexes}
-use Rattle.steps.specs.Stepping.{ran_from, tok_of, ahead_of}
+use Rattle.steps.specs.Stepping.{ran_from, ahead_of}
 use Rattle.steps.specs.Unrolled.{farther, nothing_resumed}
-use Rattle.steps.specs.Ready.{Ready, step_from}
-use Rattle.steps.specs.Pending.{Pending}
+use Rattle.steps.specs.Ready.{step_from}
 use Rattle.steps.specs.Running.{PassReady, none-fits, pass-goes}
-use Rattle.steps.specs.Runs.{whole_answer, cut_shown}
+use Rattle.steps.specs.Runs.{whole_answer}
 use Rattle.steps.specs.RunLaws.{space-whole, shown-none}
 use Rattle.steps.specs.Stopping.{word_measure, word_place}
 use Rattle.steps.specs.FitsLaws.{look_from, none_used, look_white}
@@ -51,11 +48,11 @@ use Rattle.strides.specs.Marks.{Joining, Zeros}
 -- ---- the tokens
 
 module _ (t : List ℕ) (at : ℕ) where
-  pub hyphen-read : Mark t at 2 → lexed_at at (tokens (chars_from t at)) ≡ Token (alone_at Break (at + 2))
+  pub hyphen-read : Mark t at 2 → lexed_at at (tokens (chars_from t at)) ≡ Some (alone_at Break (at + 2))
   unfolding mark_kind pick
   hyphen-read m = sym (mark-lexed t at 2 m)
 
-  pub zero-read : Mark t at 3 → lexed_at at (tokens (chars_from t at)) ≡ Token (alone_at Whitespace (at + 3))
+  pub zero-read : Mark t at 3 → lexed_at at (tokens (chars_from t at)) ≡ Some (alone_at Whitespace (at + 3))
   unfolding mark_kind pick
   zero-read m = sym (mark-lexed t at 3 m)
 
@@ -83,8 +80,8 @@ later {t = t} r to f g =
 
 -- What a look to the next soft hyphen sees.
 pub look_join : (g at : ℕ) (cs : List ℕ) (e : ℕ) (ts : List Tok)
-    → next_width g Nothing at (word cs e ∷ softHyphen ∷ ts)
-    ≡ record { width = Width (record { 0 = length cs * g + g }); reach = max (at + need_of (word cs e)) (at + size_of (word cs e) + need_of softHyphen) }
+    → next_width g None at (word cs e ∷ softHyphen ∷ ts)
+    ≡ record { width = Some (record { 0 = length cs * g + g }); reach = max (at + need_of (word cs e)) (at + size_of (word cs e) + need_of softHyphen) }
 unfolding next_width added
 look_join g at cs e ts = refl
 
@@ -117,12 +114,12 @@ module _ {s : Settings} {p : Place} {t : List ℕ} {at : ℕ} {m : Measure} (r :
     abbrev Seen : Ahead
     Seen =
         record {
-          width = Width (record { 0 = length Cs * s.glyph.0 + s.glyph.0 });
+          width = Some (record { 0 = length Cs * s.glyph.0 + s.glyph.0 });
           reach = max (at + 2 + need_of (word Cs E)) (at + 2 + size_of (word Cs E) + need_of softHyphen);
         }
 
-    seen : ahead_of Seen ≡ ahead_of (next_width s.glyph.0 Nothing (at + 2) (tokens (chars_from t (at + 2))))
-    seen = ap ahead_of (sym (ap (next_width s.glyph.0 Nothing (at + 2)) joined-tokens ∙ look_join s.glyph.0 (at + 2) Cs E _))
+    seen : ahead_of Seen ≡ ahead_of (next_width s.glyph.0 None (at + 2) (tokens (chars_from t (at + 2))))
+    seen = ap ahead_of (sym (ap (next_width s.glyph.0 None (at + 2)) joined-tokens ∙ look_join s.glyph.0 (at + 2) Cs E _))
 
     hidden : p.empty || not (fits_in p.cursor (length Cs * s.glyph.0 + s.glyph.0)) ≡ false
     unfolding fits_in word_of

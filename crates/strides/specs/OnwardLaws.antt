@@ -1,6 +1,6 @@
 -- A pass that goes on over a token. What that looked at, the pass after it looks at too, so nothing is kept of it.
 -- Assumes nothing.
-use Rattle.std.specs.Prelude.{◌≡◌, refl, ℕ, ◌+◌, ◌≤◌, max}
+use Rattle.std.specs.Prelude.{◌≡◌, refl, ℕ, ◌+◌, ◌≤◌, max, Some}
 use Rattle.std.proofs.Common.{sym, ◌∙◌}
 use Rattle.std.proofs.Math.Path.{subst}
 use mathlib.Core.List.{List, [], ◌∷◌, ◌++◌}
@@ -17,7 +17,6 @@ use Rattle.laws.specs.Spell.{text_of, spell, SoundTok, Sound}
 use Rattle.laws.specs.TokenLaws.{tokens_cover, tokens-sound}
 use Rattle.parser.specs.Lexing.{chars_from, lexed_at}
 use Rattle.parser.specs.declared.lexeme.Lexeme.{Lexeme}
-use Rattle.parser.specs.declared.lexeme.Lexed.TheVariants.{Token}
 use Rattle.steps.specs.Stepping.{ended_at, ran_from}
 use Rattle.steps.specs.Unrolled.{farther, farther-near, nothing_resumed}
 use Rattle.steps.specs.Ready.{Ready, step_from}
@@ -70,12 +69,12 @@ module _ (s : Settings) (p : Place) (t : List ℕ) (at : ℕ) (m : Measure) wher
 
 -- ---- a token that is read
 
-pub read-pending : (t : List ℕ) (at : ℕ) (x : Lexeme) → lexed_at at (tokens (chars_from t at)) ≡ Token x → Pending t at 0 0 x
+pub read-pending : (t : List ℕ) (at : ℕ) (x : Lexeme) → lexed_at at (tokens (chars_from t at)) ≡ Some x → Pending t at 0 0 x
 unfolding held_tokens
 read-pending t at x e = pending t at nothing_resumed x (none-fits t at nothing_resumed refl) e
 
 module _ {s : Settings} {p : Place} {t : List ℕ} {at : ℕ} {m : Measure} (r : PassReady s p t at nothing_resumed m) where
-  module _ (x : Lexeme) (e : lexed_at at (tokens (chars_from t at)) ≡ Token x) where
+  module _ (x : Lexeme) (e : lexed_at at (tokens (chars_from t at)) ≡ Some x) where
     pub read-ready : Ready s p t at x m
     read-ready =
         record { settings = r.settings; place = r.place; short = r.short; stands = (read-pending t at x e).stands; small = r.small }

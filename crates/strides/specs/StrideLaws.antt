@@ -1,11 +1,10 @@
 -- A word that a pass takes, and a space and a word that it takes at once.
 -- Assumes nothing.
-use Rattle.std.specs.Prelude.{◌≡◌, Bool, true, false, List, ℕ, ◌+◌, ◌-◌, ◌*◌, ◌/◌, ◌≤◌, max}
+use Rattle.std.specs.Prelude.{◌≡◌, Bool, true, false, List, ℕ, ◌+◌, ◌-◌, ◌*◌, ◌/◌, ◌≤◌, max, Some}
 use Rattle.std.proofs.Math.Path.{refl}
 use Rattle.std.proofs.Common.{sym, ◌∙◌, arith}
 use Rattle.std.proofs.Math.Nat.{mul-le-mul_right, div-mul-le_self, div-le_self}
 use borrow.Author.Tests.{le-leb}
-use Rattle.basis.specs.Order.{by_eq}
 use Rattle.meaning.specs.Tokens.{tokens}
 use Rattle.meaning.specs.Cursor.{room_of, fits_in, advance}
 use Rattle.meaning.specs.SpaceConfig.{spaces_width}
@@ -20,7 +19,6 @@ use Rattle.meaning.specs.declared.line.Measure.{Measure}
 use Rattle.parser.specs.Lexing.{chars_from, lexed_at}
 use Rattle.pairs.specs.Pairs.{one_space, PairAt}
 use Rattle.parser.specs.declared.lexeme.Lexeme.{Lexeme}
-use Rattle.parser.specs.declared.lexeme.Lexed.TheVariants.{Token}
 use Rattle.steps.specs.Ahead.{look_at}
 use Rattle.moves.specs.Fine.{FineCursor}
 use Rattle.steps.specs.Lexed.{lexes}
@@ -53,7 +51,7 @@ module _ (c : LineCursor) (room glyph : ℕ) (is : room ≡ room_of c) where
   most-fits n h = le-leb (n * glyph) (room_of c) (omega (arith, mul-le-mul_right glyph h, div-mul-le_self room glyph))
 
 pub word-onward : {s : Settings} {p : Place} {t : List ℕ} {at : ℕ} {m : Measure} → PassReady s p t at nothing_resumed m → (x : Lexeme)
-    → lexed_at at (tokens (chars_from t at)) ≡ Token x → x.kind ≡ Word → fits_in p.cursor (x.chars.0 * s.glyph.0) ≡ true → (q : Place) (n : Measure)
+    → lexed_at at (tokens (chars_from t at)) ≡ Some x → x.kind ≡ Word → fits_in p.cursor (x.chars.0 * s.glyph.0) ≡ true → (q : Place) (n : Measure)
     → q ≡ word_place s.glyph.0 p x.chars.0 x.glues.0 → n ≡ word_measure s.glyph.0 p.spaces m x.chars.0 x.glues.0
     → Onward s p t at nothing_resumed m q x.end.0 n
 word-onward {s} {p} {t} {at} {m} r x d k f q n e g =

@@ -21,30 +21,22 @@ pub struct Begun {
     pub place: Place,
 }
 
-#[derive(Clone, Copy)]
-pub enum First {
-    None,
-    Word(Begun),
-}
-
-pub fn first_taken(text: &[u8], s: Settings, p: Place, at: usize) -> First
+pub fn first_taken(text: &[u8], s: Settings, p: Place, at: usize) -> Option<Begun>
     requires { PassReady s p text.now at nothing_resumed unmeasured }
     ensures { FirstIs s p text.now at result }
 {
     if plain_at(text, at) {
         let glyph = s.glyph.0;
-        let cursor = p.cursor;
-        let end = word_within(text, at, room(cursor) / glyph);
-        if end != 0 {
+        if let Some(end) = word_within(text, at, room(p.cursor) / glyph) {
             let n = (end - at) as u32;
             let to = end as u32;
             let place = word_place(Pixels(glyph), p, Chars(n), Chars(0));
-            return First::Word(Begun {
+            return Some(Begun {
                 end: Offset(to),
                 chars: Chars(n),
                 place,
             });
         }
     }
-    First::None
+    None
 }

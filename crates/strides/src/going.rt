@@ -51,17 +51,13 @@ pub fn strode(p: Place, position: u32, extra: u32) -> Place
     ensures { result ≡ strode_place p position extra }
 {
     let before = p.cursor;
-    let spaces = p.spaces;
-    let width = before.width;
-    let tab = before.tab;
-    let start = before.start;
-    let each = spaces.width;
+    let each = p.spaces.width;
     Place {
         cursor: LineCursor {
-            width,
+            width: before.width,
             position: Pixels(position),
-            tab,
-            start,
+            tab: before.tab,
+            start: before.start,
         },
         spaces: Spaces {
             width: each,

@@ -8,51 +8,50 @@ use meaning::cursor::Place;
 use meaning::settings::Settings;
 use moves::cursor::room;
 use parser::ascii::plain_at;
-use parser::marks::mark_len;
+use parser::marks::{hyphen_at, zero_at};
 use parser::scan::{Scanned, scan_word};
 use steps::words::word_place;
 
 // The word behind a soft hyphen, and the place after it.
 #[derive(Clone, Copy)]
-pub enum Joined {
-    None,
-    Word(Scanned, Place),
+pub struct Joined {
+    pub word: Scanned,
+    pub place: Place,
 }
 
 // A soft hyphen, a word and a soft hyphen again, if there is room for the word and a "-".
-pub fn next_joined(text: &[u8], s: Settings, p: Place, at: usize) -> Joined
+pub fn next_joined(text: &[u8], s: Settings, p: Place, at: usize) -> Option<Joined>
     requires { DecideReady s p text.now at }
     ensures { JoinedIs s p text.now at result }
 {
-    if mark_len(text, at) != 2 {
-        return Joined::None;
+    if !hyphen_at(text, at) {
+        return None;
     }
     let from = at + 2;
     if !plain_at(text, from) {
-        return Joined::None;
+        return None;
     }
     let word = scan_word(text, from + 1, 0);
-    if mark_len(text, word.end.0 as usize) != 2 {
-        return Joined::None;
+    if !hyphen_at(text, word.end.0 as usize) {
+        return None;
     }
     let glyph = s.glyph;
-    let chars = word.chars;
-    let cursor = p.cursor;
-    if room(cursor) < chars.0 * glyph.0 + glyph.0 {
-        return Joined::None;
+    if room(p.cursor) < word.chars.0 * glyph.0 + glyph.0 {
+        return None;
     }
     let glues = word.weight;
-    Joined::Word(word, word_place(glyph, p, chars, glues))
+    let place = word_place(glyph, p, word.chars, glues);
+    Some(Joined { word, place })
 }
 
 // Whether two zero width spaces stand at a position: the first of them does nothing.
 pub fn two_zeros(text: &[u8], at: usize) -> bool
     ensures { result ≡ true → Zeros text.now at }
 {
-    if mark_len(text, at) != 3 {
+    if !zero_at(text, at) {
         return false;
     }
-    mark_len(text, at + 3) == 3
+    zero_at(text, at + 3)
 }
 
 // The last of the zero width spaces that stand at a position.

@@ -1,7 +1,7 @@
 // One space and the word behind it, decided once for measuring and for drawing: both are taken if both fit, else the word waits
 // for the next line. It stands for rule 7 and rule 8 of the two tokens (`NextLaws.taken-onward`, `Waits`), and saves the steps of
 // both, and the look ahead of the space, which would read the word a second time.
-ghost use Rattle.std.specs.Prelude.{◌≡◌, ◌+◌, ◌≤◌, ◌<◌};
+ghost use Rattle.std.specs.Prelude.{◌≡◌, ◌+◌, ◌≤◌, IfSome};
 ghost use Rattle.moves.specs.Fine.{FinePlace};
 ghost use Rattle.strides.specs.Next.{Read, plain_pair, fitted_of, Decides, DecideReady};
 
@@ -38,26 +38,21 @@ fn fitted(s: Settings, p: Place, pair: Pair) -> Next
     requires { FinePlace p × (s.glyph.0 ≤ 64) × (pair.word.chars.0 ≤ 65535) }
     ensures { result ≡ fitted_of s p pair }
 {
-    let from = pair.from;
     let word = pair.word;
-    let cursor = p.cursor;
-    let spaces = p.spaces;
-    let space = spaces_width(spaces, 1);
+    let space = spaces_width(p.spaces, 1);
     let wide = space + word.chars.0 * s.glyph.0;
-    if room(cursor) < wide {
-        let looked = pair.looked;
-        let reach = word.reach;
+    if room(p.cursor) < wide {
         return Next::TooWide(Waiting {
-            next: from,
-            looked,
-            reach,
+            next: pair.from,
+            looked: pair.looked,
+            reach: word.reach,
         });
     }
-    let left = spaces_after(spaces, 1);
+    let left = spaces_after(p.spaces, 1);
     let more = spaces_after(left, word.weight.0);
-    let place = strode(p, cursor.position.0 + wide, more.extra.0);
+    let place = strode(p, p.cursor.position.0 + wide, more.extra.0);
     Next::Fits(Taken {
-        from,
+        from: pair.from,
         word,
         space: Pixels(space),
         left,
@@ -89,21 +84,20 @@ pub fn next_stride(text: &[u8], s: Settings, p: Place, at: usize) -> Next
     requires { DecideReady s p text.now at }
     ensures { Decides s p text.now at result }
 {
-    let end = stride_end(text, at);
-    if end == 0 {
+    let Some(end) = stride_end(text, at) else {
         return Next::Nothing;
-    }
+    };
     fitted(s, p, plain_pair(at, end))
 }
 
 // Of any word, in a pair as it was read. Where the pair is read, the loops say: a function that read it too would stand alone, and
 // its answer would go through memory (counted).
-pub fn next_pair(text: &[u8], s: Settings, p: Place, at: usize, pair: Pair) -> Next
-    requires { DecideReady s p text.now at × (0 < pair.from.0 → Read text.now at pair) }
+pub fn next_pair(text: &[u8], s: Settings, p: Place, at: usize, read: Option<Pair>) -> Next
+    requires { DecideReady s p text.now at × IfSome read (Read text.now at) }
     ensures { Decides s p text.now at result }
 {
-    if pair.from.0 == 0 {
+    let Some(pair) = read else {
         return Next::Nothing;
-    }
+    };
     fitted(s, p, pair)
 }

@@ -8,9 +8,9 @@ ghost use Rattle.steps.specs.Foreseeing.{ForeseesFrom};
 ghost use Rattle.strides.specs.Strides.{Goes};
 ghost use Rattle.strides.specs.Next.{taken_measure, MeasureReady};
 
-use crate::first::{First, first_taken};
+use crate::first::{Begun, first_taken};
 use crate::going::{Going, nothing_waits, stands_at};
-use crate::marks::{Joined, last_zero, next_joined};
+use crate::marks::{last_zero, next_joined};
 use crate::next::{Next, Taken, next_pair};
 use meaning::counts::{Chars, Pixels};
 use meaning::cursor::Place;
@@ -18,7 +18,7 @@ use meaning::line::Measure;
 use meaning::settings::Settings;
 use moves::measure::printed_at;
 use pairs::pair::pair_at;
-use steps::foreseen::Foreseen;
+use steps::foreseen::Look;
 use steps::step::Resumed;
 use steps::words::word_measure;
 
@@ -27,14 +27,11 @@ fn measure_taken(s: Settings, m: Measure, t: Taken) -> Measure
     requires { MeasureReady s m t }
     ensures { result ≡ taken_measure s m t }
 {
-    let glyph = s.glyph;
-    let left = t.left;
-    let chars = t.word.chars;
     let glues = t.word.weight;
     let pen = m.pen.0 + t.space.0;
     let spaces = m.spaces.0 + 1;
     let spaced = printed_at(Pixels(pen), Chars(spaces));
-    word_measure(glyph, left, spaced, chars, glues)
+    word_measure(s.glyph, t.left, spaced, t.word.chars, glues)
 }
 
 // The plain word that a pass may stand at, if it fits.
@@ -43,14 +40,10 @@ fn first_word(text: &[u8], s: Settings, p: Place, at: usize, m: Measure) -> Goin
     ensures { Goes s p text.now at nothing_resumed m result }
 {
     match first_taken(text, s, p, at) {
-        First::None => stands_at(p, m, at, nothing_waits()),
-        First::Word(b) => {
-            let glyph = s.glyph;
-            let spaces = p.spaces;
-            let place = b.place;
-            let chars = b.chars;
-            let after = word_measure(glyph, spaces, m, chars, Chars(0));
-            stands_at(place, after, b.end.0 as usize, nothing_waits())
+        None => stands_at(p, m, at, nothing_waits()),
+        Some(b) => {
+            let after = word_measure(s.glyph, p.spaces, m, b.chars, Chars(0));
+            stands_at(b.place, after, b.end.0 as usize, nothing_waits())
         }
     }
 }
@@ -62,17 +55,15 @@ fn marks_on(text: &[u8], s: Settings, p: Place, at: usize, m: Measure) -> Going
     ensures empty_value { result.place.empty ≡ false }
 {
     match next_joined(text, s, p, at) {
-        Joined::None => {
+        None => {
             let to = last_zero(text, at);
             stands_at(p, m, to, nothing_waits())
         }
-        Joined::Word(word, place) => {
-            let glyph = s.glyph;
-            let spaces = p.spaces;
-            let chars = word.chars;
+        Some(joined) => {
+            let word = joined.word;
             let glues = word.weight;
-            let after = word_measure(glyph, spaces, m, chars, glues);
-            stands_at(place, after, word.end.0 as usize, nothing_waits())
+            let after = word_measure(s.glyph, p.spaces, m, word.chars, glues);
+            stands_at(joined.place, after, word.end.0 as usize, nothing_waits())
         }
     }
 }
@@ -104,9 +95,8 @@ fn words_on(text: &[u8], s: Settings, p: Place, at: usize, m: Measure) -> Going
                 return stands_at(here, sum, to, w);
             }
             Next::Fits(t) => {
-                let place = t.place;
                 let after = measure_taken(s, sum, t);
-                g = stands_at(place, after, t.word.end.0 as usize, nothing_waits());
+                g = stands_at(t.place, after, t.word.end.0 as usize, nothing_waits());
             }
         }
     }
@@ -131,13 +121,13 @@ pub fn strides_unless(
     at: usize,
     rest: Resumed,
     m: Measure,
-    seen: Foreseen,
+    seen: Option<Look>,
 ) -> Going
     requires { PassReady s p text.now at rest m × ForeseesFrom s p text.now at rest seen }
     ensures goes { Goes s p text.now at rest m result }
     ensures foresees_from { ForeseesFrom s result.place text.now result.at.0 rest seen }
 {
-    if let Foreseen::Known(_) = seen {
+    if let Some(_) = seen {
         return stands_at(p, m, at, nothing_waits());
     }
     strides_on(text, s, p, at, rest, m)

@@ -23,9 +23,7 @@ pub fn space_fits(p: Place) -> bool
     requires { FinePlace p }
     ensures { result ≡ fits_in p.cursor (spaces_width p.spaces 1) }
 {
-    let cursor = p.cursor;
-    let spaces = p.spaces;
-    fits(cursor, spaces_width(spaces, 1))
+    fits(p.cursor, spaces_width(p.spaces, 1))
 }
 
 pub fn ends_waiting(text: &[u8], s: Settings, g: Going) -> Ended
@@ -34,12 +32,21 @@ pub fn ends_waiting(text: &[u8], s: Settings, g: Going) -> Ended
 {
     let p = g.place;
     let m = g.measure;
-    let next = g.waits.next;
     if !space_fits(p) {
-        let looked = g.waits.looked;
-        return ends_before(LineEnd::LineBreak, m, next, Chars(0), looked);
+        return ends_before(
+            LineEnd::LineBreak,
+            m,
+            g.waits.next,
+            Chars(0),
+            g.waits.looked,
+        );
     }
-    let reach = g.waits.reach;
     let spaced = noted_space(m, Chars(1), Pixels(0));
-    ends_before(LineEnd::LineBreak, spaced, next, Chars(0), reach)
+    ends_before(
+        LineEnd::LineBreak,
+        spaced,
+        g.waits.next,
+        Chars(0),
+        g.waits.reach,
+    )
 }

@@ -5,16 +5,8 @@ ghost use Rattle.meaning.specs.Edit.{moved};
 ghost use Rattle.table.specs.EditAlone.{edited_whole};
 ghost use Rattle.table.specs.Moving.{MovableEdit, MovableOffset, MovableShift, MovableCount};
 
-use basis::numbers::less_wide;
 use meaning::counts::{Chars, Offset};
 use meaning::edit::Edit;
-
-// The length of the edited whole; or the edit does not replace bytes of the text.
-#[derive(Clone, Copy)]
-pub enum Whole {
-    Length(u64),
-    OutOfPlace,
-}
 
 // How the old lines that follow an edit are moved: by that edit, and where there were `from` characters before the first of
 // them there are now `to`.
@@ -35,24 +27,24 @@ pub fn whole_length(bytes: Offset, edit: Edit) -> u64
 }
 
 // The same of any edit: a <= b <= length is what makes it one of this text.
-pub fn edited_whole(bytes: Offset, edit: Edit) -> Whole
+pub fn edited_whole(bytes: Offset, edit: Edit) -> Option<u64>
     ensures { result ≡ edited_whole bytes.0 edit }
 {
     if edit.to.0 < edit.from.0 {
-        return Whole::OutOfPlace;
+        return None;
     }
     if bytes.0 < edit.to.0 {
-        return Whole::OutOfPlace;
+        return None;
     }
-    Whole::Length(whole_length(bytes, edit))
+    Some(whole_length(bytes, edit))
 }
 
 // An offset behind the replaced bytes, moved by the change of length. Any edit and any number will do.
 pub fn moved_to(edit: Edit, x: u32) -> u64
     ensures { result ≡ moved edit x }
 {
-    let replaced = less_wide(edit.to.0 as u64, edit.from.0 as u64);
-    less_wide(x as u64 + edit.inserted.0 as u64, replaced)
+    let replaced = edit.to.0.saturating_sub(edit.from.0);
+    (x as u64 + edit.inserted.0 as u64).saturating_sub(replaced as u64)
 }
 
 // The same of an offset that is known to be moved within a text. It makes no test and stays in 32 bits, since each line that is

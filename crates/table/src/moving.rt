@@ -28,13 +28,13 @@ fn moved_rest(rest: Rest, edit: Edit) -> Rest
     requires { MovableEdit edit × (0 < rest.end.0 → MovableOffset edit rest.end.0) }
     ensures { result ≡ moved_rest edit rest }
 {
-    let end = rest.end;
-    if end.0 == 0 {
+    if rest.end.0 == 0 {
         return rest;
     }
-    let after = moved_offset(end, edit);
-    let count = rest.count;
-    Rest { end: after, count }
+    Rest {
+        end: moved_offset(rest.end, edit),
+        ..rest
+    }
 }
 
 // Start, rest, reach and the characters before are moved, all else stays.
@@ -43,19 +43,13 @@ pub fn moved_entry(e: Entry, shift: Shift) -> Entry
     ensures { result ≡ moved_by shift e }
 {
     let edit = shift.edit;
-    let old_start = e.start;
-    let old_rest = e.rest;
-    let old_reach = e.reach;
-    let start = moved_offset(old_start, edit);
-    let rest = moved_rest(old_rest, edit);
-    let reach = moved_offset(old_reach, edit);
-    let before = Chars(shifted_count(e.before.0, shift));
-    let mut after = e;
-    after.start = start;
-    after.rest = rest;
-    after.reach = reach;
-    after.before = before;
-    after
+    Entry {
+        start: moved_offset(e.start, edit),
+        rest: moved_rest(e.rest, edit),
+        reach: moved_offset(e.reach, edit),
+        before: Chars(shifted_count(e.before.0, shift)),
+        ..e
+    }
 }
 
 // Line `from`, moved, written to line `to`.
@@ -63,8 +57,7 @@ fn move_line(table: &mut [u32], from: usize, to: usize, shift: Shift)
     requires { Movable table.old from to 1 shift }
     ensures { table.new ≡ line_moved table.old from to shift }
 {
-    let old = read_entry(table, from);
-    let after = moved_entry(old, shift);
+    let after = moved_entry(read_entry(table, from), shift);
     write_entry(table, to, after);
 }
 
@@ -73,14 +66,10 @@ fn move_plain(table: &mut [u32], k: usize, shift: Shift)
     requires { Movable table.old k k 1 shift × (get_or table.old (entry_numbers * k + 1) 0 ≡ 0) }
     ensures { table.new ≡ line_moved table.old k k shift }
 {
-    let edit = shift.edit;
     let at = ENTRY_NUMBERS * k;
-    let start = table[at];
-    table[at] = moved_number(start, edit);
-    let reach = table[at + REACH];
-    table[at + REACH] = moved_number(reach, edit);
-    let count = table[at + BEFORE];
-    table[at + BEFORE] = shifted_count(count, shift);
+    table[at] = moved_number(table[at], shift.edit);
+    table[at + REACH] = moved_number(table[at + REACH], shift.edit);
+    table[at + BEFORE] = shifted_count(table[at + BEFORE], shift);
 }
 
 // Line k, moved where it stands.
@@ -88,9 +77,7 @@ fn move_here(table: &mut [u32], k: usize, shift: Shift)
     requires { Movable table.old k k 1 shift }
     ensures { table.new ≡ line_moved table.old k k shift }
 {
-    let at = ENTRY_NUMBERS * k;
-    let end = table[at + REST_END];
-    if end == 0 {
+    if table[ENTRY_NUMBERS * k + REST_END] == 0 {
         move_plain(table, k, shift);
         return;
     }
@@ -103,11 +90,10 @@ fn rests_nowhere(table: &[u32], k: usize) -> bool
     ensures { result ≡ true → Restless table.now k 4 }
 {
     let at = ENTRY_NUMBERS * k;
-    let first = table[at + REST_END];
-    let second = table[at + ENTRY_NUMBERS + REST_END];
-    let third = table[at + TWO_LINES + REST_END];
-    let fourth = table[at + THREE_LINES + REST_END];
-    (first == 0) & (second == 0) & (third == 0) & (fourth == 0)
+    (table[at + REST_END] == 0)
+        & (table[at + ENTRY_NUMBERS + REST_END] == 0)
+        & (table[at + TWO_LINES + REST_END] == 0)
+        & (table[at + THREE_LINES + REST_END] == 0)
 }
 
 // Lines moved where they stand, four at a time, while four follow that have no rest. The answer is how many are moved.
@@ -154,10 +140,8 @@ fn move_forward(table: &mut [u32], from: usize, to: usize, count: usize, shift: 
     requires { Movable table.old from to count shift × (to ≤ from) }
     ensures { table.new ≡ lines_moved table.old from to count shift }
 {
-    let mut i: usize = 0;
-    while i < count {
+    for i in 0..count {
         move_line(table, from + i, to + i, shift);
-        i += 1;
     }
 }
 
@@ -166,10 +150,8 @@ fn move_back(table: &mut [u32], from: usize, to: usize, count: usize, shift: Shi
     requires { Movable table.old from to count shift × (from ≤ to) }
     ensures { table.new ≡ lines_moved table.old from to count shift }
 {
-    let mut left: usize = count;
-    while 0 < left {
-        left -= 1;
-        move_line(table, from + left, to + left, shift);
+    for i in (0..count).rev() {
+        move_line(table, from + i, to + i, shift);
     }
 }
 

@@ -12,12 +12,10 @@ pub fn affected_from(table: &[u32], lines: usize, j: usize, a: Offset) -> usize
     requires { (entry_numbers * lines ≤ length table.now) × (j ≤ lines) }
     ensures { result ≡ j + length (unaffected a.0 (lines_from table.now lines j)) }
 {
-    let mut k: usize = j;
-    while k < lines {
+    for k in j..lines {
         if a.0 < table[ENTRY_NUMBERS * k + REACH] {
             return k;
         }
-        k += 1;
     }
-    k
+    lines
 }

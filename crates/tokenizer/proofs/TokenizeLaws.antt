@@ -1,6 +1,7 @@
 -- What the call that finds all tokens answers, by the check of the text and the room of the buffer.
 -- Assumes nothing.
 use mathlib.Core.Path.{◌≡◌, refl, ap, ◌∙◌}
+use Rattle.std.specs.Prelude.{Err, Ok}
 use mathlib.Core.List.{List, [], ◌∷◌}
 use Prim.Native.Nat.{ℕ, zero, suc, ◌+◌, ◌*◌, ◌/◌, ◌≤◌, ◌<◌}
 use native.Mathlib.Nat.{zero-add}
@@ -18,8 +19,6 @@ use Rattle.meaning.specs.Checks.{refuse_if, check_length, check_utf8, check_text
 use Rattle.meaning.specs.Calls.{text_tokens, check_tokens, tokens_answer, tokens_buffer}
 use Rattle.meaning.specs.declared.refusals.Refusal.{Refusal}
 use Rattle.meaning.specs.declared.refusals.Refusal.TheVariants.{TooSmall}
-use Rattle.meaning.specs.declared.refusals.Checked.TheVariants.{Good, Refused}
-use Rattle.meaning.specs.declared.answers.Tokenized.TheVariants as tokenized
 use Rattle.laws.specs.TokenLaws.{length-size}
 use Rattle.laws.specs.TestOrder.{first_alone, first-refused, first_good}
 use Rattle.parser.specs.Lexing.{chars_from}
@@ -56,7 +55,7 @@ module _ (t : List ℕ) where
   -- ---- the room of the buffer
 
   module _ (b : List ℕ) (n : ℕ) (e : n ≡ length (tokens (chars_from t 0))) where
-    pub no_room : length b / token_numbers < n → (tokenized.Refused (TooSmall n) ≡ room_answer t b) × (b ≡ room_buffer t b)
+    pub no_room : length b / token_numbers < n → (Err (TooSmall n) ≡ room_answer t b) × (b ≡ room_buffer t b)
     unfolding room_answer room_buffer check_needed check_room refuse_if capacity_of pick
     no_room h =
         rw (text-length, ← e, lt-ltb _ _ h) (refl, refl)
@@ -69,17 +68,17 @@ module _ (t : List ℕ) where
         let xs = of_all of_token (ranged 0 ts) in
         sets-eq xs b 0 (omega (arith, numbers-length 0 ts)) ∙ rw (zero-add (length xs))
 
-    pub room : n ≤ length b / token_numbers → (tokenized.Tokens n ≡ room_answer t b) × (sets b 0 (numbers_from t 0) ≡ room_buffer t b)
+    pub room : n ≤ length b / token_numbers → (Ok n ≡ room_answer t b) × (sets b 0 (numbers_from t 0) ≡ room_buffer t b)
     unfolding room_answer room_buffer check_needed check_room refuse_if capacity_of pick
     room h = rw (text-length, ← e, le-ltb _ _ h) (refl, stored h)
 
 -- ---- the check of the text, and then that of the room
 
 module _ (t b : List ℕ) where
-  pub text-good : check_text t ≡ Good → (room_answer t b ≡ tokens_answer t b) × (room_buffer t b ≡ tokens_buffer t b)
+  pub text-good : check_text t ≡ Ok tt → (room_answer t b ≡ tokens_answer t b) × (room_buffer t b ≡ tokens_buffer t b)
   unfolding check_text check_tokens room_answer room_buffer tokens_answer tokens_buffer check_needed
   text-good e = rw (first_good (check_length (length t)) (check_utf8 t) (check_needed t b ∷ []) e ∙ first_alone (check_needed t b)) (refl, refl)
 
-  pub text-refused : (r : Refusal) → check_text t ≡ Refused r → (tokenized.Refused r ≡ tokens_answer t b) × (b ≡ tokens_buffer t b)
+  pub text-refused : (r : Refusal) → check_text t ≡ Err r → (Err r ≡ tokens_answer t b) × (b ≡ tokens_buffer t b)
   unfolding check_text check_tokens tokens_answer tokens_buffer check_needed
   text-refused r e = rw (first-refused (check_length (length t)) (check_utf8 t) (check_needed t b ∷ []) r e) (refl, refl)

@@ -1,19 +1,18 @@
 -- What a reader finds, and where it then stands, from the text that it holds and its offset.
 -- Assumes nothing.
-use Rattle.std.specs.Prelude.{ℕ}
+use Rattle.std.specs.Prelude.{ℕ, None, Option, Some}
+use Rattle.parser.specs.declared.lexeme.Lexeme.{Lexeme}
 use Rattle.meaning.specs.Tokens.{tokens}
 use Rattle.parser.specs.Lexing.{chars_from, lexed_at}
-use Rattle.parser.specs.declared.lexeme.Lexed.{Lexed}
-use Rattle.parser.specs.declared.lexeme.Lexed.TheVariants.{End, Token}
 use Rattle.tokenizer.specs.declared.reader.Reader.{Reader}
 
 -- The offset after what was found at an offset.
-abbrev pub end_of : ℕ → Lexed → ℕ
-end_of at End = at
-end_of at (Token l) = l.end.0
+abbrev pub end_of : ℕ → Option Lexeme → ℕ
+end_of at None = at
+end_of at (Some l) = l.end.0
 
 -- The token at which a reader stands.
-abbrev pub next_of : Reader → Lexed
+abbrev pub next_of : Reader → Option Lexeme
 next_of r = lexed_at r.at (tokens (chars_from r.text.now r.at))
 
 -- The reader after it, with the same text.

@@ -1,13 +1,12 @@
 -- The numbers of tokens in a lent buffer.
 -- Assumes nothing.
-use Rattle.std.specs.Prelude.{ℕ, List, [], ◌∷◌, length}
+use Rattle.std.specs.Prelude.{ℕ, List, [], ◌∷◌, length, Err, Ok, Result}
+use Rattle.meaning.specs.Refusals.{Checked}
+use Rattle.meaning.specs.declared.refusals.Refusal.{Refusal}
 use Rattle.meaning.specs.Tokens.{tokens, ranged}
 use Rattle.meaning.specs.Table.{token_numbers, token_number, of_token, of_all, capacity_of, written}
 use Rattle.meaning.specs.Checks.{answered, afterwards, check_room}
 use Rattle.meaning.specs.Calls.{text_tokens}
-use Rattle.meaning.specs.declared.refusals.Checked.{Checked}
-use Rattle.meaning.specs.declared.answers.Tokenized.{Tokenized}
-use Rattle.meaning.specs.declared.answers.Tokenized.TheVariants as tokenized
 use Rattle.parser.specs.Lexing.{chars_from}
 use Rattle.parser.specs.declared.lexeme.Lexeme.{Lexeme}
 
@@ -23,8 +22,8 @@ numbers_from t at = of_all of_token (ranged at (tokens (chars_from t at)))
 unfoldable pub check_needed : List ℕ → (buffer : List ℕ) → Checked
 check_needed t buffer = check_room (capacity_of token_numbers buffer) (length (text_tokens t))
 
-unfoldable pub room_answer : List ℕ → (buffer : List ℕ) → Tokenized
-room_answer t buffer = answered (check_needed t buffer) (tokenized.Tokens (length (text_tokens t))) tokenized.Refused
+unfoldable pub room_answer : List ℕ → (buffer : List ℕ) → Result ℕ Refusal
+room_answer t buffer = answered (check_needed t buffer) (Ok (length (text_tokens t))) Err
 
 unfoldable pub room_buffer : List ℕ → (buffer : List ℕ) → List ℕ
 room_buffer t buffer = afterwards (check_needed t buffer) (written buffer (of_all of_token (text_tokens t))) buffer

@@ -3,7 +3,7 @@ ghost use Rattle.std.specs.Prelude.{◌≡◌, ◌≤◌, length};
 ghost use Rattle.meaning.specs.Tokens.{tokens};
 ghost use Rattle.parser.specs.Lexing.{chars_from};
 
-use parser::lexeme::Lexed;
+use parser::lexeme::Lexeme;
 use parser::lexer::token_at;
 
 pub fn count_tokens(text: &[u8]) -> usize
@@ -12,15 +12,9 @@ pub fn count_tokens(text: &[u8]) -> usize
 {
     let mut n: usize = 0;
     let mut at: usize = 0;
-    loop {
-        match token_at(text, at) {
-            Lexed::Token(lexeme) => {
-                n += 1;
-                at = lexeme.end.0 as usize;
-            }
-            Lexed::End => {
-                return n;
-            }
-        }
+    while let Some(lexeme) = token_at(text, at) {
+        n += 1;
+        at = lexeme.end.0 as usize;
     }
+    n
 }

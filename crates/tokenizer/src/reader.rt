@@ -6,7 +6,7 @@ ghost use Rattle.meaning.specs.Tokens.{tokens};
 ghost use Rattle.parser.specs.Lexing.{chars_from, lexed_at};
 ghost use Rattle.tokenizer.specs.Reading.{end_of, next_of, read_on};
 
-use parser::lexeme::Lexed;
+use parser::lexeme::Lexeme;
 use parser::lexer::token_at;
 
 #[derive(Clone, Copy)]
@@ -16,17 +16,14 @@ pub struct Reader<'a> {
 }
 
 // Where a reader goes on that found this at an offset: at the token's end, and where it is if there is none.
-fn end_of(found: Lexed, at: usize) -> usize
+fn end_of(found: Option<Lexeme>, at: usize) -> usize
     ensures { result ≡ end_of at found }
 {
-    match found {
-        Lexed::Token(lexeme) => lexeme.end.0 as usize,
-        Lexed::End => at,
-    }
+    found.map_or(at, |lexeme| lexeme.end.0 as usize)
 }
 
 // The token at which the reader stands, whose bytes start at the reader's offset. The reader moves on to their end.
-pub fn next<'s, 'a>(reader: &'s mut Reader<'a>) -> Lexed
+pub fn next<'s, 'a>(reader: &'s mut Reader<'a>) -> Option<Lexeme>
     requires { length reader.old.text.now ≤ 65535 }
     ensures { (result ≡ next_of reader.old) × (reader.new ≡ read_on reader.old) }
 {
@@ -37,7 +34,7 @@ pub fn next<'s, 'a>(reader: &'s mut Reader<'a>) -> Lexed
 }
 
 // The token at an offset, by a reader that is put there.
-pub fn token_from(text: &[u8], at: usize) -> Lexed
+pub fn token_from(text: &[u8], at: usize) -> Option<Lexeme>
     requires { length text.now ≤ 65535 }
     ensures { result ≡ lexed_at at (tokens (chars_from text.now at)) }
 {

@@ -2,35 +2,20 @@
 ghost use Rattle.std.specs.Prelude.{◌≡◌, ◌+◌, ◌*◌, ◌≤◌, length};
 ghost use Rattle.std.proofs.lemmas.List.Edits.{sets};
 ghost use Rattle.meaning.specs.Tokens.{tokens};
-ghost use Rattle.meaning.specs.Table.{token_numbers, token_number};
+ghost use Rattle.meaning.specs.Table.{token_numbers};
 ghost use Rattle.parser.specs.Lexing.{chars_from};
 ghost use Rattle.tokenizer.specs.Writing.{numbers_of, numbers_from};
 
 use meaning::sizes::TOKEN_NUMBERS;
-use meaning::tokens::TokenKind;
-use parser::lexeme::{Lexed, Lexeme};
+use parser::lexeme::Lexeme;
 use parser::lexer::token_at;
-
-fn kind_number(kind: TokenKind) -> u32
-    ensures { result ≡ token_number kind }
-{
-    match kind {
-        TokenKind::NewLine => 0,
-        TokenKind::CarriageReturn => 1,
-        TokenKind::Tab => 2,
-        TokenKind::Whitespace => 3,
-        TokenKind::Word => 4,
-        TokenKind::Break => 5,
-    }
-}
 
 // One token that starts at an offset, to a place of the buffer.
 fn put_token(buffer: &mut [u32], place: usize, start: u32, lexeme: Lexeme)
     requires { place + 4 ≤ length buffer.old }
     ensures { buffer.new ≡ sets buffer.old place (numbers_of start lexeme) }
 {
-    let kind = lexeme.kind;
-    buffer[place] = kind_number(kind);
+    buffer[place] = u32::from(lexeme.kind);
     buffer[place + 1] = start;
     buffer[place + 2] = lexeme.end.0;
     buffer[place + 3] = lexeme.count.0;
@@ -44,16 +29,10 @@ pub fn write_tokens(text: &[u8], buffer: &mut [u32]) -> usize
 {
     let mut n: usize = 0;
     let mut at: usize = 0;
-    loop {
-        match token_at(text, at) {
-            Lexed::Token(lexeme) => {
-                put_token(buffer, TOKEN_NUMBERS * n, at as u32, lexeme);
-                n += 1;
-                at = lexeme.end.0 as usize;
-            }
-            Lexed::End => {
-                return n;
-            }
-        }
+    while let Some(lexeme) = token_at(text, at) {
+        put_token(buffer, TOKEN_NUMBERS * n, at as u32, lexeme);
+        n += 1;
+        at = lexeme.end.0 as usize;
     }
+    n
 }

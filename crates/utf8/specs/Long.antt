@@ -1,7 +1,7 @@
 -- Letters of two and three bytes that their bytes tell: what they are made of is a character, and none that does something else in a
 -- text than a letter does (Tables 3-6 and 3-7, PropList.txt).
 -- Assumes nothing.
-use Rattle.std.specs.Prelude.{◌≡◌, Bool, true, false, ◌&&◌, ◌||◌, not, List, [], ◌∷◌, ℕ, ◌+◌, ◌≤◌, ◌<◌, leb, ltb, eqb, length, take, drop}
+use Rattle.std.specs.Prelude.{◌≡◌, Bool, true, false, ◌&&◌, ◌||◌, not, List, [], ◌∷◌, ℕ, ◌+◌, ◌≤◌, ◌<◌, leb, ltb, eqb, length, drop}
 use Rattle.std.proofs.Common.{ap, ◌∙◌, inl, inr, arith, add-one, drop-cons}
 use borrow.Author.Tests.{le-ltb, lt-ltb, ltb-true, leb-true, eqb-true, eqb-false, not-true}
 use Rattle.std.proofs.Math.ListN.{get_or}

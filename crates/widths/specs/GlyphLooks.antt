@@ -1,13 +1,12 @@
 -- What a pass looks at beyond the token at hand takes whole glyphs too, where there is no tab: so it finds the same in two boxes that
 -- the glyphs of the tokens ahead do not tell apart (rule 8).
 -- Assumes nothing.
-use Rattle.std.specs.Prelude.{ℕ, ◌+◌, ◌*◌, ◌≤◌, ◌≡◌, refl, List, [], ◌∷◌, length}
+use Rattle.std.specs.Prelude.{ℕ, ◌+◌, ◌*◌, ◌≤◌, ◌≡◌, refl, List, [], ◌∷◌, length, None, Option, Some}
+use Rattle.meaning.specs.declared.counts.Pixels.{Pixels}
 use Rattle.std.proofs.Common.{sym, subst, add-mul, one-mul, arith}
 use Rattle.basis.specs.Choice.{pick}
 use Rattle.meaning.specs.Tokens.{Tok, newLine, carriageReturn, tab, softHyphen, space, word, size_of}
 use Rattle.meaning.specs.Lookahead.{added, next_width}
-use Rattle.meaning.specs.declared.cursor.NextWord.{NextWord}
-use Rattle.meaning.specs.declared.cursor.NextWord.TheVariants.{Nothing, Width}
 use Rattle.laws.specs.Spell.{spell, Sound}
 use Rattle.widths.specs.LineParts.{breaks, first_part, part-on, part-joined}
 use Rattle.widths.specs.PartTokens.{InParts}
@@ -30,22 +29,22 @@ pub record Glyphs (g n width : ℕ) : Type 0 where
   pub is : width ≡ count * g
   pub few : count ≤ n
 
-abbrev pub InGlyphs : (g n : ℕ) → NextWord → Type 0
-InGlyphs g n Nothing = Unit {0}
-InGlyphs g n (Width u) = Glyphs g n u.0
+abbrev pub InGlyphs : (g n : ℕ) → Option Pixels → Type 0
+InGlyphs g n None = Unit {0}
+InGlyphs g n (Some u) = Glyphs g n u.0
 
-more-glyphs : (g n k : ℕ) (u : NextWord) → InGlyphs g n u → InGlyphs g (n + k) u
-more-glyphs g n k Nothing h = tt
-more-glyphs g n k (Width u) h = record { count = h.count; is = h.is; few = omega (arith, h.few) }
+more-glyphs : (g n k : ℕ) (u : Option Pixels) → InGlyphs g n u → InGlyphs g (n + k) u
+more-glyphs g n k None h = tt
+more-glyphs g n k (Some u) h = record { count = h.count; is = h.is; few = omega (arith, h.few) }
 
-added-glyphs : (g n k : ℕ) (u : NextWord) → InGlyphs g n u → InGlyphs g (n + k) (added u (k * g))
+added-glyphs : (g n k : ℕ) (u : Option Pixels) → InGlyphs g n u → InGlyphs g (n + k) (added u (k * g))
 unfolding added
-added-glyphs g n k Nothing h = record { count = k; is = refl; few = omega arith }
-added-glyphs g n k (Width u) h =
+added-glyphs g n k None h = record { count = k; is = refl; few = omega arith }
+added-glyphs g n k (Some u) h =
     record { count = h.count + k; is = rw h.is (sym (add-mul h.count k g)); few = omega (arith, h.few) }
 
 -- It is of whole glyphs, of no more than the tokens looked at have.
-pub ahead-glyphs : (g : ℕ) (ts : List Tok) (n at : ℕ) (u : NextWord) → InGlyphs g n u → InGlyphs g (n + most_glyphs ts) (next_width g u at ts).width
+pub ahead-glyphs : (g : ℕ) (ts : List Tok) (n at : ℕ) (u : Option Pixels) → InGlyphs g n u → InGlyphs g (n + most_glyphs ts) (next_width g u at ts).width
 unfolding next_width most_glyphs
 ahead-glyphs g [] n at u h = more-glyphs g n 0 u h
 ahead-glyphs g (newLine ∷ ts) n at u h = more-glyphs g n 0 u h

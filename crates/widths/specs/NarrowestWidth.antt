@@ -2,7 +2,7 @@
 -- search passes over, if it knows that none of those widths will do, is passed over by the definition too (rule 10).
 -- Assumes nothing.
 use Prim.Native.Nat.{ℕ, zero, suc, ◌+◌, ◌-◌, ◌≤◌, ◌<◌}
-use Rattle.std.specs.Prelude.{◌≡◌, true, false, ◌↔◌, List, [], ◌∷◌, leb, eqb, length}
+use Rattle.std.specs.Prelude.{◌≡◌, true, false, ◌↔◌, List, [], ◌∷◌, leb, eqb, length, Err, None, Ok, Option, Result, Some, ℕ}
 use Rattle.std.proofs.Math.Path.{refl, ap}
 use Rattle.std.proofs.Common.{sym, subst, ◌∙◌, leb-true, le-leb, eqb-true, eq-eqb}
 use Rattle.std.proofs.lemmas.Bool.{false≢true}
@@ -15,8 +15,6 @@ use Rattle.meaning.specs.Columns.{all_kept, fits_whole, with_width, narrowest_fr
 use Rattle.meaning.specs.declared.settings.Settings.{Settings}
 use Rattle.meaning.specs.declared.line.Entry.{Entry}
 use Rattle.meaning.specs.declared.refusals.Refusal.{Refusal}
-use Rattle.meaning.specs.declared.answers.Planned.{Planned}
-use Rattle.meaning.specs.declared.answers.Planned.TheVariants.{Width, NoWidth, Refused}
 use Rattle.laws.specs.NothingDropped.{DropNothing}
 
 -- ---- a text that fits whole
@@ -52,7 +50,7 @@ module _ (s : Settings) (h : ℕ) (cs : List ℕ) where
   NoneFits from to = (v : ℕ) → from ≤ v → v < to → fits_whole (with_width s v) h cs ≡ false
 
   -- The first width of all is the answer if it fits in that, and is passed over if not.
-  pub narrowest-here : (w n : ℕ) → fits_whole (with_width s w) h cs ≡ true → narrowest_from s h cs w (suc n) ≡ Width w
+  pub narrowest-here : (w n : ℕ) → fits_whole (with_width s w) h cs ≡ true → narrowest_from s h cs w (suc n) ≡ Some w
   unfolding narrowest_from
   narrowest-here w n e = pick_true (fits_whole (with_width s w) h cs) _ _ e
 
@@ -74,7 +72,7 @@ module _ (s : Settings) (h : ℕ) (cs : List ℕ) where
       ∙ narrowest-skip k n (suc w) (λ v a b. f v (omega arith) (omega arith)))
 
   -- Where it fits in none of all there is no answer.
-  pub none-answered : (n w : ℕ) → NoneFits w (w + n) → narrowest_from s h cs w n ≡ NoWidth
+  pub none-answered : (n w : ℕ) → NoneFits w (w + n) → narrowest_from s h cs w n ≡ None
   unfolding narrowest_from
   none-answered zero w f = refl
   none-answered (suc n) w f = narrowest-past w n (f w (omega arith) (omega arith)) ∙ none-answered n (suc w) (λ v b c. f v (omega arith) (omega arith))
@@ -94,22 +92,20 @@ module _ (s : Settings) (h : ℕ) (cs : List ℕ) where
       ∙ sym (none-answered (bound - x) x (λ v c e. absurd (omega arith))))
 
   -- What is said of the n widths from w on.
-  abbrev Says : (w n : ℕ) → Planned → Type 0
-  Says w n (Width x) = (w ≤ x) × (x < w + n) × (fits_whole (with_width s x) h cs ≡ true) × NoneFits w x
-  Says w n NoWidth = NoneFits w (w + n)
-  Says w n (Refused r) = ⊥
+  abbrev Says : (w n : ℕ) → Option ℕ → Type 0
+  Says w n (Some x) = (w ≤ x) × (x < w + n) × (fits_whole (with_width s x) h cs ≡ true) × NoneFits w x
+  Says w n None = NoneFits w (w + n)
 
   -- One more width below, which it does not fit.
-  says-below : (w n : ℕ) (a : Planned) → fits_whole (with_width s w) h cs ≡ false → Says (suc w) n a → Says w (suc n) a
-  says-below w n (Width x) e f = (
+  says-below : (w n : ℕ) (a : Option ℕ) → fits_whole (with_width s w) h cs ≡ false → Says (suc w) n a → Says w (suc n) a
+  says-below w n (Some x) e f = (
     omega (arith, f.0),
     omega (arith, f.1),
     f.2,
     λ v b c. by_eq v w (λ d. subst (λ (u : ℕ). fits_whole (with_width s u) h cs ≡ false) (sym d) e) (λ d. f.3 v (omega arith) c),
   )
-  says-below w n NoWidth e f =
+  says-below w n None e f =
       λ v b c. by_eq v w (λ d. subst (λ (u : ℕ). fits_whole (with_width s u) h cs ≡ false) (sym d) e) (λ d. f v (omega arith) (omega arith))
-  says-below w n (Refused r) e f = f
 
   from-says : (n w : ℕ) → Says w n (narrowest_from s h cs w n)
   unfolding narrowest_from
@@ -123,23 +119,23 @@ module _ (s : Settings) (h : ℕ) (cs : List ℕ) where
   says = from-says (suc widest_box) 0
 
   -- A width that is answered is allowed, the text fits in it, and in no smaller one.
-  pub width-says : (w : ℕ) → narrowest s h cs ≡ Width w → (w ≤ 4096) × (fits_whole (with_width s w) h cs ≡ true) × ((v : ℕ) → v < w → fits_whole (with_width s v) h cs ≡ false)
+  pub width-says : (w : ℕ) → narrowest s h cs ≡ Some w → (w ≤ 4096) × (fits_whole (with_width s w) h cs ≡ true) × ((v : ℕ) → v < w → fits_whole (with_width s v) h cs ≡ false)
   width-says w e =
-      let f : Says 0 (suc widest_box) (Width w) = subst (Says 0 (suc widest_box)) e says in
+      let f : Says 0 (suc widest_box) (Some w) = subst (Says 0 (suc widest_box)) e says in
       (omega (arith, f.1), f.2, λ v c. f.3 v (omega arith) c)
 
   -- Where none is answered there is none.
-  pub no_width-says : narrowest s h cs ≡ NoWidth → (v : ℕ) → v ≤ 4096 → fits_whole (with_width s v) h cs ≡ false
+  pub no_width-says : narrowest s h cs ≡ None → (v : ℕ) → v ≤ 4096 → fits_whole (with_width s v) h cs ≡ false
   no_width-says e v c =
-      let f : Says 0 (suc widest_box) NoWidth = subst (Says 0 (suc widest_box)) e says in
+      let f : Says 0 (suc widest_box) None = subst (Says 0 (suc widest_box)) e says in
       f v (omega arith) (omega arith)
 
-  pub never-refused : (r : Refusal) → narrowest s h cs ≡ Refused r → ⊥
-  never-refused r e = subst (Says 0 (suc widest_box)) e says
+  pub never-refused : (r : Refusal) → ◌≡◌ {A = Result (Option ℕ) Refusal} (Ok (narrowest s h cs)) (Err r) → ⊥
+  never-refused r e = let z : ◌≡◌ {A = ℕ} 0 1 = cc in omega arith
 
   -- The other way: the smallest width is answered, and none if there is none.
   pub smallest-answered : (w : ℕ) → w ≤ 4096 → fits_whole (with_width s w) h cs ≡ true → ((v : ℕ) → v < w → fits_whole (with_width s v) h cs ≡ false)
-      → narrowest s h cs ≡ Width w
+      → narrowest s h cs ≡ Some w
   unfolding narrowest
   smallest-answered w small e f =
       let n : suc widest_box ≡ w + suc (4096 - w) = omega arith in
@@ -149,6 +145,6 @@ module _ (s : Settings) (h : ℕ) (cs : List ℕ) where
       ∙ ap (λ (x : ℕ). narrowest_from s h cs x (suc (4096 - w))) z
       ∙ narrowest-here w (4096 - w) e
 
-  pub no_width-answered : ((v : ℕ) → v ≤ 4096 → fits_whole (with_width s v) h cs ≡ false) → narrowest s h cs ≡ NoWidth
+  pub no_width-answered : ((v : ℕ) → v ≤ 4096 → fits_whole (with_width s v) h cs ≡ false) → narrowest s h cs ≡ None
   unfolding narrowest
   no_width-answered f = none-answered (suc widest_box) 0 (λ v b c. f v (omega arith))

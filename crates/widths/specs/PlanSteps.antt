@@ -2,13 +2,12 @@
 -- glyph more, and what does not fit in a box that holds its longest part, or centred two of those, fits in none that is wider. The
 -- planned width is whole glyphs (rule 10).
 -- Assumes nothing.
-use Rattle.std.specs.Prelude.{ℕ, suc, ◌+◌, ◌-◌, ◌*◌, ◌/◌, ◌≤◌, ◌<◌, ◌≡◌, false, List}
+use Rattle.std.specs.Prelude.{ℕ, suc, ◌+◌, ◌-◌, ◌*◌, ◌/◌, ◌≤◌, ◌<◌, ◌≡◌, false, List, None, Ok, Some}
 use Rattle.std.proofs.Common.{sym, ◌∙◌, div-mul-le_self, div-lt_iff_lt-mul, le-div_iff_mul-le, arith}
 use Rattle.std.proofs.lemmas.Bool.{false≢true}
 use Rattle.basis.specs.Order.{by_lt}
 use Rattle.meaning.specs.Columns.{fits_whole, with_width, narrowest_from, narrowest}
 use Rattle.meaning.specs.declared.settings.Settings.{Settings}
-use Rattle.meaning.specs.declared.answers.Planned.TheVariants.{Width, NoWidth}
 use Rattle.widths.specs.TabFree.{has_tab}
 use Rattle.widths.specs.NarrowestWidth.{NoneFits, none-answered, narrowest-on, width-says}
 use Rattle.widths.specs.WidthSteps.{fits-by_steps, fits_in-glyphs}
@@ -40,10 +39,10 @@ module _ (s : Settings) (h : ℕ) (cs : List ℕ) (aligned : s.alignment ≤ 2) 
   pub wide-none : (w to : ℕ) → enough_for s cs ≤ w → fits_whole (with_width s w) h cs ≡ false → NoneFits s h cs w to
   wide-none w to enough e v low high = fits-wide-enough s cs some free aligned v w h (omega arith) enough ∙ e
 
-  pub wide-ends : (w n : ℕ) → enough_for s cs ≤ w → fits_whole (with_width s w) h cs ≡ false → narrowest_from s h cs w n ≡ NoWidth
+  pub wide-ends : (w n : ℕ) → enough_for s cs ≤ w → fits_whole (with_width s w) h cs ≡ false → narrowest_from s h cs w n ≡ None
   wide-ends w n enough e = none-answered s h cs n w (wide-none w (w + n) enough e)
 
-  pub planned_in_glyphs : (w : ℕ) → narrowest s h cs ≡ Width w → w ≡ w / g * g
+  pub planned_in_glyphs : (w : ℕ) → narrowest s h cs ≡ Some w → w ≡ w / g * g
   planned_in_glyphs w e =
       let f = width-says s h cs w e in
       by_lt (w / g * g) w (λ less. absurd (false≢true (sym (f.2 (w / g * g) less) ∙ sym (fits_in-glyphs s cs aligned some free w h) ∙ f.1)))

@@ -1,6 +1,7 @@
 -- Where less than a glyph's room is left in a line nothing more is printed in it (rule 8).
 -- Assumes nothing.
-use Rattle.std.specs.Prelude.{ℕ, ◌+◌, ◌*◌, ◌/◌, ◌≤◌, ◌<◌, ◌≡◌, refl, true, ◌&&◌, ◌||◌, List, [], ◌∷◌, ◌++◌, eqb, length}
+use Rattle.std.specs.Prelude.{ℕ, ◌+◌, ◌*◌, ◌/◌, ◌≤◌, ◌<◌, ◌≡◌, refl, true, ◌&&◌, ◌||◌, List, [], ◌∷◌, ◌++◌, eqb, length, None, Option, Some}
+use Rattle.meaning.specs.declared.counts.Pixels.{Pixels}
 use Rattle.std.proofs.Common.{ap, ◌∙◌, arith}
 use Rattle.std.proofs.Math.Bool.{not}
 use Rattle.std.proofs.Math.Nat.{one-mul, mul-le-mul_right, div-eq_of_lt}
@@ -15,8 +16,6 @@ use Rattle.meaning.specs.LineIter.{skips, Step, go, stop, cut_run, on_space, on_
 use Rattle.meaning.specs.declared.settings.Settings.{Settings}
 use Rattle.meaning.specs.declared.cursor.LineCursor.{LineCursor}
 use Rattle.meaning.specs.declared.cursor.Place.{Place}
-use Rattle.meaning.specs.declared.cursor.NextWord.{NextWord}
-use Rattle.meaning.specs.declared.cursor.NextWord.TheVariants.{Nothing, Width}
 use Rattle.meaning.specs.declared.line.EventKind.{EventKind}
 use Rattle.meaning.specs.declared.line.EventKind.TheVariants.{Space, Printed, Move}
 use Rattle.laws.specs.Spell.{spell, SoundTok, Sound}
@@ -93,10 +92,10 @@ module _ (s : Settings) (p : Place) (at : ℕ) (narrow : room_of p.cursor < s.gl
       pick_cases P (fits_in p.cursor g) (λ e. glyph-unfit g (omega arith) e)
       (λ _. pick_cases P p.empty (λ _. (tt, narrow)) (λ _. tt))
 
-  break_quiet : (u : NextWord) (reach : ℕ) → P (on_break s p at u reach)
+  break_quiet : (u : Option Pixels) (reach : ℕ) → P (on_break s p at u reach)
   unfolding on_break
-  break_quiet Nothing reach = (tt, narrow)
-  break_quiet (Width u) reach = pick_cases P (p.empty || not (fits_in p.cursor u.0)) (λ _. hyphen_quiet reach) (λ _. (tt, narrow))
+  break_quiet None reach = (tt, narrow)
+  break_quiet (Some u) reach = pick_cases P (p.empty || not (fits_in p.cursor u.0)) (λ _. hyphen_quiet reach) (λ _. (tt, narrow))
 
   word_quiet : (cs : List ℕ) → 1 ≤ length cs → P (on_word s p at cs)
   unfolding on_word cut_word unfit_word

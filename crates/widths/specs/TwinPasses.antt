@@ -2,7 +2,8 @@
 -- theirs: token by token. What they draw may differ by the widths of tabs (rule 8, rule 9).
 -- Assumes nothing.
 use Prim.Native.Nat.{ℕ, ◌+◌, ◌*◌, ◌/◌, ◌≤◌, max, min}
-use Rattle.std.specs.Prelude.{◌≡◌, Bool, ◌&&◌, ◌||◌, length, take}
+use Rattle.meaning.specs.declared.counts.Pixels.{Pixels}
+use Rattle.std.specs.Prelude.{◌≡◌, Bool, ◌&&◌, ◌||◌, length, take, None, Option, Some}
 use Rattle.std.proofs.Math.Path.{refl, sym, ap, subst}
 use Rattle.std.proofs.Common.{◌∙◌, one-mul, arith}
 use Rattle.std.proofs.Math.Bool.{true, false, not}
@@ -23,8 +24,6 @@ use Rattle.meaning.specs.declared.settings.Settings.{Settings}
 use Rattle.meaning.specs.declared.cursor.LineCursor.{LineCursor}
 use Rattle.meaning.specs.declared.cursor.Place.{Place}
 use Rattle.meaning.specs.declared.cursor.Spaces.{Spaces}
-use Rattle.meaning.specs.declared.cursor.NextWord.{NextWord}
-use Rattle.meaning.specs.declared.cursor.NextWord.TheVariants.{Nothing, Width}
 use Rattle.meaning.specs.declared.line.LineEnd.TheVariants.{LineBreak}
 use Rattle.meaning.specs.declared.line.EventKind.{EventKind}
 use Rattle.meaning.specs.declared.line.EventKind.TheVariants.{Space, Printed, Move}
@@ -248,11 +247,11 @@ module _ (s : Settings) (w v : ℕ) (some : 1 ≤ s.glyph.0) (N : List Tok → L
         both_picked P p.empty p.empty refl (λ _. (record { same = refl; near = on.0; plain = plain }, onward (drawn Printed at (at + 2) 0 g ∷ []) _ _, refl)) (λ _. refl))
         (λ _. both_picked P p.empty p.empty refl (λ _. (stands on.1, onward [] _ _, refl)) (λ _. refl))
 
-    break_alike : (u : NextWord) (reach : ℕ) → N (softHyphen ∷ ts) x y → InGlyphs g (most_glyphs (softHyphen ∷ ts)) u
+    break_alike : (u : Option Pixels) (reach : ℕ) → N (softHyphen ∷ ts) x y → InGlyphs g (most_glyphs (softHyphen ∷ ts)) u
         → P (on_break a p at u reach) (on_break b q at u reach)
     unfolding on_break
-    break_alike Nothing reach m h = (stands (twins.at-hyphen ts x y m).1, onward [] _ _, refl)
-    break_alike (Width u) reach m h =
+    break_alike None reach m h = (stands (twins.at-hyphen ts x y m).1, onward [] _ _, refl)
+    break_alike (Some u) reach m h =
         let fits : fits_in x u.0 ≡ fits_in y u.0 = rw h.is (twins.fits (softHyphen ∷ ts) x y h.count m h.few) in
         both_picked P (p.empty || not (fits_in x u.0)) (p.empty || not (fits_in y u.0)) (λ i. p.empty || not (fits i))
         (λ _. hyphen-alike reach m) (λ _. (stands (twins.at-hyphen ts x y m).1, onward [] _ _, refl))
@@ -285,8 +284,8 @@ module _ (s : Settings) (w v : ℕ) (some : 1 ≤ s.glyph.0) (N : List Tok → L
       (λ e. draws-alike (moved_on p (tab_width p.cursor)) (advance y (tab_width y)) from ts plain (twins.past-tab ts p.cursor y m e))
   step-alike softHyphen ts p y at plain m =
       let from = at + size_of softHyphen in
-      let ahead = next_width g Nothing from ts in
-      break_alike p y at from ts plain ahead.width ahead.reach m (ahead-glyphs g ts 1 from Nothing tt)
+      let ahead = next_width g None from ts in
+      break_alike p y at from ts plain ahead.width ahead.reach m (ahead-glyphs g ts 1 from None tt)
   step-alike (space cs n e) ts p y at plain m =
       let width = spaces_width p.spaces n in
       let from = at + size_of (space cs n e) in

@@ -1,7 +1,8 @@
 -- With plain spaces, and without tabs or where tabs and box are whole glyphs wide, a pass draws whole glyphs: so a line is measured in whole
 -- glyphs (rule 8, rule 10).
 -- Assumes nothing.
-use Rattle.std.specs.Prelude.{ℕ, ◌+◌, ◌-◌, ◌*◌, ◌/◌, ◌≡◌, ◌⊎◌, ◌&&◌, ◌||◌, List, [], ◌∷◌, eqb, length, take}
+use Rattle.std.specs.Prelude.{ℕ, ◌+◌, ◌-◌, ◌*◌, ◌/◌, ◌≡◌, ◌⊎◌, ◌&&◌, ◌||◌, List, [], ◌∷◌, eqb, length, take, None, Option, Some}
+use Rattle.meaning.specs.declared.counts.Pixels.{Pixels}
 use Rattle.std.proofs.Common.{subst, inl, arith}
 use Rattle.std.proofs.Math.Logic.{inr}
 use Rattle.std.proofs.Math.Bool.{not}
@@ -18,8 +19,6 @@ use Rattle.meaning.specs.declared.settings.Settings.{Settings}
 use Rattle.meaning.specs.declared.cursor.LineCursor.{LineCursor}
 use Rattle.meaning.specs.declared.cursor.Spaces.{Spaces}
 use Rattle.meaning.specs.declared.cursor.Place.{Place}
-use Rattle.meaning.specs.declared.cursor.NextWord.{NextWord}
-use Rattle.meaning.specs.declared.cursor.NextWord.TheVariants.{Nothing, Width}
 use Rattle.meaning.specs.declared.line.EventKind.{EventKind}
 use Rattle.laws.specs.Pens.{Plain, plain-after, plain-width}
 use Rattle.laws.specs.LastPrint.{to_last_print, AllOf, all_append, all_first, width_of, measured-width}
@@ -118,10 +117,10 @@ module _ (s : Settings) (p : Place) (at : ℕ) (plain : Plain s.glyph.0 p.spaces
         (λ _. pick_cases P p.empty (λ _. ((one-glyph g, tt), plain, onward g (one-glyph g))) (λ _. (one-glyph g, tt)))
         (λ _. pick_cases P p.empty (λ _. (tt, plain, still)) (λ _. tt))
 
-    break_whole : (u : NextWord) (reach : ℕ) → P (on_break s p at u reach)
+    break_whole : (u : Option Pixels) (reach : ℕ) → P (on_break s p at u reach)
     unfolding on_break
-    break_whole Nothing reach = (tt, plain, still)
-    break_whole (Width u) reach =
+    break_whole None reach = (tt, plain, still)
+    break_whole (Some u) reach =
         pick_cases P (p.empty || not (fits_in p.cursor u.0)) (λ _. hyphen-whole reach) (λ _. (tt, plain, still))
 
     cut-word-whole : (cs : List ℕ) → P (cut_word s p at cs)

@@ -5,7 +5,4 @@ use Rattle.edits.specs.Pointer.{passing}
 use Rattle.again.proofs.stop.skip_before.Given as goal
 
 abbrev pub invariant-loop-i : goal.invariant-loop-i
-invariant-loop-i l = (l.j + passing l.edit l.start.0 (lines_from l.table l.lines l.j) ≡ l.i + passing l.edit l.start.0 (lines_from l.table l.lines l.i)) × (l.i ≤ l.lines)
-
-abbrev pub decreases-loop-i : goal.decreases-loop-i
-decreases-loop-i l = l.lines - l.i
+invariant-loop-i l = l.j + passing l.edit l.start.0 (lines_from l.table l.lines l.j) ≡ l.i + passing l.edit l.start.0 (lines_from l.table l.lines l.i)

@@ -5,6 +5,3 @@ use Rattle.again.proofs.writing.write_again.Given as goal
 
 abbrev pub invariant-loop-n : goal.invariant-loop-n
 invariant-loop-n l = Wrote l.s l.part l.initial.table l.table l.base.0 l.k l.laid l.initial.stand l.n l.stand
-
-abbrev pub decreases-loop-n : goal.decreases-loop-n
-decreases-loop-n l = l.laid - l.n

@@ -9,9 +9,9 @@ pub white_width-width-requires : goal.white_width-width-requires
 white_width-width-requires c =
     (c.requires.0.place.0, c.requires.0.place.1, stands-few c.requires.0.stands c.requires.0.short)
 
-pub returns-in-Known : goal.returns-in-Known
-returns-in-Known c =
-    beyond-kept c.requires.0 c.requires.1 c.if-p.false _ c.white_width-width.ensures ((let passed_here : fits_in c.args.p.cursor c.white_width-width.result ≡ true = sym c.fits.ensures ∙ c.if-not-fits.false in passed_here)) _ c.in-Known.is
+pub returns-in-Some : goal.returns-in-Some
+returns-in-Some c =
+    beyond-kept c.requires.0 c.requires.1 c.if-p.false _ c.white_width-width.ensures ((let passed_here : fits_in c.args.p.cursor c.white_width-width.result ≡ true = sym c.fits.ensures ∙ c.if-not-fits.false in passed_here)) _ c.in-Some.is
 
 pub advanced-next-requires : goal.advanced-next-requires
 advanced-next-requires c =

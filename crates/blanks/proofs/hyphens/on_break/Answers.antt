@@ -14,8 +14,8 @@ hyphenated-requires c =
 pub returns-then-shows : goal.returns-then-shows
 returns-then-shows c =
     c.hyphenated.ensures
-    ∙ break_shows c.args.s c.args.p _ c.args.at c.args.x c.args.m c.requires.0.stands c.requires.1 _ c.next_word_width-ahead.ensures _ c.in-Width.is (sym c.shows.ensures ∙ c.if-shows.true)
+    ∙ break_shows c.args.s c.args.p _ c.args.at c.args.x c.args.m c.requires.0.stands c.requires.1 _ c.next_word_width-ahead.ensures _ c.in-Some.is (sym c.shows.ensures ∙ c.if-shows.true)
 
 pub returns : goal.returns
 returns c =
-    break_hides c.args.s c.args.p _ c.args.at c.args.x c.args.m c.requires.0.stands c.requires.1 _ c.next_word_width-ahead.ensures _ c.in-Width.is (sym c.shows.ensures ∙ c.if-shows.false)
+    break_hides c.args.s c.args.p _ c.args.at c.args.x c.args.m c.requires.0.stands c.requires.1 _ c.next_word_width-ahead.ensures _ c.in-Some.is (sym c.shows.ensures ∙ c.if-shows.false)

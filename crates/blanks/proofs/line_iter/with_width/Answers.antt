@@ -6,14 +6,14 @@ use Rattle.blanks.proofs.line_iter.with_width.Goals as goal
 
 pub overflow_add-result : goal.overflow_add-result
 overflow_add-result c =
-    record { fits = omega (arith, ap known_of c.in-Width.is) }
+    record { fits = omega (arith, ap known_of c.in-Some.is) }
 
-pub returns-in-Nothing : goal.returns-in-Nothing
+pub returns-in-None : goal.returns-in-None
 unfolding added
-returns-in-Nothing c =
-    rw c.in-Nothing.is
+returns-in-None c =
+    rw c.in-None.is
 
-pub returns-in-Width : goal.returns-in-Width
+pub returns-in-Some : goal.returns-in-Some
 unfolding added
-returns-in-Width c =
-    rw c.in-Width.is
+returns-in-Some c =
+    rw c.in-Some.is

@@ -1,5 +1,5 @@
 -- `blanks::spaces::cut_run` meets its contract (rule 8, rule 9).
-use Rattle.std.proofs.Common.{◌*◌, ◌/◌, ◌≤◌, arith}
+use Rattle.std.proofs.Common.{◌*◌, ◌/◌, ◌≤◌, arith, ◌+◌, ◌-◌}
 use Rattle.steps.specs.RunLaws.{cut-some, cut-single, cut-numbers, cut-fewer, cut-answer}
 use Rattle.blanks.proofs.spaces.cut_run.Goals as goal
 
@@ -21,9 +21,9 @@ noted_space-measure-requires c =
 
 pub held_rest-rest-requires : goal.held_rest-rest-requires
 held_rest-rest-requires c =
-    omega (arith, c.lesser-taken.ensures, cut-fewer c.requires)
+    omega (arith, c.min-taken.ensures, cut-fewer c.requires)
 
 pub returns : goal.returns
 returns c =
-    cut-answer c.requires _ _ _ _ _ c.room.ensures c.lesser-taken.ensures c.noted_space-measure.ensures c.part_of-part.ensures
+    cut-answer c.requires _ _ _ _ _ c.room.ensures c.min-taken.ensures c.noted_space-measure.ensures c.part_of-part.ensures
     c.held_rest-rest.ensures

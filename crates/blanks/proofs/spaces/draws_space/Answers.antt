@@ -6,9 +6,9 @@ pub returns-then-q : goal.returns-then-q
 returns-then-q c =
     draws-front _ _ _ _ c.if-q.true
 
-pub returns-in-Known : goal.returns-in-Known
-returns-in-Known c =
-    draws-known _ _ _ _ c.args.seen _ c.if-q.false c.requires.4 c.in-Known.is
+pub returns-in-Some : goal.returns-in-Some
+returns-in-Some c =
+    draws-known _ _ _ _ c.args.seen _ c.if-q.false c.requires.4 c.in-Some.is
 
 pub returns : goal.returns
 returns c =

@@ -1,33 +1,34 @@
 -- `paging::choosing::choose` meets its contract (rule 10, refusal 1, refusal 2, refusal 3, refusal 4).
 use Rattle.std.proofs.Common.{◌≡◌, sym, ap, ◌∙◌, length}
+use Rattle.std.specs.Prelude.{Ok}
 use Rattle.meaning.specs.PageCalls.{check_choosing}
-use Rattle.meaning.specs.declared.refusals.Checked.TheVariants.{Good}
 use Rattle.choosing.specs.Choosing.{choosing-refused, long-takeable, short-takeable, whole_is, chosen-long, bytes-end, chosen-short}
+use Rattle.laws.specs.Asked.{asked}
 use Rattle.choosing.proofs.choosing.choose.Goals as goal
 
-pub returns-in-Refused : goal.returns-in-Refused
-returns-in-Refused c =
-    choosing-refused _ _ _ _ _ (sym c.check_choosing-checked.ensures ∙ c.in-Refused.is)
+pub returns-in_err-check_choosing : goal.returns-in_err-check_choosing
+returns-in_err-check_choosing c =
+    asked _ c.from_residual.ensures.1 ∙ choosing-refused _ _ _ _ _ (sym c.check_choosing.ensures ∙ c.in_err-check_choosing.was)
 
 pub take_lines-first-requires : goal.take_lines-first-requires
 take_lines-first-requires c =
-    long-takeable _ _ _ _ ((let tested_here : check_choosing c.args.s c.args.h c.args.long.now c.args.short.now ≡ Good = sym c.check_choosing-checked.ensures ∙ c.in_default.is in tested_here))
+    long-takeable _ _ _ _ ((let tested_here : check_choosing c.args.s c.args.h c.args.long.now c.args.short.now ≡ Ok tt = sym c.check_choosing.ensures ∙ c.in_ok-check_choosing.was in tested_here))
 
 pub chosen_part-part-requires : goal.chosen_part-part-requires
 chosen_part-part-requires c =
-    (whole_is _ _ _ _ c.take_lines-first.ensures, short-takeable _ _ _ _ ((let tested_here : check_choosing c.args.s c.args.h c.args.long.now c.args.short.now ≡ Good = sym c.check_choosing-checked.ensures ∙ c.in_default.is in tested_here)))
+    (whole_is _ _ _ _ c.take_lines-first.ensures, short-takeable _ _ _ _ ((let tested_here : check_choosing c.args.s c.args.h c.args.long.now c.args.short.now ≡ Ok tt = sym c.check_choosing.ensures ∙ c.in_ok-check_choosing.was in tested_here)))
 
 pub returns-then-fits : goal.returns-then-fits
 returns-then-fits c =
-    chosen-long _ _ _ _ ((let tested_here : check_choosing c.args.s c.args.h c.args.long.now c.args.short.now ≡ Good = sym c.check_choosing-checked.ensures ∙ c.in_default.is in tested_here)) (sym (whole_is _ _ _ _ c.take_lines-first.ensures) ∙ c.if-fits.true) _ (ap length c.chosen_part-part.ensures)
+    chosen-long _ _ _ _ ((let tested_here : check_choosing c.args.s c.args.h c.args.long.now c.args.short.now ≡ Ok tt = sym c.check_choosing.ensures ∙ c.in_ok-check_choosing.was in tested_here)) (sym (whole_is _ _ _ _ c.take_lines-first.ensures) ∙ c.if-fits.true) _ (ap length c.chosen_part-part.ensures)
 
 pub chars_behind-left_out-requires : goal.chars_behind-left_out-requires
 chars_behind-left_out-requires c =
-    let good = (let tested_here : check_choosing c.args.s c.args.h c.args.long.now c.args.short.now ≡ Good = sym c.check_choosing-checked.ensures ∙ c.in_default.is in tested_here) in
+    let good = (let tested_here : check_choosing c.args.s c.args.h c.args.long.now c.args.short.now ≡ Ok tt = sym c.check_choosing.ensures ∙ c.in_ok-check_choosing.was in tested_here) in
     let e = sym (whole_is _ _ _ _ c.take_lines-first.ensures) ∙ c.if-fits.false in
     ((short-takeable _ _ _ _ good).utf8, bytes-end _ _ _ _ good e _ (ap length c.chosen_part-part.ensures))
 
 pub returns : goal.returns
 returns c =
     let e = sym (whole_is _ _ _ _ c.take_lines-first.ensures) ∙ c.if-fits.false in
-    chosen-short _ _ _ _ ((let tested_here : check_choosing c.args.s c.args.h c.args.long.now c.args.short.now ≡ Good = sym c.check_choosing-checked.ensures ∙ c.in_default.is in tested_here)) e _ (ap length c.chosen_part-part.ensures) _ c.chars_behind-left_out.ensures
+    chosen-short _ _ _ _ ((let tested_here : check_choosing c.args.s c.args.h c.args.long.now c.args.short.now ≡ Ok tt = sym c.check_choosing.ensures ∙ c.in_ok-check_choosing.was in tested_here)) e _ (ap length c.chosen_part-part.ensures) _ c.chars_behind-left_out.ensures

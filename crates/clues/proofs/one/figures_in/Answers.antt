@@ -4,12 +4,12 @@ use Rattle.clues.proofs.one.figures_in.Goals as goal
 
 pub laid_figures-requires : goal.laid_figures-requires
 laid_figures-requires c =
-    c.requires c.in-Good.is
+    c.requires c.in-Ok.is
 
-pub returns-in-Good : goal.returns-in-Good
-returns-in-Good c =
-    by-checked _ _ _ _ c.in-Good.is c.laid_figures.ensures
+pub returns-in-Ok : goal.returns-in-Ok
+returns-in-Ok c =
+    by-checked _ _ _ _ c.in-Ok.is c.laid_figures.ensures
 
-pub returns-in-Refused : goal.returns-in-Refused
-returns-in-Refused c =
-    by-refused _ _ _ _ c.in-Refused.is c.refused_figures.ensures
+pub returns-in-Err : goal.returns-in-Err
+returns-in-Err c =
+    by-refused _ _ _ _ c.in-Err.is c.refused_figures.ensures

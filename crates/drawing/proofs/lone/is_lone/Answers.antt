@@ -1,5 +1,5 @@
 -- `drawing::lone::is_lone` meets its contract (rule 8).
-use Rattle.std.proofs.Common.{◌+◌, refl, sym, arith}
+use Rattle.std.proofs.Common.{◌+◌, refl, sym, ◌∙◌, arith}
 use mathlib.Core.Bool.{false≢true}
 use Rattle.std.proofs.lemmas.Bool.{not-false}
 use Rattle.meaning.specs.Characters.{in_word}
@@ -9,6 +9,7 @@ use Rattle.parser.specs.Letters.{Letter}
 use Rattle.parser.specs.LexerLaws.{letter-lexed}
 use Rattle.parser.specs.Marks.{Mark}
 use Rattle.parser.specs.MarkLaws.{mark-room}
+use Rattle.laws.specs.Asked.{some_one}
 use Rattle.drawing.proofs.lone.is_lone.Goals as goal
 
 pub returns-then-not-p : goal.returns-then-not-p
@@ -18,10 +19,6 @@ returns-then-not-p c =
 pub returns-then-rest-ne0 : goal.returns-then-rest-ne0
 returns-then-rest-ne0 c =
     λ e. absurd (false≢true e)
-
-pub hyphen_at-requires : goal.hyphen_at-requires
-hyphen_at-requires c =
-    c.requires.inside
 
 pub returns-then-not-hyphen_at : goal.returns-then-not-hyphen_at
 returns-then-not-hyphen_at c =
@@ -47,22 +44,18 @@ pub overflow_add-at : goal.overflow_add-at
 overflow_add-at c =
     omega (arith, mark-room _ _ 2 ((let hyphen_here : Mark c.args.text.now c.args.at 2 = c.hyphen_at.ensures c.if-not-hyphen_at.false in hyphen_here)), c.requires.short)
 
-pub returns-then-first_len-eq0 : goal.returns-then-first_len-eq0
-returns-then-first_len-eq0 c =
-    λ e. absurd (false≢true e)
-
 pub returns : goal.returns
 unfolding word_of
 returns c =
     let from = c.args.at + 2 in
-    let letter : Letter c.args.text.now from c.first_len.result = c.first_len.ensures (omega (arith, c.if-first_len-eq0.false)) in
-    λ _.
+    λ e.
+    let letter = some_one c.first_len.result (sym c.is_some.ensures ∙ e) c.first_len.ensures in
     record {
       none = c.if-rest-ne0.false;
-      word = word_of (scan_from in_word glue_of (from + c.first_len.result) 1 0 (chars_from c.args.text.now (from + c.first_len.result)));
+      word = word_of (scan_from in_word glue_of (from + letter.0) 1 0 (chars_from c.args.text.now (from + letter.0)));
       lone = record {
         hyphen = (let hyphen_here : Mark c.args.text.now c.args.at 2 = c.hyphen_at.ensures c.if-not-hyphen_at.false in hyphen_here);
-        word = sym (letter-lexed c.args.text.now from c.first_len.result letter);
+        word = sym (letter-lexed c.args.text.now from letter.0 letter.1);
         kind = refl;
         empty = not-false _ c.if-not-p.false;
         shown = omega (arith, c.room-left.ensures, c.if-left-glyph.false);

@@ -28,17 +28,17 @@ returns-in-None c =
 
 pub overflow_add-at : goal.overflow_add-at
 overflow_add-at c =
-    omega (arith, mark-room _ _ 2 ((let joining_here : Joining c.args.s c.loop-events.p c.args.text.now c.loop-events.at c.in-Word.word c.in-Word.place = subst (JoinedIs c.args.s c.loop-events.p c.args.text.now c.loop-events.at) c.in-Word.is c.next_joined.ensures in joining_here)).hyphen, c.loop-events.invariant.0.ready.pass.short)
+    omega (arith, mark-room _ _ 2 ((let joining_here : Joining c.args.s c.loop-events.p c.args.text.now c.loop-events.at c.in-Some.joined.word c.in-Some.joined.place = subst (JoinedIs c.args.s c.loop-events.p c.args.text.now c.loop-events.at) c.in-Some.is c.next_joined.ensures in joining_here)).hyphen, c.loop-events.invariant.0.ready.pass.short)
 
 pub draw_scanned-pen-requires : goal.draw_scanned-pen-requires
 draw_scanned-pen-requires c =
-    (joined-room c.loop-events.invariant.0.ready ((let joining_here : Joining c.args.s c.loop-events.p c.args.text.now c.loop-events.at c.in-Word.word c.in-Word.place = subst (JoinedIs c.args.s c.loop-events.p c.args.text.now c.loop-events.at) c.in-Word.is c.next_joined.ensures in joining_here)) c.loop-events.events, ((let joining_here : Joining c.args.s c.loop-events.p c.args.text.now c.loop-events.at c.in-Word.word c.in-Word.place = subst (JoinedIs c.args.s c.loop-events.p c.args.text.now c.loop-events.at) c.in-Word.is c.next_joined.ensures in joining_here)).word)
+    (joined-room c.loop-events.invariant.0.ready ((let joining_here : Joining c.args.s c.loop-events.p c.args.text.now c.loop-events.at c.in-Some.joined.word c.in-Some.joined.place = subst (JoinedIs c.args.s c.loop-events.p c.args.text.now c.loop-events.at) c.in-Some.is c.next_joined.ensures in joining_here)) c.loop-events.events, ((let joining_here : Joining c.args.s c.loop-events.p c.args.text.now c.loop-events.at c.in-Some.joined.word c.in-Some.joined.place = subst (JoinedIs c.args.s c.loop-events.p c.args.text.now c.loop-events.at) c.in-Some.is c.next_joined.ensures in joining_here)).word)
 
 pub loop-events-smaller : goal.loop-events-smaller
 loop-events-smaller c =
-    omega (arith, (joined_numbers c.loop-events.invariant.0.ready.pass ((let joining_here : Joining c.args.s c.loop-events.p c.args.text.now c.loop-events.at c.in-Word.word c.in-Word.place = subst (JoinedIs c.args.s c.loop-events.p c.args.text.now c.loop-events.at) c.in-Word.is c.next_joined.ensures in joining_here))).0, (joined-drew c.loop-events.invariant.0.ready ((let joining_here : Joining c.args.s c.loop-events.p c.args.text.now c.loop-events.at c.in-Word.word c.in-Word.place = subst (JoinedIs c.args.s c.loop-events.p c.args.text.now c.loop-events.at) c.in-Word.is c.next_joined.ensures in joining_here)) _ _ _ c.draw_scanned-pen.ensures).ready.pass.inside)
+    omega (arith, (joined_numbers c.loop-events.invariant.0.ready.pass ((let joining_here : Joining c.args.s c.loop-events.p c.args.text.now c.loop-events.at c.in-Some.joined.word c.in-Some.joined.place = subst (JoinedIs c.args.s c.loop-events.p c.args.text.now c.loop-events.at) c.in-Some.is c.next_joined.ensures in joining_here))).0, (joined-drew c.loop-events.invariant.0.ready ((let joining_here : Joining c.args.s c.loop-events.p c.args.text.now c.loop-events.at c.in-Some.joined.word c.in-Some.joined.place = subst (JoinedIs c.args.s c.loop-events.p c.args.text.now c.loop-events.at) c.in-Some.is c.next_joined.ensures in joining_here)) _ _ _ c.draw_scanned-pen.ensures).ready.pass.inside)
 
 pub loop-events-preserved : goal.loop-events-preserved
 loop-events-preserved c =
-    let j = (let joining_here : Joining c.args.s c.loop-events.p c.args.text.now c.loop-events.at c.in-Word.word c.in-Word.place = subst (JoinedIs c.args.s c.loop-events.p c.args.text.now c.loop-events.at) c.in-Word.is c.next_joined.ensures in joining_here) in
+    let j = (let joining_here : Joining c.args.s c.loop-events.p c.args.text.now c.loop-events.at c.in-Some.joined.word c.in-Some.joined.place = subst (JoinedIs c.args.s c.loop-events.p c.args.text.now c.loop-events.at) c.in-Some.is c.next_joined.ensures in joining_here) in
     (drew-on c.loop-events.invariant.0 (joined-drew c.loop-events.invariant.0.ready j _ _ _ c.draw_scanned-pen.ensures), joined-full c.loop-events.invariant.0.ready.pass j, c.draw_scanned-pen.auto.events ∙ c.loop-events.invariant.2)

@@ -109,9 +109,9 @@ returns-in_default c =
 
 pub look_after-ahead-requires : goal.look_after-ahead-requires
 look_after-ahead-requires c =
-    let y = (let pended_here : Pending c.args.text.now c.draw_past-on.result.at c.loop-known.held.chars.0 c.loop-known.held.count.0 c.in-Token.t = pending _ c.draw_past-on.result.at c.loop-known.held _ ((let stood_here : Drawing c.args.text.now c.args.s ((let goal_here : Sheet = drawn_on (sheet c.args.events.now (record { next = c.args.k; x = record { 0 = c.args.x } }))
+    let y = (let pended_here : Pending c.args.text.now c.draw_past-on.result.at c.loop-known.held.chars.0 c.loop-known.held.count.0 c.in-Some.t = pending _ c.draw_past-on.result.at c.loop-known.held _ ((let stood_here : Drawing c.args.text.now c.args.s ((let goal_here : Sheet = drawn_on (sheet c.args.events.now (record { next = c.args.k; x = record { 0 = c.args.x } }))
     (drawn_from c.args.s c.args.start c.args.text.now c.args.from c.args.rest.chars.0 c.args.rest.count.0) in goal_here)) c.draw_past-on.new.events c.draw_past-on.result.place c.draw_past-on.result.at c.loop-known.held c.draw_past-on.result.pen = drawing_strode ((let strode_to_here : Drawing c.args.text.now c.args.s ((let goal_here : Sheet = drawn_on (sheet c.args.events.now (record { next = c.args.k; x = record { 0 = c.args.x } }))
-    (drawn_from c.args.s c.args.start c.args.text.now c.args.from c.args.rest.chars.0 c.args.rest.count.0) in goal_here)) c.draw_unless-g.new.events c.draw_unless-g.result.place c.draw_unless-g.result.at c.loop-known.held c.draw_unless-g.result.pen = drawing_strode c.loop-known.invariant.0 c.draw_unless-g.ensures.strode in strode_to_here)) c.draw_past-on.ensures.strode in stood_here)).ready.pass.rest (sym c.first_token-token.ensures ∙ c.in-Token.is) in pended_here) in
+    (drawn_from c.args.s c.args.start c.args.text.now c.args.from c.args.rest.chars.0 c.args.rest.count.0) in goal_here)) c.draw_unless-g.new.events c.draw_unless-g.result.place c.draw_unless-g.result.at c.loop-known.held c.draw_unless-g.result.pen = drawing_strode c.loop-known.invariant.0 c.draw_unless-g.ensures.strode in strode_to_here)) c.draw_past-on.ensures.strode in stood_here)).ready.pass.rest (sym c.first_token-token.ensures ∙ c.in-Some.is) in pended_here) in
     let r = ((let stood_here : Drawing c.args.text.now c.args.s ((let goal_here : Sheet = drawn_on (sheet c.args.events.now (record { next = c.args.k; x = record { 0 = c.args.x } }))
     (drawn_from c.args.s c.args.start c.args.text.now c.args.from c.args.rest.chars.0 c.args.rest.count.0) in goal_here)) c.draw_past-on.new.events c.draw_past-on.result.place c.draw_past-on.result.at c.loop-known.held c.draw_past-on.result.pen = drawing_strode ((let strode_to_here : Drawing c.args.text.now c.args.s ((let goal_here : Sheet = drawn_on (sheet c.args.events.now (record { next = c.args.k; x = record { 0 = c.args.x } }))
     (drawn_from c.args.s c.args.start c.args.text.now c.args.from c.args.rest.chars.0 c.args.rest.count.0) in goal_here)) c.draw_unless-g.new.events c.draw_unless-g.result.place c.draw_unless-g.result.at c.loop-known.held c.draw_unless-g.result.pen = drawing_strode c.loop-known.invariant.0 c.draw_unless-g.ensures.strode in strode_to_here)) c.draw_past-on.ensures.strode in stood_here)).ready.pass in
@@ -119,11 +119,11 @@ look_after-ahead-requires c =
 
 pub past_token-past-requires : goal.past_token-past-requires
 past_token-past-requires c = (
-  (let ready_here : Ready c.args.s c.draw_past-on.result.place c.args.text.now c.draw_past-on.result.at c.in-Token.t unmeasured = token_ready ((let stood_here : Drawing c.args.text.now c.args.s ((let goal_here : Sheet = drawn_on (sheet c.args.events.now (record { next = c.args.k; x = record { 0 = c.args.x } }))
+  (let ready_here : Ready c.args.s c.draw_past-on.result.place c.args.text.now c.draw_past-on.result.at c.in-Some.t unmeasured = token_ready ((let stood_here : Drawing c.args.text.now c.args.s ((let goal_here : Sheet = drawn_on (sheet c.args.events.now (record { next = c.args.k; x = record { 0 = c.args.x } }))
       (drawn_from c.args.s c.args.start c.args.text.now c.args.from c.args.rest.chars.0 c.args.rest.count.0) in goal_here)) c.draw_past-on.new.events c.draw_past-on.result.place c.draw_past-on.result.at c.loop-known.held c.draw_past-on.result.pen = drawing_strode ((let strode_to_here : Drawing c.args.text.now c.args.s ((let goal_here : Sheet = drawn_on (sheet c.args.events.now (record { next = c.args.k; x = record { 0 = c.args.x } }))
-      (drawn_from c.args.s c.args.start c.args.text.now c.args.from c.args.rest.chars.0 c.args.rest.count.0) in goal_here)) c.draw_unless-g.new.events c.draw_unless-g.result.place c.draw_unless-g.result.at c.loop-known.held c.draw_unless-g.result.pen = drawing_strode c.loop-known.invariant.0 c.draw_unless-g.ensures.strode in strode_to_here)) c.draw_past-on.ensures.strode in stood_here)) c.in-Token.t ((let pended_here : Pending c.args.text.now c.draw_past-on.result.at c.loop-known.held.chars.0 c.loop-known.held.count.0 c.in-Token.t = pending _ c.draw_past-on.result.at c.loop-known.held _ ((let stood_here : Drawing c.args.text.now c.args.s ((let goal_here : Sheet = drawn_on (sheet c.args.events.now (record { next = c.args.k; x = record { 0 = c.args.x } }))
+      (drawn_from c.args.s c.args.start c.args.text.now c.args.from c.args.rest.chars.0 c.args.rest.count.0) in goal_here)) c.draw_unless-g.new.events c.draw_unless-g.result.place c.draw_unless-g.result.at c.loop-known.held c.draw_unless-g.result.pen = drawing_strode c.loop-known.invariant.0 c.draw_unless-g.ensures.strode in strode_to_here)) c.draw_past-on.ensures.strode in stood_here)) c.in-Some.t ((let pended_here : Pending c.args.text.now c.draw_past-on.result.at c.loop-known.held.chars.0 c.loop-known.held.count.0 c.in-Some.t = pending _ c.draw_past-on.result.at c.loop-known.held _ ((let stood_here : Drawing c.args.text.now c.args.s ((let goal_here : Sheet = drawn_on (sheet c.args.events.now (record { next = c.args.k; x = record { 0 = c.args.x } }))
       (drawn_from c.args.s c.args.start c.args.text.now c.args.from c.args.rest.chars.0 c.args.rest.count.0) in goal_here)) c.draw_past-on.new.events c.draw_past-on.result.place c.draw_past-on.result.at c.loop-known.held c.draw_past-on.result.pen = drawing_strode ((let strode_to_here : Drawing c.args.text.now c.args.s ((let goal_here : Sheet = drawn_on (sheet c.args.events.now (record { next = c.args.k; x = record { 0 = c.args.x } }))
-      (drawn_from c.args.s c.args.start c.args.text.now c.args.from c.args.rest.chars.0 c.args.rest.count.0) in goal_here)) c.draw_unless-g.new.events c.draw_unless-g.result.place c.draw_unless-g.result.at c.loop-known.held c.draw_unless-g.result.pen = drawing_strode c.loop-known.invariant.0 c.draw_unless-g.ensures.strode in strode_to_here)) c.draw_past-on.ensures.strode in stood_here)).ready.pass.rest (sym c.first_token-token.ensures ∙ c.in-Token.is) in pended_here)) unmeasured refl in ready_here),
+      (drawn_from c.args.s c.args.start c.args.text.now c.args.from c.args.rest.chars.0 c.args.rest.count.0) in goal_here)) c.draw_unless-g.new.events c.draw_unless-g.result.place c.draw_unless-g.result.at c.loop-known.held c.draw_unless-g.result.pen = drawing_strode c.loop-known.invariant.0 c.draw_unless-g.ensures.strode in strode_to_here)) c.draw_past-on.ensures.strode in stood_here)).ready.pass.rest (sym c.first_token-token.ensures ∙ c.in-Some.is) in pended_here)) unmeasured refl in ready_here),
   pen-room ((let stood_here : Drawing c.args.text.now c.args.s ((let goal_here : Sheet = drawn_on (sheet c.args.events.now (record { next = c.args.k; x = record { 0 = c.args.x } }))
       (drawn_from c.args.s c.args.start c.args.text.now c.args.from c.args.rest.chars.0 c.args.rest.count.0) in goal_here)) c.draw_past-on.new.events c.draw_past-on.result.place c.draw_past-on.result.at c.loop-known.held c.draw_past-on.result.pen = drawing_strode ((let strode_to_here : Drawing c.args.text.now c.args.s ((let goal_here : Sheet = drawn_on (sheet c.args.events.now (record { next = c.args.k; x = record { 0 = c.args.x } }))
       (drawn_from c.args.s c.args.start c.args.text.now c.args.from c.args.rest.chars.0 c.args.rest.count.0) in goal_here)) c.draw_unless-g.new.events c.draw_unless-g.result.place c.draw_unless-g.result.at c.loop-known.held c.draw_unless-g.result.pen = drawing_strode c.loop-known.invariant.0 c.draw_unless-g.ensures.strode in strode_to_here)) c.draw_past-on.ensures.strode in stood_here)),
@@ -140,36 +140,36 @@ returns-then-not-past c =
       events_after = (goal_is c.args.s c.args.start c.args.text.now c.args.from c.args.rest.chars.0 c.args.rest.count.0 c.args.events.now _ c.args.k c.args.x c.past_token-past.result.pen
           (drawing-stops ((let stood_here : Drawing c.args.text.now c.args.s ((let goal_here : Sheet = drawn_on (sheet c.args.events.now (record { next = c.args.k; x = record { 0 = c.args.x } }))
           (drawn_from c.args.s c.args.start c.args.text.now c.args.from c.args.rest.chars.0 c.args.rest.count.0) in goal_here)) c.draw_past-on.new.events c.draw_past-on.result.place c.draw_past-on.result.at c.loop-known.held c.draw_past-on.result.pen = drawing_strode ((let strode_to_here : Drawing c.args.text.now c.args.s ((let goal_here : Sheet = drawn_on (sheet c.args.events.now (record { next = c.args.k; x = record { 0 = c.args.x } }))
-          (drawn_from c.args.s c.args.start c.args.text.now c.args.from c.args.rest.chars.0 c.args.rest.count.0) in goal_here)) c.draw_unless-g.new.events c.draw_unless-g.result.place c.draw_unless-g.result.at c.loop-known.held c.draw_unless-g.result.pen = drawing_strode c.loop-known.invariant.0 c.draw_unless-g.ensures.strode in strode_to_here)) c.draw_past-on.ensures.strode in stood_here)) c.in-Token.t ((let pended_here : Pending c.args.text.now c.draw_past-on.result.at c.loop-known.held.chars.0 c.loop-known.held.count.0 c.in-Token.t = pending _ c.draw_past-on.result.at c.loop-known.held _ ((let stood_here : Drawing c.args.text.now c.args.s ((let goal_here : Sheet = drawn_on (sheet c.args.events.now (record { next = c.args.k; x = record { 0 = c.args.x } }))
+          (drawn_from c.args.s c.args.start c.args.text.now c.args.from c.args.rest.chars.0 c.args.rest.count.0) in goal_here)) c.draw_unless-g.new.events c.draw_unless-g.result.place c.draw_unless-g.result.at c.loop-known.held c.draw_unless-g.result.pen = drawing_strode c.loop-known.invariant.0 c.draw_unless-g.ensures.strode in strode_to_here)) c.draw_past-on.ensures.strode in stood_here)) c.in-Some.t ((let pended_here : Pending c.args.text.now c.draw_past-on.result.at c.loop-known.held.chars.0 c.loop-known.held.count.0 c.in-Some.t = pending _ c.draw_past-on.result.at c.loop-known.held _ ((let stood_here : Drawing c.args.text.now c.args.s ((let goal_here : Sheet = drawn_on (sheet c.args.events.now (record { next = c.args.k; x = record { 0 = c.args.x } }))
           (drawn_from c.args.s c.args.start c.args.text.now c.args.from c.args.rest.chars.0 c.args.rest.count.0) in goal_here)) c.draw_past-on.new.events c.draw_past-on.result.place c.draw_past-on.result.at c.loop-known.held c.draw_past-on.result.pen = drawing_strode ((let strode_to_here : Drawing c.args.text.now c.args.s ((let goal_here : Sheet = drawn_on (sheet c.args.events.now (record { next = c.args.k; x = record { 0 = c.args.x } }))
-          (drawn_from c.args.s c.args.start c.args.text.now c.args.from c.args.rest.chars.0 c.args.rest.count.0) in goal_here)) c.draw_unless-g.new.events c.draw_unless-g.result.place c.draw_unless-g.result.at c.loop-known.held c.draw_unless-g.result.pen = drawing_strode c.loop-known.invariant.0 c.draw_unless-g.ensures.strode in strode_to_here)) c.draw_past-on.ensures.strode in stood_here)).ready.pass.rest (sym c.first_token-token.ensures ∙ c.in-Token.is) in pended_here)) unmeasured refl _ c.past_token-past.result.pen c.past_token-past.ensures.pen_after _ ((let went_here : (b : Bool) → c.past_token-past.result.goes ≡ b → Went c.args.s c.draw_past-on.result.place c.args.text.now c.draw_past-on.result.at c.in-Token.t b c.past_token-past.result.place = λ b e. subst (λ (d : Bool). Went c.args.s c.draw_past-on.result.place c.args.text.now c.draw_past-on.result.at c.in-Token.t d c.past_token-past.result.place) e c.past_token-past.ensures.went in went_here) false (not-true _ c.if-not-past.true)).is)).0;
+          (drawn_from c.args.s c.args.start c.args.text.now c.args.from c.args.rest.chars.0 c.args.rest.count.0) in goal_here)) c.draw_unless-g.new.events c.draw_unless-g.result.place c.draw_unless-g.result.at c.loop-known.held c.draw_unless-g.result.pen = drawing_strode c.loop-known.invariant.0 c.draw_unless-g.ensures.strode in strode_to_here)) c.draw_past-on.ensures.strode in stood_here)).ready.pass.rest (sym c.first_token-token.ensures ∙ c.in-Some.is) in pended_here)) unmeasured refl _ c.past_token-past.result.pen c.past_token-past.ensures.pen_after _ ((let went_here : (b : Bool) → c.past_token-past.result.goes ≡ b → Went c.args.s c.draw_past-on.result.place c.args.text.now c.draw_past-on.result.at c.in-Some.t b c.past_token-past.result.place = λ b e. subst (λ (d : Bool). Went c.args.s c.draw_past-on.result.place c.args.text.now c.draw_past-on.result.at c.in-Some.t d c.past_token-past.result.place) e c.past_token-past.ensures.went in went_here) false (not-true _ c.if-not-past.true)).is)).0;
       value = (goal_is c.args.s c.args.start c.args.text.now c.args.from c.args.rest.chars.0 c.args.rest.count.0 c.args.events.now _ c.args.k c.args.x c.past_token-past.result.pen
           (drawing-stops ((let stood_here : Drawing c.args.text.now c.args.s ((let goal_here : Sheet = drawn_on (sheet c.args.events.now (record { next = c.args.k; x = record { 0 = c.args.x } }))
           (drawn_from c.args.s c.args.start c.args.text.now c.args.from c.args.rest.chars.0 c.args.rest.count.0) in goal_here)) c.draw_past-on.new.events c.draw_past-on.result.place c.draw_past-on.result.at c.loop-known.held c.draw_past-on.result.pen = drawing_strode ((let strode_to_here : Drawing c.args.text.now c.args.s ((let goal_here : Sheet = drawn_on (sheet c.args.events.now (record { next = c.args.k; x = record { 0 = c.args.x } }))
-          (drawn_from c.args.s c.args.start c.args.text.now c.args.from c.args.rest.chars.0 c.args.rest.count.0) in goal_here)) c.draw_unless-g.new.events c.draw_unless-g.result.place c.draw_unless-g.result.at c.loop-known.held c.draw_unless-g.result.pen = drawing_strode c.loop-known.invariant.0 c.draw_unless-g.ensures.strode in strode_to_here)) c.draw_past-on.ensures.strode in stood_here)) c.in-Token.t ((let pended_here : Pending c.args.text.now c.draw_past-on.result.at c.loop-known.held.chars.0 c.loop-known.held.count.0 c.in-Token.t = pending _ c.draw_past-on.result.at c.loop-known.held _ ((let stood_here : Drawing c.args.text.now c.args.s ((let goal_here : Sheet = drawn_on (sheet c.args.events.now (record { next = c.args.k; x = record { 0 = c.args.x } }))
+          (drawn_from c.args.s c.args.start c.args.text.now c.args.from c.args.rest.chars.0 c.args.rest.count.0) in goal_here)) c.draw_unless-g.new.events c.draw_unless-g.result.place c.draw_unless-g.result.at c.loop-known.held c.draw_unless-g.result.pen = drawing_strode c.loop-known.invariant.0 c.draw_unless-g.ensures.strode in strode_to_here)) c.draw_past-on.ensures.strode in stood_here)) c.in-Some.t ((let pended_here : Pending c.args.text.now c.draw_past-on.result.at c.loop-known.held.chars.0 c.loop-known.held.count.0 c.in-Some.t = pending _ c.draw_past-on.result.at c.loop-known.held _ ((let stood_here : Drawing c.args.text.now c.args.s ((let goal_here : Sheet = drawn_on (sheet c.args.events.now (record { next = c.args.k; x = record { 0 = c.args.x } }))
           (drawn_from c.args.s c.args.start c.args.text.now c.args.from c.args.rest.chars.0 c.args.rest.count.0) in goal_here)) c.draw_past-on.new.events c.draw_past-on.result.place c.draw_past-on.result.at c.loop-known.held c.draw_past-on.result.pen = drawing_strode ((let strode_to_here : Drawing c.args.text.now c.args.s ((let goal_here : Sheet = drawn_on (sheet c.args.events.now (record { next = c.args.k; x = record { 0 = c.args.x } }))
-          (drawn_from c.args.s c.args.start c.args.text.now c.args.from c.args.rest.chars.0 c.args.rest.count.0) in goal_here)) c.draw_unless-g.new.events c.draw_unless-g.result.place c.draw_unless-g.result.at c.loop-known.held c.draw_unless-g.result.pen = drawing_strode c.loop-known.invariant.0 c.draw_unless-g.ensures.strode in strode_to_here)) c.draw_past-on.ensures.strode in stood_here)).ready.pass.rest (sym c.first_token-token.ensures ∙ c.in-Token.is) in pended_here)) unmeasured refl _ c.past_token-past.result.pen c.past_token-past.ensures.pen_after _ ((let went_here : (b : Bool) → c.past_token-past.result.goes ≡ b → Went c.args.s c.draw_past-on.result.place c.args.text.now c.draw_past-on.result.at c.in-Token.t b c.past_token-past.result.place = λ b e. subst (λ (d : Bool). Went c.args.s c.draw_past-on.result.place c.args.text.now c.draw_past-on.result.at c.in-Token.t d c.past_token-past.result.place) e c.past_token-past.ensures.went in went_here) false (not-true _ c.if-not-past.true)).is)).1;
+          (drawn_from c.args.s c.args.start c.args.text.now c.args.from c.args.rest.chars.0 c.args.rest.count.0) in goal_here)) c.draw_unless-g.new.events c.draw_unless-g.result.place c.draw_unless-g.result.at c.loop-known.held c.draw_unless-g.result.pen = drawing_strode c.loop-known.invariant.0 c.draw_unless-g.ensures.strode in strode_to_here)) c.draw_past-on.ensures.strode in stood_here)).ready.pass.rest (sym c.first_token-token.ensures ∙ c.in-Some.is) in pended_here)) unmeasured refl _ c.past_token-past.result.pen c.past_token-past.ensures.pen_after _ ((let went_here : (b : Bool) → c.past_token-past.result.goes ≡ b → Went c.args.s c.draw_past-on.result.place c.args.text.now c.draw_past-on.result.at c.in-Some.t b c.past_token-past.result.place = λ b e. subst (λ (d : Bool). Went c.args.s c.draw_past-on.result.place c.args.text.now c.draw_past-on.result.at c.in-Some.t d c.past_token-past.result.place) e c.past_token-past.ensures.went in went_here) false (not-true _ c.if-not-past.true)).is)).1;
     }
 
 pub loop-known-smaller : goal.loop-known-smaller
 loop-known-smaller c =
-    let y = ((let pended_here : Pending c.args.text.now c.draw_past-on.result.at c.loop-known.held.chars.0 c.loop-known.held.count.0 c.in-Token.t = pending _ c.draw_past-on.result.at c.loop-known.held _ ((let stood_here : Drawing c.args.text.now c.args.s ((let goal_here : Sheet = drawn_on (sheet c.args.events.now (record { next = c.args.k; x = record { 0 = c.args.x } }))
+    let y = ((let pended_here : Pending c.args.text.now c.draw_past-on.result.at c.loop-known.held.chars.0 c.loop-known.held.count.0 c.in-Some.t = pending _ c.draw_past-on.result.at c.loop-known.held _ ((let stood_here : Drawing c.args.text.now c.args.s ((let goal_here : Sheet = drawn_on (sheet c.args.events.now (record { next = c.args.k; x = record { 0 = c.args.x } }))
     (drawn_from c.args.s c.args.start c.args.text.now c.args.from c.args.rest.chars.0 c.args.rest.count.0) in goal_here)) c.draw_past-on.new.events c.draw_past-on.result.place c.draw_past-on.result.at c.loop-known.held c.draw_past-on.result.pen = drawing_strode ((let strode_to_here : Drawing c.args.text.now c.args.s ((let goal_here : Sheet = drawn_on (sheet c.args.events.now (record { next = c.args.k; x = record { 0 = c.args.x } }))
-    (drawn_from c.args.s c.args.start c.args.text.now c.args.from c.args.rest.chars.0 c.args.rest.count.0) in goal_here)) c.draw_unless-g.new.events c.draw_unless-g.result.place c.draw_unless-g.result.at c.loop-known.held c.draw_unless-g.result.pen = drawing_strode c.loop-known.invariant.0 c.draw_unless-g.ensures.strode in strode_to_here)) c.draw_past-on.ensures.strode in stood_here)).ready.pass.rest (sym c.first_token-token.ensures ∙ c.in-Token.is) in pended_here)).stands in
+    (drawn_from c.args.s c.args.start c.args.text.now c.args.from c.args.rest.chars.0 c.args.rest.count.0) in goal_here)) c.draw_unless-g.new.events c.draw_unless-g.result.place c.draw_unless-g.result.at c.loop-known.held c.draw_unless-g.result.pen = drawing_strode c.loop-known.invariant.0 c.draw_unless-g.ensures.strode in strode_to_here)) c.draw_past-on.ensures.strode in stood_here)).ready.pass.rest (sym c.first_token-token.ensures ∙ c.in-Some.is) in pended_here)).stands in
     omega (arith, y.longer, y.within, c.draw_past-on.ensures.strode.onward.forward, c.draw_unless-g.ensures.strode.onward.forward)
 
 pub loop-known-preserved : goal.loop-known-preserved
 loop-known-preserved c =
-    let g = (let went_here : (b : Bool) → c.past_token-past.result.goes ≡ b → Went c.args.s c.draw_past-on.result.place c.args.text.now c.draw_past-on.result.at c.in-Token.t b c.past_token-past.result.place = λ b e. subst (λ (d : Bool). Went c.args.s c.draw_past-on.result.place c.args.text.now c.draw_past-on.result.at c.in-Token.t d c.past_token-past.result.place) e c.past_token-past.ensures.went in went_here) true (not-false _ c.if-not-past.false) in (
+    let g = (let went_here : (b : Bool) → c.past_token-past.result.goes ≡ b → Went c.args.s c.draw_past-on.result.place c.args.text.now c.draw_past-on.result.at c.in-Some.t b c.past_token-past.result.place = λ b e. subst (λ (d : Bool). Went c.args.s c.draw_past-on.result.place c.args.text.now c.draw_past-on.result.at c.in-Some.t d c.past_token-past.result.place) e c.past_token-past.ensures.went in went_here) true (not-false _ c.if-not-past.false) in (
       drawing-goes ((let stood_here : Drawing c.args.text.now c.args.s ((let goal_here : Sheet = drawn_on (sheet c.args.events.now (record { next = c.args.k; x = record { 0 = c.args.x } }))
           (drawn_from c.args.s c.args.start c.args.text.now c.args.from c.args.rest.chars.0 c.args.rest.count.0) in goal_here)) c.draw_past-on.new.events c.draw_past-on.result.place c.draw_past-on.result.at c.loop-known.held c.draw_past-on.result.pen = drawing_strode ((let strode_to_here : Drawing c.args.text.now c.args.s ((let goal_here : Sheet = drawn_on (sheet c.args.events.now (record { next = c.args.k; x = record { 0 = c.args.x } }))
-          (drawn_from c.args.s c.args.start c.args.text.now c.args.from c.args.rest.chars.0 c.args.rest.count.0) in goal_here)) c.draw_unless-g.new.events c.draw_unless-g.result.place c.draw_unless-g.result.at c.loop-known.held c.draw_unless-g.result.pen = drawing_strode c.loop-known.invariant.0 c.draw_unless-g.ensures.strode in strode_to_here)) c.draw_past-on.ensures.strode in stood_here)) c.in-Token.t ((let pended_here : Pending c.args.text.now c.draw_past-on.result.at c.loop-known.held.chars.0 c.loop-known.held.count.0 c.in-Token.t = pending _ c.draw_past-on.result.at c.loop-known.held _ ((let stood_here : Drawing c.args.text.now c.args.s ((let goal_here : Sheet = drawn_on (sheet c.args.events.now (record { next = c.args.k; x = record { 0 = c.args.x } }))
+          (drawn_from c.args.s c.args.start c.args.text.now c.args.from c.args.rest.chars.0 c.args.rest.count.0) in goal_here)) c.draw_unless-g.new.events c.draw_unless-g.result.place c.draw_unless-g.result.at c.loop-known.held c.draw_unless-g.result.pen = drawing_strode c.loop-known.invariant.0 c.draw_unless-g.ensures.strode in strode_to_here)) c.draw_past-on.ensures.strode in stood_here)) c.in-Some.t ((let pended_here : Pending c.args.text.now c.draw_past-on.result.at c.loop-known.held.chars.0 c.loop-known.held.count.0 c.in-Some.t = pending _ c.draw_past-on.result.at c.loop-known.held _ ((let stood_here : Drawing c.args.text.now c.args.s ((let goal_here : Sheet = drawn_on (sheet c.args.events.now (record { next = c.args.k; x = record { 0 = c.args.x } }))
           (drawn_from c.args.s c.args.start c.args.text.now c.args.from c.args.rest.chars.0 c.args.rest.count.0) in goal_here)) c.draw_past-on.new.events c.draw_past-on.result.place c.draw_past-on.result.at c.loop-known.held c.draw_past-on.result.pen = drawing_strode ((let strode_to_here : Drawing c.args.text.now c.args.s ((let goal_here : Sheet = drawn_on (sheet c.args.events.now (record { next = c.args.k; x = record { 0 = c.args.x } }))
-          (drawn_from c.args.s c.args.start c.args.text.now c.args.from c.args.rest.chars.0 c.args.rest.count.0) in goal_here)) c.draw_unless-g.new.events c.draw_unless-g.result.place c.draw_unless-g.result.at c.loop-known.held c.draw_unless-g.result.pen = drawing_strode c.loop-known.invariant.0 c.draw_unless-g.ensures.strode in strode_to_here)) c.draw_past-on.ensures.strode in stood_here)).ready.pass.rest (sym c.first_token-token.ensures ∙ c.in-Token.is) in pended_here)) unmeasured refl _ c.past_token-past.result.pen c.past_token-past.ensures.pen_after _ _ _ g.is _ c.nothing_left-held.ensures,
+          (drawn_from c.args.s c.args.start c.args.text.now c.args.from c.args.rest.chars.0 c.args.rest.count.0) in goal_here)) c.draw_unless-g.new.events c.draw_unless-g.result.place c.draw_unless-g.result.at c.loop-known.held c.draw_unless-g.result.pen = drawing_strode c.loop-known.invariant.0 c.draw_unless-g.ensures.strode in strode_to_here)) c.draw_past-on.ensures.strode in stood_here)).ready.pass.rest (sym c.first_token-token.ensures ∙ c.in-Some.is) in pended_here)) unmeasured refl _ c.past_token-past.result.pen c.past_token-past.ensures.pen_after _ _ _ g.is _ c.nothing_left-held.ensures,
       c.past_token-past.auto.events ∙ (let kept_here : length c.draw_past-on.new.events ≡ length c.args.events.now = c.draw_past-on.auto.events ∙ (let strode-kept_here : length c.draw_unless-g.new.events ≡ length c.args.events.now = c.draw_unless-g.auto.events ∙ c.loop-known.invariant.1 in strode-kept_here) in kept_here),
-      rw (none-held _ c.in-Token.t.end.0 _ c.nothing_left-held.ensures) (step_foresees ((let ready_here : Ready c.args.s c.draw_past-on.result.place c.args.text.now c.draw_past-on.result.at c.in-Token.t unmeasured = token_ready ((let stood_here : Drawing c.args.text.now c.args.s ((let goal_here : Sheet = drawn_on (sheet c.args.events.now (record { next = c.args.k; x = record { 0 = c.args.x } }))
+      rw (none-held _ c.in-Some.t.end.0 _ c.nothing_left-held.ensures) (step_foresees ((let ready_here : Ready c.args.s c.draw_past-on.result.place c.args.text.now c.draw_past-on.result.at c.in-Some.t unmeasured = token_ready ((let stood_here : Drawing c.args.text.now c.args.s ((let goal_here : Sheet = drawn_on (sheet c.args.events.now (record { next = c.args.k; x = record { 0 = c.args.x } }))
           (drawn_from c.args.s c.args.start c.args.text.now c.args.from c.args.rest.chars.0 c.args.rest.count.0) in goal_here)) c.draw_past-on.new.events c.draw_past-on.result.place c.draw_past-on.result.at c.loop-known.held c.draw_past-on.result.pen = drawing_strode ((let strode_to_here : Drawing c.args.text.now c.args.s ((let goal_here : Sheet = drawn_on (sheet c.args.events.now (record { next = c.args.k; x = record { 0 = c.args.x } }))
-          (drawn_from c.args.s c.args.start c.args.text.now c.args.from c.args.rest.chars.0 c.args.rest.count.0) in goal_here)) c.draw_unless-g.new.events c.draw_unless-g.result.place c.draw_unless-g.result.at c.loop-known.held c.draw_unless-g.result.pen = drawing_strode c.loop-known.invariant.0 c.draw_unless-g.ensures.strode in strode_to_here)) c.draw_past-on.ensures.strode in stood_here)) c.in-Token.t ((let pended_here : Pending c.args.text.now c.draw_past-on.result.at c.loop-known.held.chars.0 c.loop-known.held.count.0 c.in-Token.t = pending _ c.draw_past-on.result.at c.loop-known.held _ ((let stood_here : Drawing c.args.text.now c.args.s ((let goal_here : Sheet = drawn_on (sheet c.args.events.now (record { next = c.args.k; x = record { 0 = c.args.x } }))
+          (drawn_from c.args.s c.args.start c.args.text.now c.args.from c.args.rest.chars.0 c.args.rest.count.0) in goal_here)) c.draw_unless-g.new.events c.draw_unless-g.result.place c.draw_unless-g.result.at c.loop-known.held c.draw_unless-g.result.pen = drawing_strode c.loop-known.invariant.0 c.draw_unless-g.ensures.strode in strode_to_here)) c.draw_past-on.ensures.strode in stood_here)) c.in-Some.t ((let pended_here : Pending c.args.text.now c.draw_past-on.result.at c.loop-known.held.chars.0 c.loop-known.held.count.0 c.in-Some.t = pending _ c.draw_past-on.result.at c.loop-known.held _ ((let stood_here : Drawing c.args.text.now c.args.s ((let goal_here : Sheet = drawn_on (sheet c.args.events.now (record { next = c.args.k; x = record { 0 = c.args.x } }))
           (drawn_from c.args.s c.args.start c.args.text.now c.args.from c.args.rest.chars.0 c.args.rest.count.0) in goal_here)) c.draw_past-on.new.events c.draw_past-on.result.place c.draw_past-on.result.at c.loop-known.held c.draw_past-on.result.pen = drawing_strode ((let strode_to_here : Drawing c.args.text.now c.args.s ((let goal_here : Sheet = drawn_on (sheet c.args.events.now (record { next = c.args.k; x = record { 0 = c.args.x } }))
-          (drawn_from c.args.s c.args.start c.args.text.now c.args.from c.args.rest.chars.0 c.args.rest.count.0) in goal_here)) c.draw_unless-g.new.events c.draw_unless-g.result.place c.draw_unless-g.result.at c.loop-known.held c.draw_unless-g.result.pen = drawing_strode c.loop-known.invariant.0 c.draw_unless-g.ensures.strode in strode_to_here)) c.draw_past-on.ensures.strode in stood_here)).ready.pass.rest (sym c.first_token-token.ensures ∙ c.in-Token.is) in pended_here)) unmeasured refl in ready_here)) _ _ _ g.is c.look_after-ahead.result c.look_after-ahead.ensures),
+          (drawn_from c.args.s c.args.start c.args.text.now c.args.from c.args.rest.chars.0 c.args.rest.count.0) in goal_here)) c.draw_unless-g.new.events c.draw_unless-g.result.place c.draw_unless-g.result.at c.loop-known.held c.draw_unless-g.result.pen = drawing_strode c.loop-known.invariant.0 c.draw_unless-g.ensures.strode in strode_to_here)) c.draw_past-on.ensures.strode in stood_here)).ready.pass.rest (sym c.first_token-token.ensures ∙ c.in-Some.is) in pended_here)) unmeasured refl in ready_here)) _ _ _ g.is c.look_after-ahead.result c.look_after-ahead.ensures),
     )

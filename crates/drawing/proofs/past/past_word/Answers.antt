@@ -7,8 +7,8 @@ use Rattle.prints.specs.TokenDrawn.{DrawReady}
 use Rattle.drawing.proofs.PastLaws.{word-stops}
 use Rattle.drawing.proofs.past.past_word.Goals as goal
 
-pub overflow_mul-chars : goal.overflow_mul-chars
-overflow_mul-chars c =
+pub overflow_mul-x : goal.overflow_mul-x
+overflow_mul-x c =
     let few : c.args.x.chars.0 ≤ 65535 = omega (arith, ((let word_here : WordAt c.args.text.now c.args.at c.args.x = word-at _ _ _ c.requires.0.stands c.requires.2 in word_here)).few, c.requires.0.stands.within, c.requires.0.short) in
     record { fits = omega (arith, times_bound {n = 65535} {m = 64} c.args.x.chars.0 c.args.s.glyph.0 few c.requires.0.settings.1) }
 

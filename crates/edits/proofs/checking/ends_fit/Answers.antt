@@ -6,4 +6,4 @@ use Rattle.edits.proofs.checking.ends_fit.Goals as goal
 pub returns : goal.returns
 returns c =
     (λ i. c.is_boundary.ensures i && c.is_boundary-2.ensures i)
-    ∙ ends-tested c.args.part.now c.args.edit c.args.e _ _ c.requires c.less_wide-front.ensures c.less_wide-end.ensures
+    ∙ ends-tested c.args.part.now c.args.edit c.args.e _ _ c.requires c.saturating_sub-front.ensures c.saturating_sub-end.ensures

@@ -3,12 +3,12 @@ use Rattle.std.proofs.Common.{sym, ap, ◌∙◌}
 use Rattle.edits.specs.Checking.{whole_checked, whole_of}
 use Rattle.edits.proofs.checking.whole_of.Goals as goal
 
-pub returns-in-Length : goal.returns-in-Length
+pub returns-in-Some : goal.returns-in-Some
 unfolding whole_of
-returns-in-Length c =
-    c.check_length.ensures ∙ ap whole_checked (sym c.in-Length.is ∙ c.edited_whole.ensures)
+returns-in-Some c =
+    c.check_length.ensures ∙ ap whole_checked (sym c.in-Some.is ∙ c.edited_whole.ensures)
 
-pub returns-in-OutOfPlace : goal.returns-in-OutOfPlace
+pub returns-in-None : goal.returns-in-None
 unfolding whole_of
-returns-in-OutOfPlace c =
-    ap whole_checked (sym c.in-OutOfPlace.is ∙ c.edited_whole.ensures)
+returns-in-None c =
+    ap whole_checked (sym c.in-None.is ∙ c.edited_whole.ensures)

@@ -1,5 +1,5 @@
 -- `files::fields::write_header` meets its contract (refusal 9).
-use Rattle.std.proofs.Common.{◌/◌, ◌%◌, [], ◌∷◌, arith, length-set}
+use Rattle.std.proofs.Common.{◌≡◌, ◌/◌, ◌%◌, [], ◌∷◌, arith, length-set}
 use Rattle.table.specs.Numbers.{stored-are}
 use Rattle.file_fields.proofs.fields.write_header.Goals as goal
 
@@ -17,4 +17,6 @@ shape_of-file c =
 
 pub returns : goal.returns
 returns c =
-    stored-are (c.args.tag ∷ c.args.size % 256 ∷ c.args.size / 256 ∷ []) c.args.file.now c.args.at c.requires.0
+    let high : c.args.size / 256 % 256 ≡ c.args.size / 256 = omega (arith, c.requires.1) in
+    rw (c.to_le_bytes.ensures, high)
+    (stored-are (c.args.tag ∷ c.args.size % 256 ∷ c.args.size / 256 ∷ []) c.args.file.now c.args.at c.requires.0)

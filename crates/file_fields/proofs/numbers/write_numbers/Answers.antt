@@ -9,11 +9,11 @@ use Rattle.file_fields.proofs.numbers.write_numbers.Goals as goal
 pub loop-i-init : goal.loop-i-init
 unfolding of_all
 loop-i-init c =
-    (sym (put-none c.args.file.now c.args.at), refl, omega arith)
+    (sym (put-none c.args.file.now c.args.at), refl)
 
 pub loop-i-preserved : goal.loop-i-preserved
 loop-i-preserved c =
-    (c.write_number.ensures ∙ write_next c.args.file.now c.loop-i.file c.args.at c.args.buffer.now c.args.place c.loop-i.i c.loop-i.invariant.0 (omega arith) (omega arith), omega (arith, c.write_number.auto.file), omega arith)
+    (c.write_number.ensures ∙ write_next c.args.file.now c.loop-i.file c.args.at c.args.buffer.now c.args.place c.loop-i.i c.loop-i.invariant.0 (omega arith) (omega arith), omega (arith, c.write_number.auto.file))
 
 pub shape_of-file : goal.shape_of-file
 shape_of-file c =

@@ -11,15 +11,11 @@ use Rattle.files.proofs.lines.write_table.Goals as goal
 pub loop-k-init : goal.loop-k-init
 unfolding of_all lines_in
 loop-k-init c =
-    (sym (put-none c.args.table.now 0), refl, omega arith)
+    (sym (put-none c.args.table.now 0), refl)
 
 pub loop-k-preserved : goal.loop-k-preserved
 loop-k-preserved c =
-    (c.read_numbers.ensures ∙ table-next c.args.table.now c.loop-k.table c.args.file.now c.loop-k.k c.loop-k.invariant.0, omega (arith, c.read_numbers.auto.buffer), omega arith)
-
-pub shape_of-table : goal.shape_of-table
-shape_of-table c =
-    c.loop-k.invariant.1
+    (c.read_numbers.ensures ∙ table-next c.args.table.now c.loop-k.table c.args.file.now c.loop-k.k c.loop-k.invariant.0, omega (arith, c.read_numbers.auto.buffer))
 
 pub returns : goal.returns
 returns c =

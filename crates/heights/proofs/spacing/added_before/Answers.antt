@@ -6,7 +6,7 @@ use Rattle.heights.proofs.spacing.added_before.Goals as goal
 
 pub loop-i-init : goal.loop-i-init
 loop-i-init c =
-    (added-start c.args.s c.args.table.now c.args.k, omega arith)
+    added-start c.args.s c.args.table.now c.args.k
 
 pub overflow_add-sum : goal.overflow_add-sum
 overflow_add-sum c =

@@ -1,12 +1,10 @@
 -- `heights::vertical::shown_at` meets its contract (rule 11).
-use Rattle.std.proofs.Common.{sym, ◌∙◌}
-use Rattle.heights.proofs.Upright.{shown, hidden}
+use Rattle.std.proofs.Common.{to_z-of_z}
+use Rattle.heights.specs.Heights.{shown_at}
 use Rattle.heights.proofs.vertical.shown_at.Goals as goal
 
-pub returns-then-shows : goal.returns-then-shows
-returns-then-shows c =
-    shown c.args.s c.requires c.args.y c.ranges.y (sym c.shows.ensures ∙ c.if-shows.true)
-
+-- A number that is passed on is read again as it is.
 pub returns : goal.returns
+unfolding shown_at
 returns c =
-    hidden c.args.s c.requires c.args.y c.ranges.y (sym c.shows.ensures ∙ c.if-shows.false)
+    rw (c.shows.ensures, to_z-of_z c.ranges.y)

@@ -1,4 +1,4 @@
-use Rattle.std.proofs.Common.{◌+◌, ◌*◌, ◌≤◌, refl, sym, ◌∙◌, arith, pos, length, get_or, length-set}
+use Rattle.std.proofs.Common.{◌+◌, ◌*◌, ◌≤◌, sym, ◌∙◌, arith, pos, length, get_or, length-set}
 use lib.Signed.{mag}
 use Rattle.meaning.specs.Table.{entry_numbers, entries_in}
 use Rattle.heights.specs.GoodSettings.{Measures}
@@ -17,16 +17,12 @@ pub added_before-added-requires : goal.added_before-added-requires
 added_before-added-requires c =
     few-held c.args.s c.args.table.now c.args.lines c.requires.0 c.args.from (omega arith)
 
-pub loop-k-init : goal.loop-k-init
-loop-k-init c =
-    (refl, refl, c.added_before-added.ensures, omega arith)
-
-pub overflow_cast-y : goal.overflow_cast-y
-overflow_cast-y c =
+pub overflow_cast-index : goal.overflow_cast-index
+overflow_cast-index c =
     fits (pos c.loop-k.added) (omega (arith, (let added-near_here : c.loop-k.added ≤ 600000000 = omega (arith, c.loop-k.invariant.2, little_added c.args.s c.args.table.now c.args.lines c.requires.0 c.loop-k.k (omega arith)) in added-near_here)))
 
-pub overflow_add-y : goal.overflow_add-y
-overflow_add-y c =
+pub overflow_add-index : goal.overflow_add-index
+overflow_add-index c =
     y-fits c.first_y-first.result c.loop-k.added ((let first-far_here : mag c.first_y-first.result ≤ 600004097 = rw c.first_y-first.ensures
     (first-near c.args.s (entries_in c.args.lines c.args.table.now) (height-measures c.args.s c.args.table.now c.args.lines c.requires.0)
     (height-small c.args.s c.args.table.now c.args.lines c.requires.0)) in first-far_here)) ((let added-near_here : c.loop-k.added ≤ 600000000 = omega (arith, c.loop-k.invariant.2, little_added c.args.s c.args.table.now c.args.lines c.requires.0 c.loop-k.k (omega arith)) in added-near_here))
@@ -69,7 +65,6 @@ loop-k-preserved c =
       sym (y-written c.args.s c.args.table.now c.args.lines c.loop-k.k c.loop-k.index c.loop-k-test.true (omega arith) _ y) ∙ c.loop-k.invariant.0,
       simp length-set c.loop-k.invariant.1,
       omega (arith, c.loop-k.invariant.2, c.end_adds-added.ensures, added-on c.args.s c.args.table.now c.loop-k.k),
-      omega arith,
     )
 
 pub returns : goal.returns

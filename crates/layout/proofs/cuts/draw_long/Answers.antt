@@ -1,20 +1,20 @@
 -- `layout::cuts::draw_long` meets its contract (rule 8, rule 10, rule 13).
-use Rattle.std.proofs.Common.{arith}
+use Rattle.std.proofs.lemmas.Option.{MatchOption-at_some}
 use Rattle.rows.specs.Going.{went_nowhere}
 use Rattle.layout.specs.DrawGoing.{drew_nowhere}
 use Rattle.layout.proofs.cuts.draw_long.Goals as goal
 
-pub long_word-word-requires : goal.long_word-word-requires
-long_word-word-requires c =
+pub long_word-requires : goal.long_word-requires
+long_word-requires c =
     (c.requires.stand_ready.0.line.short, c.requires.stand_ready.0.line.inside)
 
-pub returns-then-word-eq0 : goal.returns-then-word-eq0
-returns-then-word-eq0 c =
+pub returns-in_default : goal.returns-in_default
+returns-in_default c =
     record { went = went_nowhere _ _ _ _ _ c.requires.stand_ready.0; drew_to = drew_nowhere _ _ _ _ _ }
 
 pub draw_cuts-requires : goal.draw_cuts-requires
 draw_cuts-requires c =
-    record { stand_ready = c.requires.stand_ready; room_from = (c.requires.room_from, c.long_word-word.ensures (omega (arith, c.if-word-eq0.false))); few_from = c.requires.few_from }
+    record { stand_ready = c.requires.stand_ready; room_from = (c.requires.room_from, MatchOption-at_some _ _ _ c.in-Some.is c.long_word.ensures); few_from = c.requires.few_from }
 
 pub shape_of-table : goal.shape_of-table
 shape_of-table c =

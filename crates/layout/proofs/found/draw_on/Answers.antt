@@ -17,4 +17,4 @@ shape_of-events c =
 
 pub returns : goal.returns
 returns c =
-    record { reaches = reaches_here _ _ _ c.requires.stand_ready.0 c.requires.chars_value _ _ _ _ _ _ c.draw_told_lines.ensures.reaches; draw_reaches = draws-here _ _ _ c.requires.stand_ready.0 c.requires.chars_value _ _ _ _ _ _ c.draw_told_lines.ensures.draw_reaches }
+    record { reaches = reaches_here _ _ _ c.requires.stand_ready.0 c.requires.chars_value _ _ _ _ _ c.draw_told_lines.ensures.reaches; draw_reaches = draws-here _ _ _ c.requires.stand_ready.0 c.requires.chars_value _ _ _ _ _ c.draw_told_lines.ensures.draw_reaches }

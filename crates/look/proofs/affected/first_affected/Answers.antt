@@ -1,31 +1,32 @@
 -- `table::affected::first_affected` meets its contract (refusal 3, refusal 5, refusal 6, laying again).
 use Rattle.std.proofs.Common.{ℕ, sym, ap, ◌∙◌}
+use Rattle.std.specs.Prelude.{Ok}
 use Rattle.meaning.specs.Table.{entries_in}
 use Rattle.meaning.specs.WellFormed.{check_table}
-use Rattle.meaning.specs.declared.answers.Affected.TheVariants as affecting
 use Rattle.table.specs.EditAlone.{check_place, affected-place, affected_bad, affected-line, affected-refused}
 use Rattle.look.specs.GoodTable.{table-room}
 use Rattle.look.specs.Looking.{Says, look_says}
+use Rattle.laws.specs.Asked.{asked}
 use Rattle.look.proofs.affected.first_affected.Goals as goal
 
 pub text_length-requires : goal.text_length-requires
 text_length-requires c =
-    table-room _ _ ((let found_here : Says c.args.edit.from.0 (check_table c.args.lines c.args.table.now) (entries_in c.args.lines c.args.table.now) (affecting.Line c.in-Line.k) = look_says _ _ _ _ (sym c.in-Line.is ∙ c.look_over.ensures) in found_here)).0
+    table-room _ _ ((let found_here : Says c.args.edit.from.0 (check_table c.args.lines c.args.table.now) (entries_in c.args.lines c.args.table.now) (Ok c.in_ok-line.line) = look_says _ _ _ _ (sym c.in_ok-line.was ∙ c.look_over.ensures) in found_here)).0
 
-pub returns-in-Refused-check_place : goal.returns-in-Refused-check_place
-returns-in-Refused-check_place c =
-    affected-refused c.args.table.now c.args.lines c.args.edit _
-    (affected-place c.args.table.now c.args.lines c.args.edit ((let found_here : Says c.args.edit.from.0 (check_table c.args.lines c.args.table.now) (entries_in c.args.lines c.args.table.now) (affecting.Line c.in-Line.k) = look_says _ _ _ _ (sym c.in-Line.is ∙ c.look_over.ensures) in found_here)).0
-    ∙ ap (λ (n : ℕ). check_place n c.args.edit) (sym c.text_length.ensures) ∙ sym c.check_place.ensures ∙ c.in-Refused-check_place.is)
+pub returns-in_err-check_place : goal.returns-in_err-check_place
+returns-in_err-check_place c =
+    asked _ c.from_residual-in_err-check_place.ensures.1 ∙ affected-refused c.args.table.now c.args.lines c.args.edit _
+    (affected-place c.args.table.now c.args.lines c.args.edit ((let found_here : Says c.args.edit.from.0 (check_table c.args.lines c.args.table.now) (entries_in c.args.lines c.args.table.now) (Ok c.in_ok-line.line) = look_says _ _ _ _ (sym c.in_ok-line.was ∙ c.look_over.ensures) in found_here)).0
+    ∙ ap (λ (n : ℕ). check_place n c.args.edit) (sym c.text_length.ensures) ∙ sym c.check_place.ensures ∙ c.in_err-check_place.was)
 
-pub returns-in_default : goal.returns-in_default
-returns-in_default c =
-    ap affecting.Line ((let found_here : Says c.args.edit.from.0 (check_table c.args.lines c.args.table.now) (entries_in c.args.lines c.args.table.now) (affecting.Line c.in-Line.k) = look_says _ _ _ _ (sym c.in-Line.is ∙ c.look_over.ensures) in found_here)).1
+pub returns : goal.returns
+returns c =
+    ap Ok ((let found_here : Says c.args.edit.from.0 (check_table c.args.lines c.args.table.now) (entries_in c.args.lines c.args.table.now) (Ok c.in_ok-line.line) = look_says _ _ _ _ (sym c.in_ok-line.was ∙ c.look_over.ensures) in found_here)).1
     ∙ affected-line c.args.table.now c.args.lines c.args.edit
-    (affected-place c.args.table.now c.args.lines c.args.edit ((let found_here : Says c.args.edit.from.0 (check_table c.args.lines c.args.table.now) (entries_in c.args.lines c.args.table.now) (affecting.Line c.in-Line.k) = look_says _ _ _ _ (sym c.in-Line.is ∙ c.look_over.ensures) in found_here)).0
-    ∙ ap (λ (n : ℕ). check_place n c.args.edit) (sym c.text_length.ensures) ∙ sym c.check_place.ensures ∙ c.in_default.is)
+    (affected-place c.args.table.now c.args.lines c.args.edit ((let found_here : Says c.args.edit.from.0 (check_table c.args.lines c.args.table.now) (entries_in c.args.lines c.args.table.now) (Ok c.in_ok-line.line) = look_says _ _ _ _ (sym c.in_ok-line.was ∙ c.look_over.ensures) in found_here)).0
+    ∙ ap (λ (n : ℕ). check_place n c.args.edit) (sym c.text_length.ensures) ∙ sym c.check_place.ensures ∙ c.in_ok-check_place.was)
 
-pub returns-in-Refused : goal.returns-in-Refused
-returns-in-Refused c =
-    affected-refused c.args.table.now c.args.lines c.args.edit _
-    (affected_bad c.args.table.now c.args.lines c.args.edit _ (look_says _ _ _ _ (sym c.in-Refused.is ∙ c.look_over.ensures)))
+pub returns-in_err-line : goal.returns-in_err-line
+returns-in_err-line c =
+    asked _ c.from_residual.ensures.1 ∙ affected-refused c.args.table.now c.args.lines c.args.edit _
+    (affected_bad c.args.table.now c.args.lines c.args.edit _ (look_says _ _ _ _ (sym c.in_err-line.was ∙ c.look_over.ensures)))

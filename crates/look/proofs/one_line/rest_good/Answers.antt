@@ -3,10 +3,10 @@ use Rattle.std.proofs.Common.{◌∙◌}
 use Rattle.look.proofs.Judging.{rest-first, rest-after}
 use Rattle.look.proofs.one_line.rest_good.Goals as goal
 
-pub returns-in-Nothing : goal.returns-in-Nothing
-returns-in-Nothing c =
-    c.has_no_rest.ensures ∙ rest-first c.args.bytes.0 c.args.e c.args.prior c.in-Nothing.is
+pub returns-in-None : goal.returns-in-None
+returns-in-None c =
+    c.has_no_rest.ensures ∙ rest-first c.args.bytes.0 c.args.e c.args.prior c.in-None.is
 
-pub returns-in-Line : goal.returns-in-Line
-returns-in-Line c =
-    c.rest_stands.ensures ∙ rest-after c.args.bytes.0 c.args.e c.args.prior _ _ _ c.in-Line.is
+pub returns-in-Some : goal.returns-in-Some
+returns-in-Some c =
+    c.rest_stands.ensures ∙ rest-after c.args.bytes.0 c.args.e c.args.prior _ c.in-Some.is

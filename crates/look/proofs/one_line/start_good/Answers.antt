@@ -3,10 +3,10 @@ use Rattle.std.proofs.Common.{◌∙◌}
 use Rattle.look.proofs.Judging.{start_first, start-after}
 use Rattle.look.proofs.one_line.start_good.Goals as goal
 
-pub returns-in-Nothing : goal.returns-in-Nothing
-returns-in-Nothing c =
-    start_first c.args.bytes.0 c.args.e c.args.prior c.in-Nothing.is
+pub returns-in-None : goal.returns-in-None
+returns-in-None c =
+    start_first c.args.bytes.0 c.args.e c.args.prior c.in-None.is
 
-pub returns-in-Line : goal.returns-in-Line
-returns-in-Line c =
-    c.start_fits.ensures ∙ start-after c.args.bytes.0 c.args.e c.args.prior _ _ _ c.in-Line.is
+pub returns-in-Some : goal.returns-in-Some
+returns-in-Some c =
+    c.start_fits.ensures ∙ start-after c.args.bytes.0 c.args.e c.args.prior _ c.in-Some.is

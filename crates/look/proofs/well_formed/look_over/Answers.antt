@@ -1,7 +1,7 @@
 -- `table::well_formed::look_over` meets its contract (refusal 5).
 use Rattle.std.proofs.Common.{sym, ap, ◌∙◌, arith}
+use Rattle.meaning.specs.Refusals.{Checked}
 use Rattle.meaning.specs.Table.{entries_in}
-use Rattle.meaning.specs.declared.refusals.Checked.{Checked}
 use Rattle.look.specs.GoodTable.{reach-some}
 use Rattle.look.specs.Looking.{looked_over, looked_bad}
 use Rattle.look.proofs.LineByLine.{few, reach_bad, reach-good}

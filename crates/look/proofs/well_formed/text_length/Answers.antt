@@ -4,14 +4,6 @@ use Rattle.meaning.specs.Table.{entries_in}
 use Rattle.look.proofs.LineByLine.{text-is}
 use Rattle.look.proofs.well_formed.text_length.Goals as goal
 
-pub returns-then-reach-eq0 : goal.returns-then-reach-eq0
-returns-then-reach-eq0 c =
-    omega (
-      arith,
-      text-is (entries_in c.args.lines c.args.table.now) c.last_reach-reach.result.0 c.last_reach-reach.ensures,
-      c.if-reach-eq0.true,
-    )
-
 pub returns : goal.returns
 returns c =
-    text-is (entries_in c.args.lines c.args.table.now) c.last_reach-reach.result.0 c.last_reach-reach.ensures
+    omega (arith, text-is (entries_in c.args.lines c.args.table.now) c.last_reach-reach.result.0 c.last_reach-reach.ensures, c.saturating_sub.ensures)

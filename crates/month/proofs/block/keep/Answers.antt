@@ -8,4 +8,4 @@ returns-then-end-at c =
 
 pub returns : goal.returns
 returns c =
-    kept-held _ _ _ _ c.requires.at_le_end c.requires.end_in_bounds c.if-end-at.false _ _ c.to_front-held.ensures.value c.to_front-held.ensures.buffer_after c.to_front-held.auto.buffer
+    kept-held _ _ _ _ c.requires.at_le_end c.requires.end_in_bounds c.if-end-at.false _ _ c.to_front.ensures.value c.to_front.ensures.buffer_after c.to_front.auto.buffer

@@ -1,4 +1,7 @@
-use Rattle.std.proofs.Common.{◌≤◌, refl, sym, ◌∙◌, arith, length, rules}
+use Rattle.std.proofs.Common.{ℕ, Option, ap, ◌≤◌, refl, sym, ◌∙◌, arith, length, rules}
+use Rattle.std.proofs.lemmas.Result.{err_from_is_err_and}
+use Rattle.std.specs.Option.{ok_or}
+use Rattle.month.specs.declared.width_lines.WidthsError.TheVariants.{Bad}
 use Rattle.month.specs.Blocks.{feed_within}
 use Rattle.month.specs.WidthTurns.{reading_start, reading_end, reading_full, reading_bad, reading_next}
 use Rattle.month.proofs.width_lines.parse_widths.Goals as goal
@@ -31,13 +34,12 @@ pub slice_bounds-parse_width-end : goal.slice_bounds-parse_width-end
 slice_bounds-parse_width-end c =
     omega (arith, (let stops_here : (c.loop-at.at ≤ c.find_feed-stop.result) × (c.find_feed-stop.result ≤ length c.args.file.now) = feed_within c.args.file.now c.loop-at.at (length c.args.file.now) c.find_feed-stop.result (omega (arith, c.loop-at-test.true)) (omega arith) c.find_feed-stop.ensures in stops_here))
 
-pub shape_of-widths-in_default : goal.shape_of-widths-in_default
-shape_of-widths-in_default c =
-    c.loop-at.invariant.same
-
-pub returns-in_default : goal.returns-in_default
-returns-in_default c =
-    record { value = reading_bad _ _ _ _ _ c.loop-at.invariant c.loop-at-test.true _ c.find_feed-stop.ensures c.if-widths-k.false (sym c.parse_width.ensures ∙ c.in_default.is); held = tt }
+pub returns-in_err-w-clause-value : goal.returns-in_err-w-clause-value
+returns-in_err-w-clause-value c =
+    let none = c.in_err-w.ensures.ok_part in
+    let bad = reading_bad _ _ _ _ _ c.loop-at.invariant c.loop-at-test.true _ c.find_feed-stop.ensures c.if-widths-k.false (sym c.parse_width.ensures ∙ none) in
+    let p = err_from_is_err_and c.from_residual.result c.from_residual.ensures.1 in
+    rw (p.1, p.2) (c.in_err-w.ensures.value ∙ ap (λ (o : Option ℕ). ok_or o (Bad c.loop-at.k)) none ∙ bad)
 
 pub bounds-widths-k : goal.bounds-widths-k
 bounds-widths-k c =
@@ -57,7 +59,7 @@ loop-at-smaller c =
 
 pub loop-at-preserved : goal.loop-at-preserved
 loop-at-preserved c =
-    let w = sym c.parse_width.ensures ∙ c.in-Number.is in
+    let w = sym c.parse_width.ensures ∙ c.in_ok-w.ensures.ok_part in
     reading_next _ _ _ _ _ c.loop-at.invariant c.loop-at-test.true _ c.find_feed-stop.ensures c.if-widths-k.false _ w ((let stops_here : (c.loop-at.at ≤ c.find_feed-stop.result) × (c.find_feed-stop.result ≤ length c.args.file.now) = feed_within c.args.file.now c.loop-at.at (length c.args.file.now) c.find_feed-stop.result (omega (arith, c.loop-at-test.true)) (omega arith) c.find_feed-stop.ensures in stops_here)).1
 
 pub shape_of-widths : goal.shape_of-widths

@@ -7,7 +7,7 @@ unfolding skips
 returns-then-p c =
     rw c.if-p.true
 
-pub returns : goal.returns
+pub returns-else-p : goal.returns-else-p
 unfolding skips
-returns c =
+returns-else-p c =
     rw c.if-p.false

@@ -1,16 +1,12 @@
 -- `pairs::pair::space_len` meets its contract (rule 2).
-use Rattle.std.proofs.Common.{sym, ◌∙◌, arith}
+use Rattle.std.proofs.Common.{sym, ◌∙◌}
 use Rattle.pairs.specs.PairLaws.{blank-space}
 use Rattle.pairs.proofs.pair.space_len.Goals as goal
 
 pub returns-then-space_at : goal.returns-then-space_at
 returns-then-space_at c =
-    λ _. blank-space _ _ (sym c.space_at.ensures ∙ c.if-space_at.true)
+    blank-space _ _ (sym c.space_at.ensures ∙ c.if-space_at.true)
 
 pub returns-then-long_space_at : goal.returns-then-long_space_at
 returns-then-long_space_at c =
-    λ _. c.long_space_at.ensures c.if-long_space_at.true
-
-pub returns : goal.returns
-returns c =
-    λ h. absurd (omega arith)
+    c.long_space_at.ensures c.if-long_space_at.true

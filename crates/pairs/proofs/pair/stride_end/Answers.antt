@@ -1,5 +1,5 @@
 -- `pairs::pair::stride_end` meets its contract (rule 2).
-use Rattle.std.proofs.Common.{◌≡◌, refl, sym, ◌∙◌, true, ◌+◌, arith}
+use Rattle.std.proofs.Common.{◌≡◌, sym, ◌∙◌, true, ◌+◌, arith}
 use Rattle.parser.specs.Ascii.{plain_at, space_at, plain-inside, space-inside}
 use Rattle.pairs.proofs.pair.stride_end.Goals as goal
 
@@ -17,19 +17,7 @@ skip_plain-end-requires c =
 
 pub returns-then-ends_at : goal.returns-then-ends_at
 returns-then-ends_at c =
-    λ d. record {
+    record {
       space = (let spaced_here : space_at c.args.text.now c.args.at ≡ true = sym c.space_at.ensures ∙ c.if-space_at.true in spaced_here);
       word = record { first = (let lettered_here : plain_at c.args.text.now (c.args.at + 1) ≡ true = sym c.plain_at.ensures ∙ c.if-plain_at.true in lettered_here); letters = c.skip_plain-end.ensures.0; ends = sym c.ends_at.ensures ∙ c.if-ends_at.true };
     }
-
-pub returns-else-ends_at : goal.returns-else-ends_at
-returns-else-ends_at c =
-    λ d. absurd (d refl)
-
-pub returns-else-plain_at : goal.returns-else-plain_at
-returns-else-plain_at c =
-    λ d. absurd (d refl)
-
-pub returns-else-space_at : goal.returns-else-space_at
-returns-else-space_at c =
-    λ d. absurd (d refl)

@@ -5,17 +5,9 @@ use Rattle.pairs.proofs.plain_line.waits_behind.Goals as goal
 
 pub returns-then-plain_at : goal.returns-then-plain_at
 returns-then-plain_at c =
-    λ _. (c.plain_found.ensures.0, waits-full _ _ _ _ c.if-end-limit.true (sym c.plain_at.ensures ∙ c.if-plain_at.true) c.plain_found.ensures.1)
-
-pub returns-then-end-limit : goal.returns-then-end-limit
-returns-then-end-limit c =
-    λ d. absurd (d c.plain_found-then-end-limit.ensures.0)
+    (c.plain_found.ensures.0, waits-full _ _ _ _ c.if-end-limit.true (sym c.plain_at.ensures ∙ c.if-plain_at.true) c.plain_found.ensures.1)
 
 pub returns-then-ends_at : goal.returns-then-ends_at
 returns-then-ends_at c =
     let ends = sym c.ends_at.ensures ∙ c.if-ends_at.true in
-    λ _. (c.plain_found-then-ends_at.ensures.0, waits-farther _ _ _ _ _ (omega arith) (omega arith) c.requires.3 c.skip_plain-far.ensures.0 ends c.plain_found-then-ends_at.ensures.1)
-
-pub returns : goal.returns
-returns c =
-    λ d. absurd (d c.plain_found-2.ensures.0)
+    (c.plain_found-then-ends_at.ensures.0, waits-farther _ _ _ _ _ (omega arith) (omega arith) c.requires.3 c.skip_plain-far.ensures.0 ends c.plain_found-then-ends_at.ensures.1)

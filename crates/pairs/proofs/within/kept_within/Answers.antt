@@ -1,5 +1,4 @@
 -- `pairs::within::kept_within` meets its contract (rule 2).
-use Rattle.std.proofs.Common.{◌∙◌}
 use Rattle.basis.specs.Choice.{pick}
 use Rattle.basis.specs.Order.{tests}
 use Rattle.pairs.specs.Within.{kept_within}
@@ -8,7 +7,7 @@ use Rattle.pairs.proofs.within.kept_within.Goals as goal
 pub returns-then-most-x : goal.returns-then-most-x
 unfolding kept_within pick
 returns-then-most-x c =
-    c.none_scanned.ensures ∙ search tests
+    search tests
 
 pub returns : goal.returns
 unfolding kept_within pick

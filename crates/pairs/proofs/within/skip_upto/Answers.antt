@@ -58,21 +58,21 @@ pub overflow_add-end : goal.overflow_add-end
 overflow_add-end c =
     omega (
       arith,
-      spells-room _ _ _ 0 ((let found_here : Letter c.args.text.now c.skip_plain-plain.result c.long_len-letter.result = letter-long _ _ _ (c.long_len-letter.ensures (omega (arith, c.if-letter-ne0.true))) in found_here)),
+      spells-room _ _ _ 0 ((let found_here : Letter c.args.text.now c.skip_plain-plain.result c.in-Some.letter = letter-long _ _ _ (c.in-Some.ensures) in found_here)),
       (let small_here : (c.loop-chars.end ≤ c.skip_plain-plain.result) × (c.skip_plain-plain.result ≤ length c.args.text.now) × ((let N_here : ℕ = c.loop-chars.chars + (c.skip_plain-plain.result - c.loop-chars.end) in N_here) ≤ c.args.most) × ((let N_here : ℕ = c.loop-chars.chars + (c.skip_plain-plain.result - c.loop-chars.end) in N_here) ≤ c.skip_plain-plain.result) × (length c.args.text.now ≤ 65535) = let s = (let so_far_here : GoesOn c.args.text.now c.args.from c.skip_plain-plain.result ((let N_here : ℕ = c.loop-chars.chars + (c.skip_plain-plain.result - c.loop-chars.end) in N_here)) c.loop-chars.glues = goes-letters _ _ _ _ _ _ c.loop-chars.invariant.0 c.skip_plain-plain.ensures.0 in so_far_here) in
           omega (arith, s.forward, s.inside, c.skip_plain-plain.ensures.0.forward, c.skip_plain-plain.ensures.1, c.limit_at-limit.ensures, c.loop-chars.invariant.1, c.requires.0) in small_here),
     )
 
-pub overflow_add-chars-then-letter-ne0 : goal.overflow_add-chars-then-letter-ne0
-overflow_add-chars-then-letter-ne0 c =
+pub overflow_add-chars-in-Some : goal.overflow_add-chars-in-Some
+overflow_add-chars-in-Some c =
     omega (
       arith,
       (let small_here : (c.loop-chars.end ≤ c.skip_plain-plain.result) × (c.skip_plain-plain.result ≤ length c.args.text.now) × ((let N_here : ℕ = c.loop-chars.chars + (c.skip_plain-plain.result - c.loop-chars.end) in N_here) ≤ c.args.most) × ((let N_here : ℕ = c.loop-chars.chars + (c.skip_plain-plain.result - c.loop-chars.end) in N_here) ≤ c.skip_plain-plain.result) × (length c.args.text.now ≤ 65535) = let s = (let so_far_here : GoesOn c.args.text.now c.args.from c.skip_plain-plain.result ((let N_here : ℕ = c.loop-chars.chars + (c.skip_plain-plain.result - c.loop-chars.end) in N_here)) c.loop-chars.glues = goes-letters _ _ _ _ _ _ c.loop-chars.invariant.0 c.skip_plain-plain.ensures.0 in so_far_here) in
           omega (arith, s.forward, s.inside, c.skip_plain-plain.ensures.0.forward, c.skip_plain-plain.ensures.1, c.limit_at-limit.ensures, c.loop-chars.invariant.1, c.requires.0) in small_here),
     )
 
-pub loop-chars-smaller-then-letter-ne0 : goal.loop-chars-smaller-then-letter-ne0
-loop-chars-smaller-then-letter-ne0 c =
+pub loop-chars-smaller-in-Some : goal.loop-chars-smaller-in-Some
+loop-chars-smaller-in-Some c =
     omega (
       arith,
       (let small_here : (c.loop-chars.end ≤ c.skip_plain-plain.result) × (c.skip_plain-plain.result ≤ length c.args.text.now) × ((let N_here : ℕ = c.loop-chars.chars + (c.skip_plain-plain.result - c.loop-chars.end) in N_here) ≤ c.args.most) × ((let N_here : ℕ = c.loop-chars.chars + (c.skip_plain-plain.result - c.loop-chars.end) in N_here) ≤ c.skip_plain-plain.result) × (length c.args.text.now ≤ 65535) = let s = (let so_far_here : GoesOn c.args.text.now c.args.from c.skip_plain-plain.result ((let N_here : ℕ = c.loop-chars.chars + (c.skip_plain-plain.result - c.loop-chars.end) in N_here)) c.loop-chars.glues = goes-letters _ _ _ _ _ _ c.loop-chars.invariant.0 c.skip_plain-plain.ensures.0 in so_far_here) in
@@ -80,9 +80,9 @@ loop-chars-smaller-then-letter-ne0 c =
       c.if-chars-most.false,
     )
 
-pub loop-chars-preserved-then-letter-ne0 : goal.loop-chars-preserved-then-letter-ne0
-loop-chars-preserved-then-letter-ne0 c = (
-  goes-letter _ _ _ _ _ ((let so_far_here : GoesOn c.args.text.now c.args.from c.skip_plain-plain.result ((let N_here : ℕ = c.loop-chars.chars + (c.skip_plain-plain.result - c.loop-chars.end) in N_here)) c.loop-chars.glues = goes-letters _ _ _ _ _ _ c.loop-chars.invariant.0 c.skip_plain-plain.ensures.0 in so_far_here)) _ ((let found_here : Letter c.args.text.now c.skip_plain-plain.result c.long_len-letter.result = letter-long _ _ _ (c.long_len-letter.ensures (omega (arith, c.if-letter-ne0.true))) in found_here)),
+pub loop-chars-preserved-in-Some : goal.loop-chars-preserved-in-Some
+loop-chars-preserved-in-Some c = (
+  goes-letter _ _ _ _ _ ((let so_far_here : GoesOn c.args.text.now c.args.from c.skip_plain-plain.result ((let N_here : ℕ = c.loop-chars.chars + (c.skip_plain-plain.result - c.loop-chars.end) in N_here)) c.loop-chars.glues = goes-letters _ _ _ _ _ _ c.loop-chars.invariant.0 c.skip_plain-plain.ensures.0 in so_far_here)) _ ((let found_here : Letter c.args.text.now c.skip_plain-plain.result c.in-Some.letter = letter-long _ _ _ (c.in-Some.ensures) in found_here)),
   omega (
     arith,
     (let small_here : (c.loop-chars.end ≤ c.skip_plain-plain.result) × (c.skip_plain-plain.result ≤ length c.args.text.now) × ((let N_here : ℕ = c.loop-chars.chars + (c.skip_plain-plain.result - c.loop-chars.end) in N_here) ≤ c.args.most) × ((let N_here : ℕ = c.loop-chars.chars + (c.skip_plain-plain.result - c.loop-chars.end) in N_here) ≤ c.skip_plain-plain.result) × (length c.args.text.now ≤ 65535) = let s = (let so_far_here : GoesOn c.args.text.now c.args.from c.skip_plain-plain.result ((let N_here : ℕ = c.loop-chars.chars + (c.skip_plain-plain.result - c.loop-chars.end) in N_here)) c.loop-chars.glues = goes-letters _ _ _ _ _ _ c.loop-chars.invariant.0 c.skip_plain-plain.ensures.0 in so_far_here) in
@@ -91,24 +91,24 @@ loop-chars-preserved-then-letter-ne0 c = (
   ),
 )
 
-pub scanned_at-requires-then-glue-eq0 : goal.scanned_at-requires-then-glue-eq0
-scanned_at-requires-then-glue-eq0 c =
+pub scanned_at-requires-in_default-glue_len : goal.scanned_at-requires-in_default-glue_len
+scanned_at-requires-in_default-glue_len c =
     omega (
       arith,
       (let small_here : (c.loop-chars.end ≤ c.skip_plain-plain.result) × (c.skip_plain-plain.result ≤ length c.args.text.now) × ((let N_here : ℕ = c.loop-chars.chars + (c.skip_plain-plain.result - c.loop-chars.end) in N_here) ≤ c.args.most) × ((let N_here : ℕ = c.loop-chars.chars + (c.skip_plain-plain.result - c.loop-chars.end) in N_here) ≤ c.skip_plain-plain.result) × (length c.args.text.now ≤ 65535) = let s = (let so_far_here : GoesOn c.args.text.now c.args.from c.skip_plain-plain.result ((let N_here : ℕ = c.loop-chars.chars + (c.skip_plain-plain.result - c.loop-chars.end) in N_here)) c.loop-chars.glues = goes-letters _ _ _ _ _ _ c.loop-chars.invariant.0 c.skip_plain-plain.ensures.0 in so_far_here) in
           omega (arith, s.forward, s.inside, c.skip_plain-plain.ensures.0.forward, c.skip_plain-plain.ensures.1, c.limit_at-limit.ensures, c.loop-chars.invariant.1, c.requires.0) in small_here),
     )
 
-pub returns-then-glue-eq0 : goal.returns-then-glue-eq0
-returns-then-glue-eq0 c =
+pub returns-in_default-glue_len : goal.returns-in_default-glue_len
+returns-in_default-glue_len c =
     goes_scanned _ _ _ _ _ _ ((let so_far_here : GoesOn c.args.text.now c.args.from c.skip_plain-plain.result ((let N_here : ℕ = c.loop-chars.chars + (c.skip_plain-plain.result - c.loop-chars.end) in N_here)) c.loop-chars.glues = goes-letters _ _ _ _ _ _ c.loop-chars.invariant.0 c.skip_plain-plain.ensures.0 in so_far_here)) ((let small_here : (c.loop-chars.end ≤ c.skip_plain-plain.result) × (c.skip_plain-plain.result ≤ length c.args.text.now) × ((let N_here : ℕ = c.loop-chars.chars + (c.skip_plain-plain.result - c.loop-chars.end) in N_here) ≤ c.args.most) × ((let N_here : ℕ = c.loop-chars.chars + (c.skip_plain-plain.result - c.loop-chars.end) in N_here) ≤ c.skip_plain-plain.result) × (length c.args.text.now ≤ 65535) = let s = (let so_far_here : GoesOn c.args.text.now c.args.from c.skip_plain-plain.result ((let N_here : ℕ = c.loop-chars.chars + (c.skip_plain-plain.result - c.loop-chars.end) in N_here)) c.loop-chars.glues = goes-letters _ _ _ _ _ _ c.loop-chars.invariant.0 c.skip_plain-plain.ensures.0 in so_far_here) in
-    omega (arith, s.forward, s.inside, c.skip_plain-plain.ensures.0.forward, c.skip_plain-plain.ensures.1, c.limit_at-limit.ensures, c.loop-chars.invariant.1, c.requires.0) in small_here)).2 _ c.scanned_at-then-glue-eq0.ensures
+    omega (arith, s.forward, s.inside, c.skip_plain-plain.ensures.0.forward, c.skip_plain-plain.ensures.1, c.limit_at-limit.ensures, c.loop-chars.invariant.1, c.requires.0) in small_here)).2 _ c.scanned_at-in_default-glue_len.ensures
 
 pub overflow_add-end-in-loop-chars : goal.overflow_add-end-in-loop-chars
 overflow_add-end-in-loop-chars c =
     omega (
       arith,
-      spells-room _ _ _ 1 ((let glued_here : Glues c.args.text.now c.skip_plain-plain.result c.glue_len-glue.result = c.glue_len-glue.ensures (omega (arith, c.if-glue-eq0.false)) in glued_here)),
+      spells-room _ _ _ 1 ((let glued_here : Glues c.args.text.now c.skip_plain-plain.result c.in-Some-glue_len.glue = c.in-Some-glue_len.ensures in glued_here)),
       (let small_here : (c.loop-chars.end ≤ c.skip_plain-plain.result) × (c.skip_plain-plain.result ≤ length c.args.text.now) × ((let N_here : ℕ = c.loop-chars.chars + (c.skip_plain-plain.result - c.loop-chars.end) in N_here) ≤ c.args.most) × ((let N_here : ℕ = c.loop-chars.chars + (c.skip_plain-plain.result - c.loop-chars.end) in N_here) ≤ c.skip_plain-plain.result) × (length c.args.text.now ≤ 65535) = let s = (let so_far_here : GoesOn c.args.text.now c.args.from c.skip_plain-plain.result ((let N_here : ℕ = c.loop-chars.chars + (c.skip_plain-plain.result - c.loop-chars.end) in N_here)) c.loop-chars.glues = goes-letters _ _ _ _ _ _ c.loop-chars.invariant.0 c.skip_plain-plain.ensures.0 in so_far_here) in
           omega (arith, s.forward, s.inside, c.skip_plain-plain.ensures.0.forward, c.skip_plain-plain.ensures.1, c.limit_at-limit.ensures, c.loop-chars.invariant.1, c.requires.0) in small_here),
     )
@@ -141,7 +141,7 @@ loop-chars-smaller c =
 
 pub loop-chars-preserved : goal.loop-chars-preserved
 loop-chars-preserved c = (
-  goes-more _ _ _ _ _ ((let so_far_here : GoesOn c.args.text.now c.args.from c.skip_plain-plain.result ((let N_here : ℕ = c.loop-chars.chars + (c.skip_plain-plain.result - c.loop-chars.end) in N_here)) c.loop-chars.glues = goes-letters _ _ _ _ _ _ c.loop-chars.invariant.0 c.skip_plain-plain.ensures.0 in so_far_here)) _ 1 ((let glued_here : Glues c.args.text.now c.skip_plain-plain.result c.glue_len-glue.result = c.glue_len-glue.ensures (omega (arith, c.if-glue-eq0.false)) in glued_here)),
+  goes-more _ _ _ _ _ ((let so_far_here : GoesOn c.args.text.now c.args.from c.skip_plain-plain.result ((let N_here : ℕ = c.loop-chars.chars + (c.skip_plain-plain.result - c.loop-chars.end) in N_here)) c.loop-chars.glues = goes-letters _ _ _ _ _ _ c.loop-chars.invariant.0 c.skip_plain-plain.ensures.0 in so_far_here)) _ 1 ((let glued_here : Glues c.args.text.now c.skip_plain-plain.result c.in-Some-glue_len.glue = c.in-Some-glue_len.ensures in glued_here)),
   omega (
     arith,
     (let small_here : (c.loop-chars.end ≤ c.skip_plain-plain.result) × (c.skip_plain-plain.result ≤ length c.args.text.now) × ((let N_here : ℕ = c.loop-chars.chars + (c.skip_plain-plain.result - c.loop-chars.end) in N_here) ≤ c.args.most) × ((let N_here : ℕ = c.loop-chars.chars + (c.skip_plain-plain.result - c.loop-chars.end) in N_here) ≤ c.skip_plain-plain.result) × (length c.args.text.now ≤ 65535) = let s = (let so_far_here : GoesOn c.args.text.now c.args.from c.skip_plain-plain.result ((let N_here : ℕ = c.loop-chars.chars + (c.skip_plain-plain.result - c.loop-chars.end) in N_here)) c.loop-chars.glues = goes-letters _ _ _ _ _ _ c.loop-chars.invariant.0 c.skip_plain-plain.ensures.0 in so_far_here) in

@@ -1,11 +1,7 @@
 -- `pairs::within::word_within` meets its contract (rule 2).
-use Rattle.std.proofs.Common.{refl, sym, ◌∙◌, ◌<◌, arith, length}
+use Rattle.std.proofs.Common.{sym, ◌∙◌, ◌<◌, arith, length}
 use Rattle.parser.specs.Ascii.{plain-inside}
 use Rattle.pairs.proofs.within.word_within.Goals as goal
-
-pub returns-then-most-eq0 : goal.returns-then-most-eq0
-returns-then-most-eq0 c =
-    λ d. absurd (d refl)
 
 pub limit_at-limit-requires : goal.limit_at-limit-requires
 limit_at-limit-requires c =
@@ -20,12 +16,7 @@ skip_plain-end-requires c =
     omega (arith, (let inside_here : c.args.from < length c.args.text.now = plain-inside _ _ c.requires.1 in inside_here), c.limit_at-limit.ensures, c.if-most-eq0.false)
 
 pub returns-then-ends_at : goal.returns-then-ends_at
-returns-then-ends_at c =
-    λ d. (
-      record { first = c.requires.1; letters = c.skip_plain-end.ensures.0; ends = sym c.ends_at.ensures ∙ c.if-ends_at.true },
-      omega (arith, c.skip_plain-end.ensures.1, c.limit_at-limit.ensures),
-    )
-
-pub returns : goal.returns
-returns c =
-    λ d. absurd (d refl)
+returns-then-ends_at c = (
+  record { first = c.requires.1; letters = c.skip_plain-end.ensures.0; ends = sym c.ends_at.ensures ∙ c.if-ends_at.true },
+  omega (arith, c.skip_plain-end.ensures.1, c.limit_at-limit.ensures),
+)

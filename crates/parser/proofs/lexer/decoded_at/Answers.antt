@@ -1,7 +1,7 @@
 -- `parser::lexer::decoded_at` meets its contract (rule 2, rule 3).
-use Rattle.std.proofs.Common.{sym, ap, ◌∙◌}
-use Rattle.utf8.specs.Walk.{is_char, decode_at-bytes}
-use Rattle.parser.specs.ScanLaws.{char-room}
+use Rattle.std.proofs.Common.{sym, ◌∙◌}
+use Rattle.utf8.specs.Walk.{decode_at-bytes}
+use Rattle.parser.specs.ScanLaws.{no_char, char-room}
 use Rattle.parser.specs.LexerLaws.{lexed-char, lexed-none}
 use Rattle.parser.proofs.lexer.decoded_at.Goals as goal
 
@@ -16,8 +16,4 @@ returns-in-Char c =
 
 pub returns-in-Bad : goal.returns-in-Bad
 returns-in-Bad c =
-    lexed-none _ _ (ap is_char (sym c.decode.ensures ∙ c.in-Bad.is))
-
-pub returns-in-End : goal.returns-in-End
-returns-in-End c =
-    lexed-none _ _ (ap is_char (sym c.decode.ensures ∙ c.in-End.is))
+    lexed-none _ _ (no_char _ _ _ c.decode.ensures c.in-Bad.is)

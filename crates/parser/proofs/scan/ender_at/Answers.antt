@@ -1,7 +1,6 @@
 -- `parser::scan::ender_at` meets its contract (rule 2).
-use Rattle.std.proofs.Common.{sym, ap, ◌∙◌}
-use Rattle.utf8.specs.Walk.{is_char}
-use Rattle.parser.specs.ScanLaws.{ender-char, ender-none}
+use Rattle.std.proofs.Common.{sym, ◌∙◌}
+use Rattle.parser.specs.ScanLaws.{no_char, ender-char, ender-none}
 use Rattle.parser.proofs.scan.ender_at.Goals as goal
 
 pub returns-in-Char : goal.returns-in-Char
@@ -10,8 +9,4 @@ returns-in-Char c =
 
 pub returns-in-Bad : goal.returns-in-Bad
 returns-in-Bad c =
-    ender-none _ _ (ap is_char (sym c.decode.ensures ∙ c.in-Bad.is))
-
-pub returns-in-End : goal.returns-in-End
-returns-in-End c =
-    ender-none _ _ (ap is_char (sym c.decode.ensures ∙ c.in-End.is))
+    ender-none _ _ (no_char _ _ _ c.decode.ensures c.in-Bad.is)

@@ -1,143 +1,94 @@
-use Rattle.std.proofs.Common.{◌≡◌, refl, sym, ap, ◌∙◌, ℕ, ◌+◌, ◌≤◌, arith, length, rules}
-use Rattle.utf8.specs.Decoding.{decode_at}
-use Rattle.utf8.specs.Walk.{is_char}
-use Rattle.utf8.specs.declared.sequence.Decoded.TheVariants.{Char}
+use Rattle.std.proofs.Common.{◌≡◌, refl, sym, ap, ◌∙◌, List, ℕ, ◌+◌, ◌≤◌, arith, length, rules}
 use Rattle.meaning.specs.Characters.{in_word}
 use Rattle.parser.specs.Lexing.{chars_from}
 use Rattle.parser.specs.Scanning.{glue_of, scan_from}
-use Rattle.parser.specs.Letters.{Glues, Ends}
+use Rattle.parser.specs.Letters.{GoesOn}
 use Rattle.parser.specs.GlueLaws.{glue-one}
-use Rattle.parser.specs.ScanLaws.{scan_more, scan_stop, scan_end, char-room}
+use Rattle.parser.specs.ScanLaws.{no_char, scan_more, scan_stop, scan_end, char-room}
 use Rattle.parser.specs.LetterLaws.{spells-room, ends-ender}
 use Rattle.parser.specs.MarkLaws.{mark-ends}
+use Rattle.parser.specs.declared.scan.Scanned.{Scanned}
 use Rattle.parser.proofs.scan.scan_word.Goals as goal
+
+-- What is left to scan behind letters that go on with the word.
+module _ (t : List ℕ) (at chars weight end more : ℕ) (letters : GoesOn t at end more 0) where
+  bounds : chars ≤ at + 1 → weight ≤ at + 1 → (at ≤ end) × (end ≤ length t) × (chars + more ≤ end + 1) × (weight ≤ end + 1)
+  bounds h l = omega (arith, letters.forward, letters.inside)
+
+  left : (whole : Scanned) → scan_from in_word glue_of at chars weight (chars_from t at) ≡ whole → scan_from in_word glue_of end (chars + more) weight (chars_from t end) ≡ whole
+  left whole e =
+      let w : weight ≡ weight + 0 = omega arith in
+      ap (λ (k : ℕ). scan_from in_word glue_of end (chars + more) k (chars_from t end)) w ∙ sym (letters.scans chars weight) ∙ e
 
 pub loop-from-init : goal.loop-from-init
 loop-from-init c =
     (refl, search rules, search rules, search rules)
 
-pub overflow_add-skipped : goal.overflow_add-skipped
-overflow_add-skipped c =
-    omega (arith, (let bounds_here : (c.loop-from.at ≤ c.skip_letters-letters.result.end) × (c.skip_letters-letters.result.end ≤ length c.args.text.now) × ((let M_here : ℕ = c.loop-from.chars + c.skip_letters-letters.result.chars in M_here) ≤ c.skip_letters-letters.result.end + 1) × (c.loop-from.weight ≤ c.skip_letters-letters.result.end + 1) = omega (arith, c.skip_letters-letters.ensures.forward, c.skip_letters-letters.ensures.inside, c.loop-from.invariant) in bounds_here))
-
-pub scanned_at-requires : goal.scanned_at-requires
-scanned_at-requires c =
-    omega (arith, (let bounds_here : (c.loop-from.at ≤ c.skip_letters-letters.result.end) × (c.skip_letters-letters.result.end ≤ length c.args.text.now) × ((let M_here : ℕ = c.loop-from.chars + c.skip_letters-letters.result.chars in M_here) ≤ c.skip_letters-letters.result.end + 1) × (c.loop-from.weight ≤ c.skip_letters-letters.result.end + 1) = omega (arith, c.skip_letters-letters.ensures.forward, c.skip_letters-letters.ensures.inside, c.loop-from.invariant) in bounds_here))
-
 -- What words mostly end with.
 pub returns-then-ends_at : goal.returns-then-ends_at
 returns-then-ends_at c =
-    c.scanned_at.ensures ∙ sym ((ends-ender _ _ (sym c.ends_at.ensures ∙ c.if-ends_at.true)).scans ((let M_here : ℕ = c.loop-from.chars + c.skip_letters-letters.result.chars in M_here)) c.loop-from.weight) ∙ (let left_here : scan_from in_word glue_of c.skip_letters-letters.result.end ((let M_here : ℕ = c.loop-from.chars + c.skip_letters-letters.result.chars in M_here)) c.loop-from.weight (chars_from c.args.text.now c.skip_letters-letters.result.end) ≡ scan_from in_word glue_of c.args.from 1 c.args.first (chars_from c.args.text.now c.args.from) = let w : c.loop-from.weight ≡ c.loop-from.weight + 0 = omega arith in
-    ap (λ (k : ℕ). scan_from in_word glue_of c.skip_letters-letters.result.end ((let M_here : ℕ = c.loop-from.chars + c.skip_letters-letters.result.chars in M_here)) k (chars_from c.args.text.now c.skip_letters-letters.result.end)) w
-    ∙ sym (c.skip_letters-letters.ensures.scans c.loop-from.chars c.loop-from.weight) ∙ c.loop-from.invariant.0 in left_here)
-
-pub overflow_add-weight : goal.overflow_add-weight
-overflow_add-weight c =
-    omega (arith, (let bounds_here : (c.loop-from.at ≤ c.skip_letters-letters.result.end) × (c.skip_letters-letters.result.end ≤ length c.args.text.now) × ((let M_here : ℕ = c.loop-from.chars + c.skip_letters-letters.result.chars in M_here) ≤ c.skip_letters-letters.result.end + 1) × (c.loop-from.weight ≤ c.skip_letters-letters.result.end + 1) = omega (arith, c.skip_letters-letters.ensures.forward, c.skip_letters-letters.ensures.inside, c.loop-from.invariant) in bounds_here))
-
-pub overflow_add-chars : goal.overflow_add-chars
-overflow_add-chars c =
-    omega (arith, (let bounds_here : (c.loop-from.at ≤ c.skip_letters-letters.result.end) × (c.skip_letters-letters.result.end ≤ length c.args.text.now) × ((let M_here : ℕ = c.loop-from.chars + c.skip_letters-letters.result.chars in M_here) ≤ c.skip_letters-letters.result.end + 1) × (c.loop-from.weight ≤ c.skip_letters-letters.result.end + 1) = omega (arith, c.skip_letters-letters.ensures.forward, c.skip_letters-letters.ensures.inside, c.loop-from.invariant) in bounds_here))
+    c.scanned_at.ensures ∙ sym ((ends-ender _ _ (sym c.ends_at.ensures ∙ c.if-ends_at.true)).scans _ _)
+    ∙ left _ _ c.loop-from.chars c.loop-from.weight _ _ c.skip_letters-letters.ensures _ c.loop-from.invariant.0
 
 pub overflow_add-at : goal.overflow_add-at
 overflow_add-at c =
-    omega (arith, (let glue-room_here : (1 ≤ c.glue_len-glue.result) × (c.glue_len-glue.result ≤ 4) × (c.skip_letters-letters.result.end + c.glue_len-glue.result ≤ length c.args.text.now) = spells-room _ _ _ 1 ((let glues_here : Glues c.args.text.now c.skip_letters-letters.result.end c.glue_len-glue.result = c.glue_len-glue.ensures c.if-glue-gt0.true in glues_here)) in glue-room_here))
+    omega (arith, spells-room _ _ _ 1 c.in-Some.ensures)
 
-pub loop-from-smaller-then-glue-gt0 : goal.loop-from-smaller-then-glue-gt0
-loop-from-smaller-then-glue-gt0 c =
-    omega (arith, (let glue-room_here : (1 ≤ c.glue_len-glue.result) × (c.glue_len-glue.result ≤ 4) × (c.skip_letters-letters.result.end + c.glue_len-glue.result ≤ length c.args.text.now) = spells-room _ _ _ 1 ((let glues_here : Glues c.args.text.now c.skip_letters-letters.result.end c.glue_len-glue.result = c.glue_len-glue.ensures c.if-glue-gt0.true in glues_here)) in glue-room_here), (let bounds_here : (c.loop-from.at ≤ c.skip_letters-letters.result.end) × (c.skip_letters-letters.result.end ≤ length c.args.text.now) × ((let M_here : ℕ = c.loop-from.chars + c.skip_letters-letters.result.chars in M_here) ≤ c.skip_letters-letters.result.end + 1) × (c.loop-from.weight ≤ c.skip_letters-letters.result.end + 1) = omega (arith, c.skip_letters-letters.ensures.forward, c.skip_letters-letters.ensures.inside, c.loop-from.invariant) in bounds_here))
+pub loop-from-smaller-in-Some : goal.loop-from-smaller-in-Some
+loop-from-smaller-in-Some c =
+    omega (arith, spells-room _ _ _ 1 c.in-Some.ensures, c.skip_letters-letters.ensures.forward, c.skip_letters-letters.ensures.inside)
 
-pub loop-from-preserved-then-glue-gt0 : goal.loop-from-preserved-then-glue-gt0
-loop-from-preserved-then-glue-gt0 c =
-    let g = (let glues_here : Glues c.args.text.now c.skip_letters-letters.result.end c.glue_len-glue.result = c.glue_len-glue.ensures c.if-glue-gt0.true in glues_here) in
-    let k = (let bounds_here : (c.loop-from.at ≤ c.skip_letters-letters.result.end) × (c.skip_letters-letters.result.end ≤ length c.args.text.now) × ((let M_here : ℕ = c.loop-from.chars + c.skip_letters-letters.result.chars in M_here) ≤ c.skip_letters-letters.result.end + 1) × (c.loop-from.weight ≤ c.skip_letters-letters.result.end + 1) = omega (arith, c.skip_letters-letters.ensures.forward, c.skip_letters-letters.ensures.inside, c.loop-from.invariant) in bounds_here) in
-    let r = (let glue-room_here : (1 ≤ c.glue_len-glue.result) × (c.glue_len-glue.result ≤ 4) × (c.skip_letters-letters.result.end + c.glue_len-glue.result ≤ length c.args.text.now) = spells-room _ _ _ 1 ((let glues_here : Glues c.args.text.now c.skip_letters-letters.result.end c.glue_len-glue.result = c.glue_len-glue.ensures c.if-glue-gt0.true in glues_here)) in glue-room_here) in (
-      ap (λ (w : ℕ). scan_from in_word glue_of (c.skip_letters-letters.result.end + c.glue_len-glue.result) ((let M_here : ℕ = c.loop-from.chars + c.skip_letters-letters.result.chars in M_here) + 1) (c.loop-from.weight + w) (chars_from c.args.text.now (c.skip_letters-letters.result.end + c.glue_len-glue.result))) (sym g.glue)
+pub loop-from-preserved-in-Some : goal.loop-from-preserved-in-Some
+loop-from-preserved-in-Some c =
+    let g = c.in-Some.ensures in
+    let k = bounds _ _ c.loop-from.chars c.loop-from.weight _ _ c.skip_letters-letters.ensures c.loop-from.invariant.2 c.loop-from.invariant.3 in
+    let r = spells-room _ _ _ 1 g in (
+      ap (λ (w : ℕ). scan_from in_word glue_of (c.skip_letters-letters.result.end + c.in-Some.glue) (c.loop-from.chars + c.skip_letters-letters.result.chars + 1) (c.loop-from.weight + w) (chars_from c.args.text.now (c.skip_letters-letters.result.end + c.in-Some.glue))) (sym g.glue)
           ∙ sym (scan_more in_word glue_of c.args.text.now _ _ _ _ _ g.is g.word)
-          ∙ (let left_here : scan_from in_word glue_of c.skip_letters-letters.result.end ((let M_here : ℕ = c.loop-from.chars + c.skip_letters-letters.result.chars in M_here)) c.loop-from.weight (chars_from c.args.text.now c.skip_letters-letters.result.end) ≡ scan_from in_word glue_of c.args.from 1 c.args.first (chars_from c.args.text.now c.args.from) = let w : c.loop-from.weight ≡ c.loop-from.weight + 0 = omega arith in
-          ap (λ (k : ℕ). scan_from in_word glue_of c.skip_letters-letters.result.end ((let M_here : ℕ = c.loop-from.chars + c.skip_letters-letters.result.chars in M_here)) k (chars_from c.args.text.now c.skip_letters-letters.result.end)) w
-          ∙ sym (c.skip_letters-letters.ensures.scans c.loop-from.chars c.loop-from.weight) ∙ c.loop-from.invariant.0 in left_here),
+          ∙ left _ _ c.loop-from.chars c.loop-from.weight _ _ c.skip_letters-letters.ensures _ c.loop-from.invariant.0,
       r.2,
-      omega arith,
-      omega arith,
+      omega (arith, k, r),
+      omega (arith, k, r),
     )
 
-pub overflow_cast-mark : goal.overflow_cast-mark
-overflow_cast-mark c =
-    omega (arith, ((let marks_here : Ends c.args.text.now c.skip_letters-letters.result.end c.mark_len-mark.result = mark-ends _ _ _ (c.mark_len-mark.ensures c.if-mark-gt0.true) in marks_here)).few)
-
-pub scanned_at-requires-then-mark-gt0 : goal.scanned_at-requires-then-mark-gt0
-scanned_at-requires-then-mark-gt0 c =
-    omega (arith, ((let marks_here : Ends c.args.text.now c.skip_letters-letters.result.end c.mark_len-mark.result = mark-ends _ _ _ (c.mark_len-mark.ensures c.if-mark-gt0.true) in marks_here)).few, (let bounds_here : (c.loop-from.at ≤ c.skip_letters-letters.result.end) × (c.skip_letters-letters.result.end ≤ length c.args.text.now) × ((let M_here : ℕ = c.loop-from.chars + c.skip_letters-letters.result.chars in M_here) ≤ c.skip_letters-letters.result.end + 1) × (c.loop-from.weight ≤ c.skip_letters-letters.result.end + 1) = omega (arith, c.skip_letters-letters.ensures.forward, c.skip_letters-letters.ensures.inside, c.loop-from.invariant) in bounds_here))
-
-pub returns-then-mark-gt0 : goal.returns-then-mark-gt0
-returns-then-mark-gt0 c =
-    c.scanned_at-then-mark-gt0.ensures ∙ sym (((let marks_here : Ends c.args.text.now c.skip_letters-letters.result.end c.mark_len-mark.result = mark-ends _ _ _ (c.mark_len-mark.ensures c.if-mark-gt0.true) in marks_here)).scans ((let M_here : ℕ = c.loop-from.chars + c.skip_letters-letters.result.chars in M_here)) c.loop-from.weight) ∙ (let left_here : scan_from in_word glue_of c.skip_letters-letters.result.end ((let M_here : ℕ = c.loop-from.chars + c.skip_letters-letters.result.chars in M_here)) c.loop-from.weight (chars_from c.args.text.now c.skip_letters-letters.result.end) ≡ scan_from in_word glue_of c.args.from 1 c.args.first (chars_from c.args.text.now c.args.from) = let w : c.loop-from.weight ≡ c.loop-from.weight + 0 = omega arith in
-    ap (λ (k : ℕ). scan_from in_word glue_of c.skip_letters-letters.result.end ((let M_here : ℕ = c.loop-from.chars + c.skip_letters-letters.result.chars in M_here)) k (chars_from c.args.text.now c.skip_letters-letters.result.end)) w
-    ∙ sym (c.skip_letters-letters.ensures.scans c.loop-from.chars c.loop-from.weight) ∙ c.loop-from.invariant.0 in left_here)
+pub returns-in-Some-mark_at : goal.returns-in-Some-mark_at
+returns-in-Some-mark_at c =
+    (rw c.mark_len.ensures at c.scanned_at-in-Some-mark_at.ensures) ∙ sym ((mark-ends _ _ _ c.in-Some-mark_at.ensures).scans _ _)
+    ∙ left _ _ c.loop-from.chars c.loop-from.weight _ _ c.skip_letters-letters.ensures _ c.loop-from.invariant.0
 
 pub scanned_at-requires-then-not-in_word : goal.scanned_at-requires-then-not-in_word
 scanned_at-requires-then-not-in_word c =
-    omega (arith, (let room_here : (1 ≤ c.in-Char.len) × (c.in-Char.len ≤ 4) × (c.skip_letters-letters.result.end + c.in-Char.len ≤ length c.args.text.now) = char-room c.args.text.now c.skip_letters-letters.result.end c.in-Char.cp c.in-Char.len ((let read_here : decode_at c.args.text.now c.skip_letters-letters.result.end ≡ Char c.in-Char.cp c.in-Char.len = sym c.decode.ensures ∙ c.in-Char.is in read_here)) in room_here))
+    omega (arith, char-room _ _ _ _ (sym c.decode.ensures ∙ c.in-Char.is))
 
 pub returns-then-not-in_word : goal.returns-then-not-in_word
 returns-then-not-in_word c =
     c.scanned_at-then-not-in_word.ensures
-    ∙ sym (scan_stop in_word glue_of c.args.text.now _ _ _ _ _ ((let read_here : decode_at c.args.text.now c.skip_letters-letters.result.end ≡ Char c.in-Char.cp c.in-Char.len = sym c.decode.ensures ∙ c.in-Char.is in read_here)) (sym c.in_word.ensures ∙ c.if-not-in_word.true))
-    ∙ (let left_here : scan_from in_word glue_of c.skip_letters-letters.result.end ((let M_here : ℕ = c.loop-from.chars + c.skip_letters-letters.result.chars in M_here)) c.loop-from.weight (chars_from c.args.text.now c.skip_letters-letters.result.end) ≡ scan_from in_word glue_of c.args.from 1 c.args.first (chars_from c.args.text.now c.args.from) = let w : c.loop-from.weight ≡ c.loop-from.weight + 0 = omega arith in
-    ap (λ (k : ℕ). scan_from in_word glue_of c.skip_letters-letters.result.end ((let M_here : ℕ = c.loop-from.chars + c.skip_letters-letters.result.chars in M_here)) k (chars_from c.args.text.now c.skip_letters-letters.result.end)) w
-    ∙ sym (c.skip_letters-letters.ensures.scans c.loop-from.chars c.loop-from.weight) ∙ c.loop-from.invariant.0 in left_here)
+    ∙ sym (scan_stop in_word glue_of c.args.text.now _ _ _ _ _ (sym c.decode.ensures ∙ c.in-Char.is) (sym c.in_word.ensures ∙ c.if-not-in_word.true))
+    ∙ left _ _ c.loop-from.chars c.loop-from.weight _ _ c.skip_letters-letters.ensures _ c.loop-from.invariant.0
 
 pub overflow_add-weight-in-Char : goal.overflow_add-weight-in-Char
 overflow_add-weight-in-Char c =
-    omega (arith, (let one_here : c.glue_of-weight.result ≤ 1 = omega (arith, c.glue_of-weight.ensures, glue-one c.in-Char.cp) in one_here))
-
-pub overflow_add-chars-in-Char : goal.overflow_add-chars-in-Char
-overflow_add-chars-in-Char c =
-    omega (arith, (let bounds_here : (c.loop-from.at ≤ c.skip_letters-letters.result.end) × (c.skip_letters-letters.result.end ≤ length c.args.text.now) × ((let M_here : ℕ = c.loop-from.chars + c.skip_letters-letters.result.chars in M_here) ≤ c.skip_letters-letters.result.end + 1) × (c.loop-from.weight ≤ c.skip_letters-letters.result.end + 1) = omega (arith, c.skip_letters-letters.ensures.forward, c.skip_letters-letters.ensures.inside, c.loop-from.invariant) in bounds_here))
-
-pub overflow_add-at-in-Char : goal.overflow_add-at-in-Char
-overflow_add-at-in-Char c =
-    omega (arith, (let room_here : (1 ≤ c.in-Char.len) × (c.in-Char.len ≤ 4) × (c.skip_letters-letters.result.end + c.in-Char.len ≤ length c.args.text.now) = char-room c.args.text.now c.skip_letters-letters.result.end c.in-Char.cp c.in-Char.len ((let read_here : decode_at c.args.text.now c.skip_letters-letters.result.end ≡ Char c.in-Char.cp c.in-Char.len = sym c.decode.ensures ∙ c.in-Char.is in read_here)) in room_here))
+    omega (arith, c.glue_of-weight.ensures, glue-one c.in-Char.cp)
 
 pub loop-from-smaller : goal.loop-from-smaller
 loop-from-smaller c =
-    omega (arith, (let room_here : (1 ≤ c.in-Char.len) × (c.in-Char.len ≤ 4) × (c.skip_letters-letters.result.end + c.in-Char.len ≤ length c.args.text.now) = char-room c.args.text.now c.skip_letters-letters.result.end c.in-Char.cp c.in-Char.len ((let read_here : decode_at c.args.text.now c.skip_letters-letters.result.end ≡ Char c.in-Char.cp c.in-Char.len = sym c.decode.ensures ∙ c.in-Char.is in read_here)) in room_here), (let bounds_here : (c.loop-from.at ≤ c.skip_letters-letters.result.end) × (c.skip_letters-letters.result.end ≤ length c.args.text.now) × ((let M_here : ℕ = c.loop-from.chars + c.skip_letters-letters.result.chars in M_here) ≤ c.skip_letters-letters.result.end + 1) × (c.loop-from.weight ≤ c.skip_letters-letters.result.end + 1) = omega (arith, c.skip_letters-letters.ensures.forward, c.skip_letters-letters.ensures.inside, c.loop-from.invariant) in bounds_here))
+    omega (arith, char-room _ _ _ _ (sym c.decode.ensures ∙ c.in-Char.is), c.skip_letters-letters.ensures.forward, c.skip_letters-letters.ensures.inside)
 
 pub loop-from-preserved : goal.loop-from-preserved
 loop-from-preserved c =
-    let k = (let bounds_here : (c.loop-from.at ≤ c.skip_letters-letters.result.end) × (c.skip_letters-letters.result.end ≤ length c.args.text.now) × ((let M_here : ℕ = c.loop-from.chars + c.skip_letters-letters.result.chars in M_here) ≤ c.skip_letters-letters.result.end + 1) × (c.loop-from.weight ≤ c.skip_letters-letters.result.end + 1) = omega (arith, c.skip_letters-letters.ensures.forward, c.skip_letters-letters.ensures.inside, c.loop-from.invariant) in bounds_here) in
-    let h = (let room_here : (1 ≤ c.in-Char.len) × (c.in-Char.len ≤ 4) × (c.skip_letters-letters.result.end + c.in-Char.len ≤ length c.args.text.now) = char-room c.args.text.now c.skip_letters-letters.result.end c.in-Char.cp c.in-Char.len ((let read_here : decode_at c.args.text.now c.skip_letters-letters.result.end ≡ Char c.in-Char.cp c.in-Char.len = sym c.decode.ensures ∙ c.in-Char.is in read_here)) in room_here) in (
-      ap (λ (w : ℕ). scan_from in_word glue_of (c.skip_letters-letters.result.end + c.in-Char.len) ((let M_here : ℕ = c.loop-from.chars + c.skip_letters-letters.result.chars in M_here) + 1) (c.loop-from.weight + w) (chars_from c.args.text.now (c.skip_letters-letters.result.end + c.in-Char.len))) c.glue_of-weight.ensures
-          ∙ sym (scan_more in_word glue_of c.args.text.now _ _ _ _ _ ((let read_here : decode_at c.args.text.now c.skip_letters-letters.result.end ≡ Char c.in-Char.cp c.in-Char.len = sym c.decode.ensures ∙ c.in-Char.is in read_here)) (sym c.in_word.ensures ∙ c.if-not-in_word.false))
-          ∙ (let left_here : scan_from in_word glue_of c.skip_letters-letters.result.end ((let M_here : ℕ = c.loop-from.chars + c.skip_letters-letters.result.chars in M_here)) c.loop-from.weight (chars_from c.args.text.now c.skip_letters-letters.result.end) ≡ scan_from in_word glue_of c.args.from 1 c.args.first (chars_from c.args.text.now c.args.from) = let w : c.loop-from.weight ≡ c.loop-from.weight + 0 = omega arith in
-          ap (λ (k : ℕ). scan_from in_word glue_of c.skip_letters-letters.result.end ((let M_here : ℕ = c.loop-from.chars + c.skip_letters-letters.result.chars in M_here)) k (chars_from c.args.text.now c.skip_letters-letters.result.end)) w
-          ∙ sym (c.skip_letters-letters.ensures.scans c.loop-from.chars c.loop-from.weight) ∙ c.loop-from.invariant.0 in left_here),
-      omega arith,
-      omega arith,
-      omega (arith, (let one_here : c.glue_of-weight.result ≤ 1 = omega (arith, c.glue_of-weight.ensures, glue-one c.in-Char.cp) in one_here)),
+    let read = sym c.decode.ensures ∙ c.in-Char.is in
+    let k = bounds _ _ c.loop-from.chars c.loop-from.weight _ _ c.skip_letters-letters.ensures c.loop-from.invariant.2 c.loop-from.invariant.3 in
+    let h = char-room _ _ _ _ read in (
+      ap (λ (w : ℕ). scan_from in_word glue_of (c.skip_letters-letters.result.end + c.in-Char.len) (c.loop-from.chars + c.skip_letters-letters.result.chars + 1) (c.loop-from.weight + w) (chars_from c.args.text.now (c.skip_letters-letters.result.end + c.in-Char.len))) c.glue_of-weight.ensures
+          ∙ sym (scan_more in_word glue_of c.args.text.now _ _ _ _ _ read (sym c.in_word.ensures ∙ c.if-not-in_word.false))
+          ∙ left _ _ c.loop-from.chars c.loop-from.weight _ _ c.skip_letters-letters.ensures _ c.loop-from.invariant.0,
+      omega (arith, h),
+      omega (arith, k, h),
+      omega (arith, k, h, c.glue_of-weight.ensures, glue-one c.in-Char.cp),
     )
-
-pub scanned_at-requires-in-Bad : goal.scanned_at-requires-in-Bad
-scanned_at-requires-in-Bad c =
-    omega (arith, (let bounds_here : (c.loop-from.at ≤ c.skip_letters-letters.result.end) × (c.skip_letters-letters.result.end ≤ length c.args.text.now) × ((let M_here : ℕ = c.loop-from.chars + c.skip_letters-letters.result.chars in M_here) ≤ c.skip_letters-letters.result.end + 1) × (c.loop-from.weight ≤ c.skip_letters-letters.result.end + 1) = omega (arith, c.skip_letters-letters.ensures.forward, c.skip_letters-letters.ensures.inside, c.loop-from.invariant) in bounds_here))
 
 pub returns-in-Bad : goal.returns-in-Bad
 returns-in-Bad c =
     c.scanned_at-in-Bad.ensures
-    ∙ sym (scan_end in_word glue_of _ _ _ _ (ap is_char (sym c.decode.ensures ∙ c.in-Bad.is)))
-    ∙ (let left_here : scan_from in_word glue_of c.skip_letters-letters.result.end ((let M_here : ℕ = c.loop-from.chars + c.skip_letters-letters.result.chars in M_here)) c.loop-from.weight (chars_from c.args.text.now c.skip_letters-letters.result.end) ≡ scan_from in_word glue_of c.args.from 1 c.args.first (chars_from c.args.text.now c.args.from) = let w : c.loop-from.weight ≡ c.loop-from.weight + 0 = omega arith in
-    ap (λ (k : ℕ). scan_from in_word glue_of c.skip_letters-letters.result.end ((let M_here : ℕ = c.loop-from.chars + c.skip_letters-letters.result.chars in M_here)) k (chars_from c.args.text.now c.skip_letters-letters.result.end)) w
-    ∙ sym (c.skip_letters-letters.ensures.scans c.loop-from.chars c.loop-from.weight) ∙ c.loop-from.invariant.0 in left_here)
-
-pub scanned_at-requires-in-End : goal.scanned_at-requires-in-End
-scanned_at-requires-in-End c =
-    omega (arith, (let bounds_here : (c.loop-from.at ≤ c.skip_letters-letters.result.end) × (c.skip_letters-letters.result.end ≤ length c.args.text.now) × ((let M_here : ℕ = c.loop-from.chars + c.skip_letters-letters.result.chars in M_here) ≤ c.skip_letters-letters.result.end + 1) × (c.loop-from.weight ≤ c.skip_letters-letters.result.end + 1) = omega (arith, c.skip_letters-letters.ensures.forward, c.skip_letters-letters.ensures.inside, c.loop-from.invariant) in bounds_here))
-
-pub returns-in-End : goal.returns-in-End
-returns-in-End c =
-    c.scanned_at-in-End.ensures
-    ∙ sym (scan_end in_word glue_of _ _ _ _ (ap is_char (sym c.decode.ensures ∙ c.in-End.is)))
-    ∙ (let left_here : scan_from in_word glue_of c.skip_letters-letters.result.end ((let M_here : ℕ = c.loop-from.chars + c.skip_letters-letters.result.chars in M_here)) c.loop-from.weight (chars_from c.args.text.now c.skip_letters-letters.result.end) ≡ scan_from in_word glue_of c.args.from 1 c.args.first (chars_from c.args.text.now c.args.from) = let w : c.loop-from.weight ≡ c.loop-from.weight + 0 = omega arith in
-    ap (λ (k : ℕ). scan_from in_word glue_of c.skip_letters-letters.result.end ((let M_here : ℕ = c.loop-from.chars + c.skip_letters-letters.result.chars in M_here)) k (chars_from c.args.text.now c.skip_letters-letters.result.end)) w
-    ∙ sym (c.skip_letters-letters.ensures.scans c.loop-from.chars c.loop-from.weight) ∙ c.loop-from.invariant.0 in left_here)
+    ∙ sym (scan_end in_word glue_of _ _ _ _ (no_char _ _ _ c.decode.ensures c.in-Bad.is))
+    ∙ left _ _ c.loop-from.chars c.loop-from.weight _ _ c.skip_letters-letters.ensures _ c.loop-from.invariant.0

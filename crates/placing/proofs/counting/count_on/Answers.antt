@@ -1,4 +1,5 @@
 use Rattle.std.proofs.Common.{◌≤◌, div-le_self, arith}
+use Rattle.std.proofs.lemmas.Option.{MatchOption-at_some}
 use Rattle.parser.specs.Scanning.{word_of}
 use Rattle.pairs.specs.Pairs.{PairAt}
 use Rattle.placing.specs.Quick.{Counts}
@@ -14,12 +15,12 @@ overflow_cast-end c =
     let r = ((let so_far_here : Counts c.args.s c.args.text.now c.args.at c.loop-pair.end c.loop-pair.columns c.loop-pair.spaces = c.loop-pair.invariant.counts _ c.requires.0 c.requires.1 in so_far_here)).plain.ready in
     record { fits = omega (arith, r.inside, c.requires.0.short) }
 
-pub told_pair-pair-requires : goal.told_pair-pair-requires
-told_pair-pair-requires c =
+pub told_pair-requires : goal.told_pair-requires
+told_pair-requires c =
     c.requires.0.short
 
-pub returns-then-next-eq0 : goal.returns-then-next-eq0
-returns-then-next-eq0 c =
+pub returns-in_default : goal.returns-in_default
+returns-in_default c =
     counting-ends c.requires.0 c.requires.1 c.loop-pair.invariant _ _ c.nothing_waits.ensures c.counted_at.ensures
 
 pub overflow_sub-most : goal.overflow_sub-most
@@ -28,7 +29,7 @@ overflow_sub-most c =
 
 pub returns-then-most-columns : goal.returns-then-most-columns
 returns-then-most-columns c =
-    counting-waits c.requires.0 c.requires.1 c.loop-pair.invariant _ _ c.told_pair-pair.result.word ((let found_here : PairAt c.args.text.now c.loop-pair.end c.told_pair-pair.result.from.0 c.told_pair-pair.result.looked.0 (word_of c.told_pair-pair.result.word) = c.told_pair-pair.ensures (omega (arith, c.if-next-eq0.false)) in found_here)) (omega (arith, c.if-most-columns.true)) _ c.counted_at-then-most-columns.ensures
+    counting-waits c.requires.0 c.requires.1 c.loop-pair.invariant _ _ c.in-Some.pair.word ((let found_here : PairAt c.args.text.now c.loop-pair.end c.in-Some.pair.from.0 c.in-Some.pair.looked.0 (word_of c.in-Some.pair.word) = MatchOption-at_some _ _ _ c.in-Some.is c.told_pair.ensures in found_here)) (omega (arith, c.if-most-columns.true)) _ c.counted_at-then-most-columns.ensures
 
 pub overflow_add-columns : goal.overflow_add-columns
 overflow_add-columns c =
@@ -40,17 +41,17 @@ overflow_add-columns-in-loop-pair c =
 
 pub overflow_add-spaces : goal.overflow_add-spaces
 overflow_add-spaces c =
-    record { fits = omega (arith, pair-within _ ((let found_here : PairAt c.args.text.now c.loop-pair.end c.told_pair-pair.result.from.0 c.told_pair-pair.result.looked.0 (word_of c.told_pair-pair.result.word) = c.told_pair-pair.ensures (omega (arith, c.if-next-eq0.false)) in found_here)), c.requires.0.short) }
+    record { fits = omega (arith, pair-within _ ((let found_here : PairAt c.args.text.now c.loop-pair.end c.in-Some.pair.from.0 c.in-Some.pair.looked.0 (word_of c.in-Some.pair.word) = MatchOption-at_some _ _ _ c.in-Some.is c.told_pair.ensures in found_here)), c.requires.0.short) }
 
 pub overflow_add-spaces-in-loop-pair : goal.overflow_add-spaces-in-loop-pair
 overflow_add-spaces-in-loop-pair c =
     let r = ((let so_far_here : Counts c.args.s c.args.text.now c.args.at c.loop-pair.end c.loop-pair.columns c.loop-pair.spaces = c.loop-pair.invariant.counts _ c.requires.0 c.requires.1 in so_far_here)).plain.ready in
-    record { fits = omega (arith, pair-within _ ((let found_here : PairAt c.args.text.now c.loop-pair.end c.told_pair-pair.result.from.0 c.told_pair-pair.result.looked.0 (word_of c.told_pair-pair.result.word) = c.told_pair-pair.ensures (omega (arith, c.if-next-eq0.false)) in found_here)), r.small, r.inside, c.requires.0.short) }
+    record { fits = omega (arith, pair-within _ ((let found_here : PairAt c.args.text.now c.loop-pair.end c.in-Some.pair.from.0 c.in-Some.pair.looked.0 (word_of c.in-Some.pair.word) = MatchOption-at_some _ _ _ c.in-Some.is c.told_pair.ensures in found_here)), r.small, r.inside, c.requires.0.short) }
 
 pub loop-pair-smaller : goal.loop-pair-smaller
 loop-pair-smaller c =
-    omega (arith, pair-within _ ((let found_here : PairAt c.args.text.now c.loop-pair.end c.told_pair-pair.result.from.0 c.told_pair-pair.result.looked.0 (word_of c.told_pair-pair.result.word) = c.told_pair-pair.ensures (omega (arith, c.if-next-eq0.false)) in found_here)))
+    omega (arith, pair-within _ ((let found_here : PairAt c.args.text.now c.loop-pair.end c.in-Some.pair.from.0 c.in-Some.pair.looked.0 (word_of c.in-Some.pair.word) = MatchOption-at_some _ _ _ c.in-Some.is c.told_pair.ensures in found_here)))
 
 pub loop-pair-preserved : goal.loop-pair-preserved
 loop-pair-preserved c =
-    counting_more c.told_pair-pair.result.word ((let found_here : PairAt c.args.text.now c.loop-pair.end c.told_pair-pair.result.from.0 c.told_pair-pair.result.looked.0 (word_of c.told_pair-pair.result.word) = c.told_pair-pair.ensures (omega (arith, c.if-next-eq0.false)) in found_here)) c.loop-pair.invariant (omega (arith, c.if-most-columns.false))
+    counting_more c.in-Some.pair.word ((let found_here : PairAt c.args.text.now c.loop-pair.end c.in-Some.pair.from.0 c.in-Some.pair.looked.0 (word_of c.in-Some.pair.word) = MatchOption-at_some _ _ _ c.in-Some.is c.told_pair.ensures in found_here)) c.loop-pair.invariant (omega (arith, c.if-most-columns.false))

@@ -9,12 +9,12 @@ returns c =
     record {
       start = c.args.at;
       rest = c.rest_in-resumed.ensures i;
-      ending = c.end_number-ending.ensures i;
+      ending = c.from-ending.ensures i;
       left = c.args.p.left;
       space = c.args.p.spaces.width;
       extra = c.args.p.spaces.extra;
       width = c.args.width;
       dropped = c.args.e.dropped;
-      reach = record { 0 = c.greater-reach.ensures i };
+      reach = record { 0 = c.max-reach.ensures i };
       before = c.args.before;
     }

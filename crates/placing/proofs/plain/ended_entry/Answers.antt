@@ -10,4 +10,4 @@ overflow_mul-wide c =
 pub returns : goal.returns
 unfolding ended_entry
 returns c =
-    rw (c.left_of-left.ensures, c.end_number-ending.ensures)
+    rw (c.left_of-left.ensures, c.from-ending.ensures)

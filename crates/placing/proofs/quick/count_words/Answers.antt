@@ -1,29 +1,26 @@
 use Rattle.std.proofs.Common.{refl, ◌/◌, ◌≤◌, div-le_self, arith}
+use Rattle.std.proofs.lemmas.Option.{MatchOption-at_some}
 use Rattle.parser.specs.Scanning.{word_of}
 use Rattle.pairs.specs.Pairs.{PairAt}
 use Rattle.placing.specs.Quick.{Counts}
-use Rattle.placing.proofs.CountingLaws.{counting-first, pair-within, counting_more, counted_none, counting-waits}
+use Rattle.placing.proofs.CountingLaws.{counting-first, pair-within, counting_more, counting-waits}
 use Rattle.placing.proofs.quick.count_words.Goals as goal
 
-pub first_known-first-requires : goal.first_known-first-requires
-first_known-first-requires c =
+pub first_known-requires : goal.first_known-requires
+first_known-requires c =
     (c.requires.0.short, omega (arith, div-le_self c.args.s.width.0 c.args.s.glyph.0, c.requires.0.settings.2), c.requires.1)
-
-pub returns-then-columns-eq0 : goal.returns-then-columns-eq0
-returns-then-columns-eq0 c =
-    counted_none _ _ _ _ c.counted_at.ensures
 
 pub loop-pair-init : goal.loop-pair-init
 loop-pair-init c =
-    counting-first _ (c.first_known-first.ensures (omega (arith, c.if-columns-eq0.false)))
+    counting-first _ (MatchOption-at_some _ _ _ c.in_ok-first.was c.first_known.ensures)
 
 pub overflow_cast-end : goal.overflow_cast-end
 overflow_cast-end c =
     let r = ((let so_far_here : Counts c.args.s c.args.text.now c.args.at c.loop-pair.end c.loop-pair.columns c.loop-pair.spaces = c.loop-pair.invariant.counts _ c.requires.0 refl in so_far_here)).plain.ready in
     record { fits = omega (arith, r.inside, c.requires.0.short) }
 
-pub plain_pair-pair-requires : goal.plain_pair-pair-requires
-plain_pair-pair-requires c =
+pub plain_pair-requires : goal.plain_pair-requires
+plain_pair-requires c =
     c.requires.0.short
 
 -- The rest of the line.
@@ -31,9 +28,9 @@ pub count_on-requires : goal.count_on-requires
 count_on-requires c =
     (c.requires.0, refl, c.loop-pair.invariant)
 
-pub returns-then-next-eq0 : goal.returns-then-next-eq0
-returns-then-next-eq0 c =
-    λ _. c.count_on.ensures
+pub returns-in_default : goal.returns-in_default
+returns-in_default c =
+    c.count_on.ensures
 
 pub overflow_sub-most : goal.overflow_sub-most
 overflow_sub-most c =
@@ -41,7 +38,7 @@ overflow_sub-most c =
 
 pub returns-then-most-columns : goal.returns-then-most-columns
 returns-then-most-columns c =
-    λ _. counting-waits c.requires.0 refl c.loop-pair.invariant _ _ c.plain_pair-pair.result.word ((let found_here : PairAt c.args.text.now c.loop-pair.end c.plain_pair-pair.result.from.0 c.plain_pair-pair.result.looked.0 (word_of c.plain_pair-pair.result.word) = c.plain_pair-pair.ensures (omega (arith, c.if-next-eq0.false)) in found_here)) (omega (arith, c.if-most-columns.true)) _ c.counted_at-then-most-columns.ensures
+    counting-waits c.requires.0 refl c.loop-pair.invariant _ _ c.in-Some.pair.word ((let found_here : PairAt c.args.text.now c.loop-pair.end c.in-Some.pair.from.0 c.in-Some.pair.looked.0 (word_of c.in-Some.pair.word) = MatchOption-at_some _ _ _ c.in-Some.is c.plain_pair.ensures in found_here)) (omega (arith, c.if-most-columns.true)) _ c.counted_at.ensures
 
 pub overflow_add-columns : goal.overflow_add-columns
 overflow_add-columns c =
@@ -53,17 +50,17 @@ overflow_add-columns-in-loop-pair c =
 
 pub overflow_add-spaces : goal.overflow_add-spaces
 overflow_add-spaces c =
-    record { fits = omega (arith, pair-within _ ((let found_here : PairAt c.args.text.now c.loop-pair.end c.plain_pair-pair.result.from.0 c.plain_pair-pair.result.looked.0 (word_of c.plain_pair-pair.result.word) = c.plain_pair-pair.ensures (omega (arith, c.if-next-eq0.false)) in found_here)), c.requires.0.short) }
+    record { fits = omega (arith, pair-within _ ((let found_here : PairAt c.args.text.now c.loop-pair.end c.in-Some.pair.from.0 c.in-Some.pair.looked.0 (word_of c.in-Some.pair.word) = MatchOption-at_some _ _ _ c.in-Some.is c.plain_pair.ensures in found_here)), c.requires.0.short) }
 
 pub overflow_add-spaces-in-loop-pair : goal.overflow_add-spaces-in-loop-pair
 overflow_add-spaces-in-loop-pair c =
     let r = ((let so_far_here : Counts c.args.s c.args.text.now c.args.at c.loop-pair.end c.loop-pair.columns c.loop-pair.spaces = c.loop-pair.invariant.counts _ c.requires.0 refl in so_far_here)).plain.ready in
-    record { fits = omega (arith, pair-within _ ((let found_here : PairAt c.args.text.now c.loop-pair.end c.plain_pair-pair.result.from.0 c.plain_pair-pair.result.looked.0 (word_of c.plain_pair-pair.result.word) = c.plain_pair-pair.ensures (omega (arith, c.if-next-eq0.false)) in found_here)), r.small, r.inside, c.requires.0.short) }
+    record { fits = omega (arith, pair-within _ ((let found_here : PairAt c.args.text.now c.loop-pair.end c.in-Some.pair.from.0 c.in-Some.pair.looked.0 (word_of c.in-Some.pair.word) = MatchOption-at_some _ _ _ c.in-Some.is c.plain_pair.ensures in found_here)), r.small, r.inside, c.requires.0.short) }
 
 pub loop-pair-smaller : goal.loop-pair-smaller
 loop-pair-smaller c =
-    omega (arith, pair-within _ ((let found_here : PairAt c.args.text.now c.loop-pair.end c.plain_pair-pair.result.from.0 c.plain_pair-pair.result.looked.0 (word_of c.plain_pair-pair.result.word) = c.plain_pair-pair.ensures (omega (arith, c.if-next-eq0.false)) in found_here)))
+    omega (arith, pair-within _ ((let found_here : PairAt c.args.text.now c.loop-pair.end c.in-Some.pair.from.0 c.in-Some.pair.looked.0 (word_of c.in-Some.pair.word) = MatchOption-at_some _ _ _ c.in-Some.is c.plain_pair.ensures in found_here)))
 
 pub loop-pair-preserved : goal.loop-pair-preserved
 loop-pair-preserved c =
-    counting_more c.plain_pair-pair.result.word ((let found_here : PairAt c.args.text.now c.loop-pair.end c.plain_pair-pair.result.from.0 c.plain_pair-pair.result.looked.0 (word_of c.plain_pair-pair.result.word) = c.plain_pair-pair.ensures (omega (arith, c.if-next-eq0.false)) in found_here)) c.loop-pair.invariant (omega (arith, c.if-most-columns.false))
+    counting_more c.in-Some.pair.word ((let found_here : PairAt c.args.text.now c.loop-pair.end c.in-Some.pair.from.0 c.in-Some.pair.looked.0 (word_of c.in-Some.pair.word) = MatchOption-at_some _ _ _ c.in-Some.is c.plain_pair.ensures in found_here)) c.loop-pair.invariant (omega (arith, c.if-most-columns.false))

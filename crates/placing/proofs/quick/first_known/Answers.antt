@@ -5,7 +5,7 @@ use Rattle.placing.proofs.quick.first_known.Goals as goal
 
 pub returns-in-Word : goal.returns-in-Word
 returns-in-Word c =
-    first-kept _ _ _ c.in-Token.x (known-stands _ _ c.args.known c.in-Token.x c.requires.2 c.if-known-at.true c.in-Token.is c.in-Word.is) c.in-Word.is _ c.kept_within.ensures
+    first-kept _ _ _ c.in-Some.x (known-stands _ _ c.args.known c.in-Some.x c.requires.2 c.if-known-at.true c.in-Some.is c.in-Word.is) c.in-Word.is _ c.kept_within.ensures
 
 pub returns : goal.returns
 returns c =

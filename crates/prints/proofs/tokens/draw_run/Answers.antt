@@ -1,5 +1,5 @@
 -- `prints::tokens::draw_run` meets its contract (rule 8, rule 9, rule 13).
-use Rattle.std.proofs.Common.{◌∙◌, arith}
+use Rattle.std.proofs.Common.{◌∙◌, arith, ◌+◌, ◌/◌, ◌-◌}
 use Rattle.ink.specs.Sheet.{sheet}
 use Rattle.prints.proofs.RunEvents.{part-within, run-whole, run_none, run-part}
 use Rattle.prints.proofs.tokens.draw_run.Goals as goal
@@ -19,4 +19,4 @@ put_one-requires-2 c =
 pub returns : goal.returns
 returns c =
     c.put_one-2.ensures
-    ∙ run-part (sheet c.args.events.now c.args.pen) c.args.text.now c.args.at c.args.x c.args.g c.if-g.false c.if-n-eq0.false _ c.part_of-part.result c.lesser.ensures c.part_of-part.ensures
+    ∙ run-part (sheet c.args.events.now c.args.pen) c.args.text.now c.args.at c.args.x c.args.g c.if-g.false c.if-n-eq0.false _ c.part_of-part.result c.min.ensures c.part_of-part.ensures

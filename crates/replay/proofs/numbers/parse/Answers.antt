@@ -1,38 +1,38 @@
-use Rattle.std.proofs.Common.{sym, ◌∙◌}
-use Rattle.std.proofs.lemmas.Bool.{not-true, not-false}
-use Rattle.replay.proofs.ReadLaws.{reading_start, reading_grown, reading_ended, reading_full, reading_stopped}
-use Rattle.replay.proofs.ReadLaws.{reading_last, reading_unbegun, reading_no_room}
+-- `replay::numbers::parse` meets its contract.
+use Rattle.std.proofs.Common.{ℕ, ◌+◌, refl, sym, ◌∙◌, ap, rules, eqb}
+use borrow.Author.Tests.{tests}
+use Rattle.std.proofs.lemmas.Iterator.Consumers.{YieldsList-turn, YieldsList-end, YieldsList-at}
+use Rattle.std.proofs.lemmas.Iterator.Splits.{YieldsList-from_slice_split}
+use Rattle.std.proofs.lemmas.List.{length_push}
+use Rattle.std.proofs.lemmas.Result.{MatchResult-from_err}
+use Rattle.replay.proofs.ReadLaws.{next_word, reading_start, reading_stopped, reading_full, reading_next, reading_end}
 use Rattle.replay.proofs.numbers.parse.Goals as goal
 
-pub loop-i-init : goal.loop-i-init
-loop-i-init c =
-    reading_start _ _ c.unread-number.result c.unread-number.ensures
+pub loop-word-init : goal.loop-word-init
+loop-word-init c =
+    (refl, reading_start _ _)
 
-pub loop-i-preserved-in-Grown : goal.loop-i-preserved-in-Grown
-loop-i-preserved-in-Grown c =
-    reading_grown c.loop-i.invariant c.loop-i-test.true _ (sym c.feed.ensures ∙ c.in-Grown.is)
+pub returns-in_err-number-clause-value : goal.returns-in_err-number-clause-value
+returns-in_err-number-clause-value c =
+    let turn = YieldsList-turn {v = λ x. x.now} (YieldsList-at c.into_iter-word-iterator.ensures.into_iter_gives (YieldsList-from_slice_split _ (λ (b : ℕ). eqb b 32) c.args.line.now c.split-word-items.ensures.rest c.split-word-items.ensures.done c.split-word-items.ensures.closure (λ x b q k. search (rules, tests)))) c.loop-word.yielded _ c.loop-word.yielded_by _ _ c.in-Some.word c.in-Some.is c.next.ensures.steps in
+    let next = next_word c.args.line.now c.in-Some.word.now c.loop-word.invariant.0 turn in
+    MatchResult-from_err _ _ _ c.from_residual.ensures.0 (λ y. reading_stopped c.loop-word.invariant.1 _ next (sym c.decimal_in.ensures ∙ c.in_err-number.ensures.ok_part))
 
-pub returns-then-numbers-count : goal.returns-then-numbers-count
-returns-then-numbers-count c =
-    let a = reading_full c.loop-i.invariant c.loop-i-test.true (sym c.feed.ensures ∙ c.in-Ended.is) c.if-numbers-count.true in record { value = a.counted; numbers_after = a.stored }
+pub returns-then-numbers-count-clause-value : goal.returns-then-numbers-count-clause-value
+returns-then-numbers-count-clause-value c =
+    let turn = YieldsList-turn {v = λ x. x.now} (YieldsList-at c.into_iter-word-iterator.ensures.into_iter_gives (YieldsList-from_slice_split _ (λ (b : ℕ). eqb b 32) c.args.line.now c.split-word-items.ensures.rest c.split-word-items.ensures.done c.split-word-items.ensures.closure (λ x b q k. search (rules, tests)))) c.loop-word.yielded _ c.loop-word.yielded_by _ _ c.in-Some.word c.in-Some.is c.next.ensures.steps in
+    let next = next_word c.args.line.now c.in-Some.word.now c.loop-word.invariant.0 turn in
+    reading_full c.loop-word.invariant.1 _ next _ (sym c.decimal_in.ensures ∙ c.in_ok-number.ensures.ok_part) c.if-numbers-count.true
 
-pub loop-i-preserved : goal.loop-i-preserved
-loop-i-preserved c =
-    reading_ended c.loop-i.invariant c.loop-i-test.true (sym c.feed.ensures ∙ c.in-Ended.is) c.if-numbers-count.false c.unread-number-in-Ended.result
-    c.unread-number-in-Ended.ensures
-
-pub returns-in-Malformed : goal.returns-in-Malformed
-returns-in-Malformed c =
-    let a = reading_stopped c.loop-i.invariant c.loop-i-test.true (sym c.feed.ensures ∙ c.in-Malformed.is) in record { value = a.counted; numbers_after = a.stored }
-
-pub returns-then-not-number : goal.returns-then-not-number
-returns-then-not-number c =
-    let a = reading_unbegun c.loop-i.invariant c.loop-i-test.false (not-true _ c.if-not-number.true) in record { value = a.counted; numbers_after = a.stored }
-
-pub returns-then-numbers-count-2 : goal.returns-then-numbers-count-2
-returns-then-numbers-count-2 c =
-    let a = reading_no_room c.loop-i.invariant c.loop-i-test.false (not-false _ c.if-not-number.false) c.if-numbers-count-2.true in record { value = a.counted; numbers_after = a.stored }
+pub loop-word-preserved : goal.loop-word-preserved
+loop-word-preserved c =
+    let turn = YieldsList-turn {v = λ x. x.now} (YieldsList-at c.into_iter-word-iterator.ensures.into_iter_gives (YieldsList-from_slice_split _ (λ (b : ℕ). eqb b 32) c.args.line.now c.split-word-items.ensures.rest c.split-word-items.ensures.done c.split-word-items.ensures.closure (λ x b q k. search (rules, tests)))) c.loop-word.yielded _ c.loop-word.yielded_by _ _ c.in-Some.word c.in-Some.is c.next.ensures.steps in
+    let next = next_word c.args.line.now c.in-Some.word.now c.loop-word.invariant.0 turn in (
+      ap (λ (k : ℕ). k + 1) c.loop-word.invariant.0 ∙ sym (length_push c.loop-word.yielded c.in-Some.word),
+      reading_next c.loop-word.invariant.1 _ next _ (sym c.decimal_in.ensures ∙ c.in_ok-number.ensures.ok_part) c.if-numbers-count.false,
+    )
 
 pub returns : goal.returns
 returns c =
-    let a = reading_last c.loop-i.invariant c.loop-i-test.false (not-false _ c.if-not-number.false) c.if-numbers-count-2.false in record { value = a.counted; numbers_after = a.stored }
+    let end = YieldsList-end {v = λ x. x.now} (YieldsList-at c.into_iter-word-iterator.ensures.into_iter_gives (YieldsList-from_slice_split _ (λ (b : ℕ). eqb b 32) c.args.line.now c.split-word-items.ensures.rest c.split-word-items.ensures.done c.split-word-items.ensures.closure (λ x b q k. search (rules, tests)))) c.loop-word.yielded _ c.loop-word.yielded_by _ _ c.in-None.is c.next.ensures.steps in
+    let all = reading_end c.loop-word.invariant.1 (c.loop-word.invariant.0 ∙ end.1) in record { value = all.0; numbers_after = all.1 }

@@ -1,5 +1,7 @@
+-- `replay::same::same_lines` meets its contract.
 use Rattle.std.proofs.Common.{sym, ◌∙◌, rules}
-use Rattle.replay.proofs.SameLaws.{lines_unequal, lines_same, lines_differ, lines-all, lines-done}
+use Rattle.replay.proofs.SameLaws.{lines_unequal, lines_same, lines_differ, lines-all, lines-done, equal-pointwise}
+use Rattle.std.proofs.lemmas.Bool.{not-true, not-false}
 use Rattle.replay.proofs.same.same_lines.Goals as goal
 
 pub returns-then-recorded-n : goal.returns-then-recorded-n
@@ -8,21 +10,18 @@ returns-then-recorded-n c =
 
 pub loop-k-init : goal.loop-k-init
 loop-k-init c =
-    (lines-all c.args.table.now c.args.recorded.now c.args.n, search rules)
+    lines-all c.args.table.now c.args.recorded.now c.args.n
 
-pub returns-then-not-same : goal.returns-then-not-same
-returns-then-not-same c =
-    let e = sym c.same.ensures ∙ c.if-not-same.true in
-    sym
-    (c.loop-k.invariant.0
-    ∙ lines_differ c.args.table.now c.args.recorded.now c.args.n c.loop-k.k (search rules) c.requires c.if-recorded-n.false e)
+pub returns-then-ne : goal.returns-then-ne
+returns-then-ne c =
+    let e = sym (equal-pointwise _ _) ∙ not-true _ (sym c.if-ne.ensures) in
+    sym (c.loop-k.invariant ∙ lines_differ c.args.table.now c.args.recorded.now c.args.n c.loop-k.k (search rules) c.requires c.if-recorded-n.false e)
 
 pub loop-k-preserved : goal.loop-k-preserved
 loop-k-preserved c =
-    let e = sym c.same.ensures ∙ c.if-not-same.false in
-    let same = lines_same c.args.table.now c.args.recorded.now c.args.n c.loop-k.k (search rules) c.requires c.if-recorded-n.false e in
-    (c.loop-k.invariant.0 ∙ same, search rules)
+    let e = sym (equal-pointwise _ _) ∙ not-false _ (sym c.if-ne.ensures) in
+    c.loop-k.invariant ∙ lines_same c.args.table.now c.args.recorded.now c.args.n c.loop-k.k (search rules) c.requires c.if-recorded-n.false e
 
 pub returns : goal.returns
 returns c =
-    sym (c.loop-k.invariant.0 ∙ lines-done c.args.table.now c.args.recorded.now c.args.n c.loop-k.k c.loop-k-test.false c.if-recorded-n.false)
+    sym (c.loop-k.invariant ∙ lines-done c.args.table.now c.args.recorded.now c.args.n c.loop-k.k c.loop-k-test.false c.if-recorded-n.false)

@@ -12,4 +12,4 @@ shape_of-table c =
 
 pub returns : goal.returns
 returns c =
-    reaches_here _ _ _ c.requires.stand_ready.0 c.requires.chars_value _ _ _ _ _ _ c.write_told.ensures
+    reaches_here _ _ _ c.requires.stand_ready.0 c.requires.chars_value _ _ _ _ _ c.write_told.ensures

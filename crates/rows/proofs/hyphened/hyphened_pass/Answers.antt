@@ -9,7 +9,7 @@ pub hyphened_word-requires : goal.hyphened_word-requires
 hyphened_word-requires c =
     record {
       starts = record { ready = rest-none c.requires.ready c.if-rest-ne0.false; empty = c.requires.empty; stays = c.requires.stays };
-      hyphen = subst (Mark _ _) c.if-mark_len-ne2.false (c.mark_len.ensures (omega (arith, c.if-mark_len-ne2.false)));
+      hyphen = c.hyphen_at.ensures c.if-not-hyphen_at.false;
       shown = omega (arith, c.room-left.ensures, c.if-left-glyph.false);
       over = omega (arith, c.room-left.ensures, c.if-glyph-left.false);
     }

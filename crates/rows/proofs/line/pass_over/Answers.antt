@@ -10,10 +10,10 @@ hyphened_pass-requires c =
     starts-at c.args.s c.args.p.left.0 c.args.p.spaces c.args.text.now c.args.at c.args.rest _ c.start_place-start.ensures
     (start-ready c.requires.0 c.args.p _ _ c.start_place-start.ensures refl c.requires.1 c.requires.2)
 
-pub returns-in-Line : goal.returns-in-Line
-returns-in-Line c =
+pub returns-in-Some : goal.returns-in-Some
+returns-in-Some c =
     passes c.requires.0 c.args.p _ _ c.start_place-start.ensures refl _
-    (subst (HyphenedIs c.args.s c.start_place-start.result c.args.text.now c.args.at c.args.rest) c.in-Line.is c.hyphened_pass.ensures)
+    (subst (HyphenedIs c.args.s c.start_place-start.result c.args.text.now c.args.at c.args.rest) c.in-Some.is c.hyphened_pass.ensures)
 
 pub run_pass-requires : goal.run_pass-requires
 run_pass-requires c =

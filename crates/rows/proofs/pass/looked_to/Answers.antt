@@ -5,4 +5,4 @@ use Rattle.rows.proofs.pass.looked_to.Goals as goal
 pub returns : goal.returns
 unfolding unrolled.farther
 returns c =
-    rw c.greater-far.ensures
+    rw c.max-far.ensures

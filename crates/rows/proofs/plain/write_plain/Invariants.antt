@@ -4,8 +4,8 @@ use Rattle.rows.specs.Going.{Went}
 use Rattle.rows.specs.Found.{plain_stand}
 use Rattle.rows.proofs.plain.write_plain.Given as goal
 
-abbrev pub invariant-loop-s : goal.invariant-loop-s
-invariant-loop-s l = Went l.s l.text l.initial.table l.initial.n (plain_stand l.initial.at l.initial.before) l.table l.n (plain_stand l.at l.before)
+abbrev pub invariant-loop-line : goal.invariant-loop-line
+invariant-loop-line l = Went l.s l.text l.initial.table l.initial.n (plain_stand l.initial.at l.initial.before) l.table l.n (plain_stand l.at l.before)
 
-abbrev pub decreases-loop-s : goal.decreases-loop-s
-decreases-loop-s l = length l.text - l.at
+abbrev pub decreases-loop-line : goal.decreases-loop-line
+decreases-loop-line l = length l.text - l.at

@@ -1,5 +1,5 @@
 -- `rows::resumed::lay_rest` meets its contract (rule 9, rule 10).
-use Rattle.std.proofs.Common.{◌-◌, ◌/◌, ◌≤◌, sym, subst, div-le_self, arith}
+use Rattle.std.proofs.Common.{◌-◌, ◌/◌, ◌≤◌, sym, subst, div-le_self, arith, ◌+◌}
 use Rattle.meaning.specs.declared.line.Placed.{Placed}
 use Rattle.meaning.specs.declared.line.LineEnd.TheVariants.{LineBreak}
 use Rattle.placing.specs.PlaceLaws.{place_fine}
@@ -30,9 +30,9 @@ overflow_add-fitting c =
 
 pub cut_again-drawn-requires : goal.cut_again-drawn-requires
 cut_again-drawn-requires c =
-    (omega (arith, c.requires.0.inside, c.requires.0.short), (let few_here : (c.args.s.width.0 - c.place_line-placed.result.left.0) / c.args.s.glyph.0 ≤ 4096 = omega (arith, div-le_self (c.args.s.width.0 - c.place_line-placed.result.left.0) c.args.s.glyph.0, c.requires.0.settings) in few_here), omega (arith, c.lesser-taken.ensures), c.requires.0.rest.counts, omega (arith, c.lesser-taken.ensures, rest-few c.requires.0.rest c.requires.0.short))
+    (omega (arith, c.requires.0.inside, c.requires.0.short), (let few_here : (c.args.s.width.0 - c.place_line-placed.result.left.0) / c.args.s.glyph.0 ≤ 4096 = omega (arith, div-le_self (c.args.s.width.0 - c.place_line-placed.result.left.0) c.args.s.glyph.0, c.requires.0.settings) in few_here), omega (arith, c.min-taken.ensures), c.requires.0.rest.counts, omega (arith, c.min-taken.ensures, rest-few c.requires.0.rest c.requires.0.short))
 
 pub returns : goal.returns
 returns c =
     λ before.
-    rest-laid c.requires.0 c.requires.1 _ c.place_line-placed.ensures _ c.ender_at-ender.ensures _ c.lesser-taken.ensures _ c.cut_again-drawn.ensures before
+    rest-laid c.requires.0 c.requires.1 _ c.place_line-placed.ensures _ c.ender_at-ender.ensures _ c.min-taken.ensures _ c.cut_again-drawn.ensures before

@@ -1,6 +1,6 @@
 -- `steps::first::first_token` meets its contract (rule 8, rule 9).
 use Rattle.std.proofs.Common.{ap, ◌∙◌, arith}
-use Rattle.parser.specs.declared.lexeme.Lexed.TheVariants as lexed
+use Rattle.std.specs.Prelude.{Some}
 use Rattle.steps.specs.Knowing.{between_none}
 use Rattle.steps.proofs.RestLaws.{rest-inside, rest_read, ender-at-most, none_read}
 use Rattle.steps.proofs.first.first_token.Goals as goal
@@ -23,4 +23,4 @@ rest_lexeme-requires c =
 
 pub returns : goal.returns
 returns c =
-    ap lexed.Token c.rest_lexeme.ensures ∙ rest_read _ c.args.at c.args.rest c.requires.1 c.if-rest-eq0.false _ c.ender_at.ensures
+    ap Some c.rest_lexeme.ensures ∙ rest_read _ c.args.at c.args.rest c.requires.1 c.if-rest-eq0.false _ c.ender_at.ensures

@@ -1,38 +1,31 @@
 -- `strides::first::first_taken` meets its contract (rule 8).
 use Rattle.std.proofs.Common.{◌≡◌, refl, sym, ◌∙◌, true, ◌-◌, ◌*◌, ◌/◌, ◌≤◌, arith}
+use Rattle.std.proofs.lemmas.Option.{MatchOption-at_some}
 use Rattle.meaning.specs.Cursor.{fits_in}
 use Rattle.pairs.specs.PlainWords.{PlainWord}
 use Rattle.strides.specs.StrideLaws.{most-small, most-fits}
 use Rattle.strides.proofs.first.first_taken.Goals as goal
 
-pub word_within-end-requires : goal.word_within-end-requires
-word_within-end-requires c =
+pub word_within-requires : goal.word_within-requires
+word_within-requires c =
     (c.requires.short, sym c.plain_at.ensures ∙ c.if-plain_at.true, most-small c.args.p.cursor _ c.args.s.glyph.0 c.room.ensures c.requires.place.0)
 
 pub overflow_sub-n : goal.overflow_sub-n
 overflow_sub-n c =
-    omega (arith, ((let found_here : PlainWord c.args.text.now c.args.at c.word_within-end.result × (c.word_within-end.result - c.args.at ≤ c.room.result / c.args.s.glyph.0) = c.word_within-end.ensures c.if-end-ne0.true in found_here)).0.letters.forward)
+    omega (arith, ((let found_here : PlainWord c.args.text.now c.args.at c.in-Some.end × (c.in-Some.end - c.args.at ≤ c.room.result / c.args.s.glyph.0) = MatchOption-at_some _ _ _ c.in-Some.is c.word_within.ensures in found_here)).0.letters.forward)
 
 pub overflow_cast-n : goal.overflow_cast-n
 overflow_cast-n c =
-    omega (arith, ((let found_here : PlainWord c.args.text.now c.args.at c.word_within-end.result × (c.word_within-end.result - c.args.at ≤ c.room.result / c.args.s.glyph.0) = c.word_within-end.ensures c.if-end-ne0.true in found_here)).0.letters.inside, c.requires.short)
+    omega (arith, ((let found_here : PlainWord c.args.text.now c.args.at c.in-Some.end × (c.in-Some.end - c.args.at ≤ c.room.result / c.args.s.glyph.0) = MatchOption-at_some _ _ _ c.in-Some.is c.word_within.ensures in found_here)).0.letters.inside, c.requires.short)
 
 pub overflow_cast-to : goal.overflow_cast-to
 overflow_cast-to c =
-    omega (arith, ((let found_here : PlainWord c.args.text.now c.args.at c.word_within-end.result × (c.word_within-end.result - c.args.at ≤ c.room.result / c.args.s.glyph.0) = c.word_within-end.ensures c.if-end-ne0.true in found_here)).0.letters.inside, c.requires.short)
+    omega (arith, ((let found_here : PlainWord c.args.text.now c.args.at c.in-Some.end × (c.in-Some.end - c.args.at ≤ c.room.result / c.args.s.glyph.0) = MatchOption-at_some _ _ _ c.in-Some.is c.word_within.ensures in found_here)).0.letters.inside, c.requires.short)
 
 pub word_place-place-requires : goal.word_place-place-requires
 word_place-place-requires c =
-    (c.requires.place, (let fitting_here : fits_in c.args.p.cursor ((c.word_within-end.result - c.args.at) * c.args.s.glyph.0) ≡ true = most-fits c.args.p.cursor c.room.result c.args.s.glyph.0 c.room.ensures _ ((let found_here : PlainWord c.args.text.now c.args.at c.word_within-end.result × (c.word_within-end.result - c.args.at ≤ c.room.result / c.args.s.glyph.0) = c.word_within-end.ensures c.if-end-ne0.true in found_here)).1 in fitting_here))
+    (c.requires.place, (let fitting_here : fits_in c.args.p.cursor ((c.in-Some.end - c.args.at) * c.args.s.glyph.0) ≡ true = most-fits c.args.p.cursor c.room.result c.args.s.glyph.0 c.room.ensures _ ((let found_here : PlainWord c.args.text.now c.args.at c.in-Some.end × (c.in-Some.end - c.args.at ≤ c.room.result / c.args.s.glyph.0) = MatchOption-at_some _ _ _ c.in-Some.is c.word_within.ensures in found_here)).1 in fitting_here))
 
-pub returns-then-end-ne0 : goal.returns-then-end-ne0
-returns-then-end-ne0 c =
-    record { word = ((let found_here : PlainWord c.args.text.now c.args.at c.word_within-end.result × (c.word_within-end.result - c.args.at ≤ c.room.result / c.args.s.glyph.0) = c.word_within-end.ensures c.if-end-ne0.true in found_here)).0; chars = refl; fits = (let fitting_here : fits_in c.args.p.cursor ((c.word_within-end.result - c.args.at) * c.args.s.glyph.0) ≡ true = most-fits c.args.p.cursor c.room.result c.args.s.glyph.0 c.room.ensures _ ((let found_here : PlainWord c.args.text.now c.args.at c.word_within-end.result × (c.word_within-end.result - c.args.at ≤ c.room.result / c.args.s.glyph.0) = c.word_within-end.ensures c.if-end-ne0.true in found_here)).1 in fitting_here); place = c.word_place-place.ensures }
-
-pub returns-else-end-ne0 : goal.returns-else-end-ne0
-returns-else-end-ne0 c =
-    tt
-
-pub returns-else-plain_at : goal.returns-else-plain_at
-returns-else-plain_at c =
-    tt
+pub returns-in-Some : goal.returns-in-Some
+returns-in-Some c =
+    record { word = ((let found_here : PlainWord c.args.text.now c.args.at c.in-Some.end × (c.in-Some.end - c.args.at ≤ c.room.result / c.args.s.glyph.0) = MatchOption-at_some _ _ _ c.in-Some.is c.word_within.ensures in found_here)).0; chars = refl; fits = (let fitting_here : fits_in c.args.p.cursor ((c.in-Some.end - c.args.at) * c.args.s.glyph.0) ≡ true = most-fits c.args.p.cursor c.room.result c.args.s.glyph.0 c.room.ensures _ ((let found_here : PlainWord c.args.text.now c.args.at c.in-Some.end × (c.in-Some.end - c.args.at ≤ c.room.result / c.args.s.glyph.0) = MatchOption-at_some _ _ _ c.in-Some.is c.word_within.ensures in found_here)).1 in fitting_here); place = c.word_place-place.ensures }

@@ -21,9 +21,9 @@ unfolding waiting_at
 returns-then-room-wide c =
     fitted-waits _ _ _ _ c.room.ensures _ c.spaces_width-space.ensures c.if-room-wide.true
 
-pub overflow_add-cursor : goal.overflow_add-cursor
+pub overflow_add-p : goal.overflow_add-p
 unfolding room_of
-overflow_add-cursor c =
+overflow_add-p c =
     record { fits = omega (arith, c.requires.0, c.if-room-wide.false, c.room.ensures) }
 
 pub returns : goal.returns

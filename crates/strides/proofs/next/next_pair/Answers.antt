@@ -1,17 +1,14 @@
 -- `strides::next::next_pair` meets its contract (rule 8).
-use Rattle.std.proofs.Common.{sym, subst, arith}
+use Rattle.std.proofs.Common.{sym, subst}
+use Rattle.std.proofs.lemmas.Option.{MatchOption-at_some}
 use Rattle.strides.specs.Next.{Read, Decides}
 use Rattle.strides.specs.NextLaws.{pair-numbers, fitted_decides}
 use Rattle.strides.proofs.next.next_pair.Goals as goal
 
-pub returns-then-pair-eq0 : goal.returns-then-pair-eq0
-returns-then-pair-eq0 c =
-    tt
-
 pub fitted-requires : goal.fitted-requires
 fitted-requires c =
-    (c.requires.0.0.place, c.requires.0.0.settings.1, (pair-numbers c.requires.0.0 _ ((let found_here : Read c.args.text.now c.args.at c.args.pair = c.requires.1 (omega (arith, c.if-pair-eq0.false)) in found_here))).4)
+    (c.requires.0.0.place, c.requires.0.0.settings.1, (pair-numbers c.requires.0.0 _ ((let found_here : Read c.args.text.now c.args.at c.in-Some.pair = MatchOption-at_some _ _ _ c.in-Some.is c.requires.1 in found_here))).4)
 
 pub returns : goal.returns
 returns c =
-    subst (Decides c.args.s c.args.p c.args.text.now c.args.at) (sym c.fitted.ensures) (fitted_decides c.requires.0 _ ((let found_here : Read c.args.text.now c.args.at c.args.pair = c.requires.1 (omega (arith, c.if-pair-eq0.false)) in found_here)))
+    subst (Decides c.args.s c.args.p c.args.text.now c.args.at) (sym c.fitted.ensures) (fitted_decides c.requires.0 _ ((let found_here : Read c.args.text.now c.args.at c.in-Some.pair = MatchOption-at_some _ _ _ c.in-Some.is c.requires.1 in found_here)))

@@ -1,22 +1,19 @@
 -- `strides::next::next_stride` meets its contract (rule 8).
 use Rattle.std.proofs.Common.{sym, subst, arith}
+use Rattle.std.proofs.lemmas.Option.{MatchOption-at_some}
 use Rattle.strides.specs.Next.{Read, Decides}
 use Rattle.strides.specs.NextLaws.{plain-read, pair-numbers, fitted_decides}
 use Rattle.strides.proofs.next.next_stride.Goals as goal
 
-pub returns-then-end-eq0 : goal.returns-then-end-eq0
-returns-then-end-eq0 c =
-    tt
-
 pub plain_pair-requires : goal.plain_pair-requires
 plain_pair-requires c =
-    let w = (c.stride_end-end.ensures c.if-end-eq0.false).word.letters in
+    let w = (MatchOption-at_some _ _ _ c.in-Some.is c.stride_end.ensures).word.letters in
     omega (arith, w.forward, w.inside, c.requires.0.short)
 
 pub fitted-requires : goal.fitted-requires
 fitted-requires c =
-    (c.requires.0.place, c.requires.0.settings.1, (pair-numbers c.requires.0 _ ((let found_here : Read c.args.text.now c.args.at c.plain_pair.result = plain-read _ _ _ (c.stride_end-end.ensures c.if-end-eq0.false) _ c.plain_pair.ensures in found_here))).4)
+    (c.requires.0.place, c.requires.0.settings.1, (pair-numbers c.requires.0 _ ((let found_here : Read c.args.text.now c.args.at c.plain_pair.result = plain-read _ _ _ (MatchOption-at_some _ _ _ c.in-Some.is c.stride_end.ensures) _ c.plain_pair.ensures in found_here))).4)
 
 pub returns : goal.returns
 returns c =
-    subst (Decides c.args.s c.args.p c.args.text.now c.args.at) (sym c.fitted.ensures) (fitted_decides c.requires _ ((let found_here : Read c.args.text.now c.args.at c.plain_pair.result = plain-read _ _ _ (c.stride_end-end.ensures c.if-end-eq0.false) _ c.plain_pair.ensures in found_here)))
+    subst (Decides c.args.s c.args.p c.args.text.now c.args.at) (sym c.fitted.ensures) (fitted_decides c.requires _ ((let found_here : Read c.args.text.now c.args.at c.plain_pair.result = plain-read _ _ _ (MatchOption-at_some _ _ _ c.in-Some.is c.stride_end.ensures) _ c.plain_pair.ensures in found_here)))

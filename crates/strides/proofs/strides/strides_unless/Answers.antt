@@ -8,8 +8,8 @@ pub stands_at-requires : goal.stands_at-requires
 stands_at-requires c =
     omega (arith, c.requires.0.inside, c.requires.0.short)
 
-pub returns-in-Known : goal.returns-in-Known
-returns-in-Known c =
+pub returns-in-Some : goal.returns-in-Some
+returns-in-Some c =
     record { goes = goes_to _ c.nothing_waits.ensures c.stands_at.ensures (onward-none c.requires.0); foresees_from = stays_foreseen c.args.s c.args.p c.args.text.now c.args.at c.args.rest c.args.m c.args.seen _ _ c.stands_at.ensures c.requires.1 }
 
 pub returns : goal.returns

@@ -1,4 +1,4 @@
-use Rattle.std.proofs.Common.{refl, sym, subst, false, arith}
+use Rattle.std.proofs.Common.{refl, sym, subst, arith}
 use Rattle.meaning.specs.declared.line.Measure.{Measure}
 use Rattle.steps.specs.Unrolled.{nothing_resumed}
 use Rattle.strides.specs.Strides.{Onward, Waits, Goes}

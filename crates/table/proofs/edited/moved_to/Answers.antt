@@ -6,4 +6,4 @@ use Rattle.table.proofs.edited.moved_to.Goals as goal
 pub returns : goal.returns
 unfolding moved
 returns c =
-    omega (arith, c.less_wide-replaced.ensures, c.less_wide.ensures)
+    omega (arith, c.saturating_sub-replaced.ensures, c.saturating_sub.ensures)

@@ -31,4 +31,4 @@ bounds-events-at-6 c =
 
 pub returns : goal.returns
 returns c =
-    event_stored c.args.events.now c.args.k c.args.e _ c.event_number-number.ensures c.if-events-at.false
+    event_stored c.args.events.now c.args.k c.args.e _ c.from.ensures c.if-events-at.false

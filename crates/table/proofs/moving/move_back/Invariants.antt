@@ -2,8 +2,5 @@
 use Rattle.table.proofs.MoveTurns.{Back}
 use Rattle.table.proofs.moving.move_back.Given as goal
 
-abbrev pub invariant-loop-left : goal.invariant-loop-left
-invariant-loop-left l = Back l.initial.table l.from l.to l.count l.shift l.table l.left
-
-abbrev pub decreases-loop-left : goal.decreases-loop-left
-decreases-loop-left l = l.left
+abbrev pub invariant-loop-i : goal.invariant-loop-i
+invariant-loop-i l = Back l.initial.table l.from l.to l.count l.shift l.table l.i

@@ -4,5 +4,5 @@ use Rattle.table.proofs.moving.moved_entry.Goals as goal
 
 pub returns : goal.returns
 returns c =
-    entry-moved c.args.shift.edit c.args.shift.from.0 c.args.shift.to.0 c.args.e _ _ _ _ c.moved_offset-start.ensures
-    c.moved_rest-rest.ensures c.moved_offset-reach.ensures c.shifted_count.ensures
+    entry-moved c.args.shift.edit c.args.shift.from.0 c.args.shift.to.0 c.args.e _ _ _ _ c.moved_offset.ensures
+    c.moved_rest.ensures c.moved_offset-2.ensures c.shifted_count.ensures

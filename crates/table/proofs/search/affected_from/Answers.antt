@@ -1,10 +1,10 @@
-use Rattle.std.proofs.Common.{refl, arith, rules}
+use Rattle.std.proofs.Common.{refl, arith}
 use Rattle.table.proofs.SearchLaws.{search-past, search-met, search-end}
 use Rattle.table.proofs.search.affected_from.Goals as goal
 
 pub loop-k-init : goal.loop-k-init
 loop-k-init c =
-    (refl, search rules)
+    refl
 
 pub returns-then-a-table : goal.returns-then-a-table
 returns-then-a-table c =

@@ -17,4 +17,4 @@ bounds-buffer-place-4 c =
 
 pub returns : goal.returns
 returns c =
-    four-sets _ _ _ _ _ c.kind_number.ensures
+    four-sets _ _ _ _ _ c.from.ensures

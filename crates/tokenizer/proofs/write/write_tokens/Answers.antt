@@ -12,17 +12,17 @@ loop-lexeme-init c =
 
 pub put_token-requires : goal.put_token-requires
 put_token-requires c =
-    let s = (let step_here : Next c.args.text.now c.loop-lexeme.at c.in-Token.lexeme = next c.args.text.now c.loop-lexeme.at _ (sym c.token_at.ensures ∙ c.in-Token.is) in step_here) in omega (arith, ap length s.more)
+    let s = (let step_here : Next c.args.text.now c.loop-lexeme.at c.in-Some.lexeme = next c.args.text.now c.loop-lexeme.at _ (sym c.token_at.ensures ∙ c.in-Some.is) in step_here) in omega (arith, ap length s.more)
 
 pub loop-lexeme-smaller : goal.loop-lexeme-smaller
 loop-lexeme-smaller c =
-    let s = (let step_here : Next c.args.text.now c.loop-lexeme.at c.in-Token.lexeme = next c.args.text.now c.loop-lexeme.at _ (sym c.token_at.ensures ∙ c.in-Token.is) in step_here) in
+    let s = (let step_here : Next c.args.text.now c.loop-lexeme.at c.in-Some.lexeme = next c.args.text.now c.loop-lexeme.at _ (sym c.token_at.ensures ∙ c.in-Some.is) in step_here) in
     omega arith
 
 pub loop-lexeme-preserved : goal.loop-lexeme-preserved
 loop-lexeme-preserved c =
-    let s = (let step_here : Next c.args.text.now c.loop-lexeme.at c.in-Token.lexeme = next c.args.text.now c.loop-lexeme.at _ (sym c.token_at.ensures ∙ c.in-Token.is) in step_here) in (
-      ap (λ (b : List ℕ). sets b (token_numbers * (c.loop-lexeme.n + 1)) (numbers_from c.args.text.now c.in-Token.lexeme.end.0)) c.put_token.ensures
+    let s = (let step_here : Next c.args.text.now c.loop-lexeme.at c.in-Some.lexeme = next c.args.text.now c.loop-lexeme.at _ (sym c.token_at.ensures ∙ c.in-Some.is) in step_here) in (
+      ap (λ (b : List ℕ). sets b (token_numbers * (c.loop-lexeme.n + 1)) (numbers_from c.args.text.now c.in-Some.lexeme.end.0)) c.put_token.ensures
           ∙ sets_more c.args.text.now c.loop-lexeme.buffer c.loop-lexeme.n c.loop-lexeme.at _ s ∙ c.loop-lexeme.invariant.0,
       omega (arith, ap length s.more),
       omega (arith, c.put_token.auto.buffer),
@@ -30,6 +30,6 @@ loop-lexeme-preserved c =
       omega arith,
     )
 
-pub returns-in-End : goal.returns-in-End
-returns-in-End c =
-    let z = next-none c.args.text.now c.loop-lexeme.at (sym c.token_at.ensures ∙ c.in-End.is) in record { value = omega (arith, ap length z); buffer_after = sym (sets-none c.args.text.now c.loop-lexeme.buffer (token_numbers * c.loop-lexeme.n) c.loop-lexeme.at z) ∙ c.loop-lexeme.invariant.0 }
+pub returns : goal.returns
+returns c =
+    let z = next-none c.args.text.now c.loop-lexeme.at (sym c.token_at.ensures ∙ c.in_default.is) in record { value = omega (arith, ap length z); buffer_after = sym (sets-none c.args.text.now c.loop-lexeme.buffer (token_numbers * c.loop-lexeme.n) c.loop-lexeme.at z) ∙ c.loop-lexeme.invariant.0 }

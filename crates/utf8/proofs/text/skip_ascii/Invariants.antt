@@ -1,10 +1,6 @@
 -- `utf8::text::skip_ascii` meets its contract (refusal 4, refusal 6).
-use Rattle.std.proofs.Common.{◌-◌, ◌≤◌, length}
 use Rattle.utf8.specs.Ascii.{Plain}
 use Rattle.utf8.proofs.text.skip_ascii.Given as goal
 
-abbrev pub invariant-loop-at : goal.invariant-loop-at
-invariant-loop-at l = Plain l.text l.from l.at × (l.at ≤ length l.text)
-
-abbrev pub decreases-loop-at : goal.decreases-loop-at
-decreases-loop-at l = length l.text - l.at
+abbrev pub invariant-loop-i : goal.invariant-loop-i
+invariant-loop-i l = Plain l.text l.from l.i

@@ -3,8 +3,8 @@ use Rattle.std.proofs.Common.{◌-◌, ◌≤◌, length}
 use Rattle.utf8.specs.Ascii.{Passed}
 use Rattle.utf8.proofs.text.skip_long.Given as goal
 
-abbrev pub invariant-loop-from : goal.invariant-loop-from
-invariant-loop-from l = Passed l.text l.from l.at × (l.at ≤ length l.text)
+abbrev pub invariant-loop-len : goal.invariant-loop-len
+invariant-loop-len l = Passed l.text l.from l.at × (l.at ≤ length l.text)
 
-abbrev pub decreases-loop-from : goal.decreases-loop-from
-decreases-loop-from l = length l.text - l.at
+abbrev pub decreases-loop-len : goal.decreases-loop-len
+decreases-loop-len l = length l.text - l.at

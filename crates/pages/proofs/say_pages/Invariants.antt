@@ -1,9 +1,0 @@
--- `pages::say_pages` meets its contract.
-use Rattle.std.proofs.Common.{◌≤◌, ◌-◌}
-use Rattle.pages.proofs.say_pages.Given as goal
-
-abbrev pub invariant-loop-k : goal.invariant-loop-k
-invariant-loop-k g l = l.k ≤ l.n
-
-abbrev pub decreases-loop-k : goal.decreases-loop-k
-decreases-loop-k g l = l.n - l.k

@@ -1,9 +1,0 @@
--- `pages::shown::show_pages` meets its contract.
-use Rattle.std.proofs.Common.{◌≤◌, ◌-◌}
-use Rattle.pages.proofs.shown.show_pages.Given as goal
-
-abbrev pub invariant-loop-i : goal.invariant-loop-i
-invariant-loop-i g l = l.i ≤ l.n
-
-abbrev pub decreases-loop-i : goal.decreases-loop-i
-decreases-loop-i g l = l.n - l.i
