@@ -4,7 +4,7 @@
 /** A text as a string or as UTF-8. */
 export type Text = string | Uint8Array | ArrayBuffer;
 
-/** How a text is laid. What is left out is as in `defaults`. */
+/** How a text is laid. What is left out is as in `defaults`, and so is what an object has from its prototype alone. */
 export interface Settings {
     /** The width of every character. */
     glyph: number;
@@ -151,11 +151,12 @@ export interface Layout {
     readonly text: string;
     readonly bytes: Uint8Array;
     readonly table: Uint32Array;
-    readonly lines: readonly Line[];
+    /** This, `events` and `dropped` are frozen, in all their parts. */
+    readonly lines: readonly Readonly<Line>[];
     readonly lineCount: number;
     /** What is drawn, an array for each line. */
-    readonly events: readonly (readonly Event[])[];
-    readonly dropped: readonly Lost[];
+    readonly events: readonly (readonly Readonly<Event>[])[];
+    readonly dropped: readonly Readonly<Lost>[];
     readonly height: number;
     readonly index: Int32Array;
     /** Whether each line shows: it is wholly in the box. */

@@ -5,6 +5,7 @@
 // ANSWERS is the program of tests/js/answers.c, for this machine; CASES is how many cases are compared with it.
 import { load } from 'bisquemop';
 import { finish } from './harness.mjs';
+import { testArguments } from './arguments.mjs';
 import { testExamples } from './examples.mjs';
 import { testHeader } from './header.mjs';
 import { testLayouts } from './layouts.mjs';
@@ -17,6 +18,7 @@ const library = await load();
 testHeader(library);
 testExamples(library);
 testRefusals(library);
+testArguments(library);
 testLayouts(library);
 testNative(library, program, Number(cases));
 await testLoading();

@@ -17,6 +17,8 @@ export async function use(): Promise<number> {
     const sure: number = library.columnsPlan('a', 3);
     // @ts-expect-error what was laid is not changed from outside
     layout.lines = [];
+    // @ts-expect-error nor a line of it
+    layout.lines[0].start = 1;
     try {
         return layout.edit(0, 3, '').laid + lines.length + (width ?? 0) + sure + library.pages('a', 2).pages.length;
     } catch (error) {
