@@ -29,19 +29,34 @@ def library(wasm):
     return f"export const wasm = Uint8Array.from(atob('{text}'), (letter) => letter.charCodeAt(0));\n"
 
 
-# A module as a value: its names are its own, and what it exports are the value's parts.
-def as_value(path, source):
+# What a module takes from another one.
+def taken(source):
+    return re.sub(r"^import (\{.*\}) from ('.*');$", r'const \1 = modules[\2];', source, flags=re.M)
+
+
+# A module as a function: its names are its own, and what it exports are the parts of what it returns.
+def as_function(path, source):
     exported = re.findall(r'^export (?:const|class|function|async function) (\w+)', source, re.M)
-    body = re.sub(r'^export ', '', source, flags=re.M)
-    return f"modules['{path}'] = (() => {{\n{body}return {{ {', '.join(exported)} }};\n}})();\n"
+    body = re.sub(r'^export ', '', taken(source), flags=re.M)
+    return f"sources['{path}'] = (modules) => {{\n{body}return {{ {', '.join(exported)} }};\n}};\n"
 
 
-# The page's own script over these.
+# The script of the Worker: the same functions, as text, so that no module stands in the page twice. It is no module itself: from a page
+# on a disk a browser runs none, and what a module would know of its place is the place of the script.
+WORKER = """modules['./working.mjs'] = { script: ['./bisquemop.mjs', './worker.mjs']
+    .map((path) => `modules['${path}'] = (${sources[path]})(modules);\\n`.replaceAll('import.' + 'meta.url', 'location.href'))
+    .reduce((all, one) => all + one, "'use strict';\\nconst modules = {};\\n") + "modules['./worker.mjs'].listen(self);\\n" };
+"""
+
+
+# The page's own script over these. What only the Worker runs is not run here.
 def script(wasm):
-    modules = {'./bisquemop.mjs': read('bindings/js/bisquemop.mjs'), './font.mjs': font(), './wasm.mjs': library(wasm)}
-    values = ''.join(as_value(path, source) for path, source in modules.items())
-    page = re.sub(r"^import (\{.*\}) from ('.*');$", r'const \1 = modules[\2];', read('web/page.js'), flags=re.M)
-    return f'const modules = {{}};\n{values}{page}'
+    beside = {'./bisquemop.mjs': read('bindings/js/bisquemop.mjs'), './worker.mjs': read('web/worker.mjs')}
+    here = {'./font.mjs': font(), './wasm.mjs': library(wasm)}
+    here |= {f'./{name}': read(f'web/{name}') for name in ('asking.mjs', 'laid.mjs')}
+    functions = ''.join(as_function(path, source) for path, source in (beside | here).items())
+    values = ''.join(f"modules['{path}'] = sources['{path}'](modules);\n" for path in ['./bisquemop.mjs', *here])
+    return f'const [sources, modules] = [{{}}, {{}}];\n{functions}{values}{WORKER}{taken(read("web/page.js"))}'
 
 
 # ---- the page
@@ -60,7 +75,7 @@ def replaced(page, old, new):
 def allowed(style, code):
     return (
         f"default-src 'none'; script-src {hashed(code)} 'wasm-unsafe-eval'; style-src {hashed(style)}; img-src data:; "
-        "base-uri 'none'; form-action 'none'"
+        "worker-src blob:; base-uri 'none'; form-action 'none'"
     )
 
 

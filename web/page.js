@@ -1,8 +1,12 @@
 // The page that shows a clue as the screen will. Each keystroke goes to the library as an edit, and lays again what it affects; the picture
-// is drawn from the library's events. What is shown is in the address, so that a link brings it back.
-import { Drawn, End, Refusal, Refused, TEXT_MAX, defaults, limits, load } from './bisquemop.mjs';
+// is drawn from the library's events. The library runs in a Worker (worker.mjs), so that the page answers meanwhile. What is shown is in
+// the address, so that a link brings it back.
+import { Drawn, End, Refused, TEXT_MAX, defaults, limits } from './bisquemop.mjs';
+import { Asked, Refusal, Stopped } from './asking.mjs';
+import { LINE, Laid } from './laid.mjs';
 import { font } from './font.mjs';
 import { wasm } from './wasm.mjs';
+import { script } from './working.mjs';
 
 const $ = (id) => document.getElementById(id);
 
@@ -23,32 +27,174 @@ const withCapital = (words) => words[0].toUpperCase() + words.slice(1);
 
 const WELCOME = 'Who lied?\n            not the baker, not his wife.';
 const AT_FIRST = { ...defaults, spacing: 10, height: 64 };
-const ROWS = 400; // a table of more lines is shown in parts
+const ROWS = 200; // a table of more lines is shown in parts
 const LINES_MOST = TEXT_MAX + 1;
 
 const VIEW_AT_FIRST = { h: 6, compare: 0, colour: 0, zoom: 0 };
 
-const state = { settings: AT_FIRST, h: 6, compare: false, colour: false, zoom: 0, rows: ROWS, pointed: null };
-let library;
-let layouts = new Map(); // by wrap setting: the one that is set, and the other where both are shown
+const state = { settings: AT_FIRST, h: 6, compare: false, colour: false, zoom: 0, rows: ROWS, pointed: null, doubt: '', late: '' };
+let layouts = new Map(); // by wrap setting: what is laid by the one that is set, and by the other where both are shown
 let edits = new Map(); // by wrap setting: what the last edit did
+let fits = false; // whether the clue has room in so many lines
 
 const shown = () => layouts.get(state.settings.wrap);
-const wrapsShown = (settings, compare) => (compare ? [0, 1] : [settings.wrap]);
 
-// Lays a text anew. Where the library refuses, all stays as it was.
-function layAnew(text, settings, compare = state.compare) {
-    const laid = wrapsShown(settings, compare).map((wrap) => [wrap, library.lay(text, { ...settings, wrap })]);
-    layouts = new Map(laid);
-    edits = new Map();
-    Object.assign(state, { settings, compare, rows: ROWS, pointed: null });
+// The library. A Worker that begins is told what is shown.
+const library = new Asked(script, wasm, { first: shownQuestion, told: (open) => busyWith('asked', open) });
+function shownQuestion() {
+    const { settings, compare, h } = state;
+    return layouts.size === 0 ? null : { call: 'show', parts: { text: shown().bytes, settings, compare, h, fresh: true } };
 }
 
-// The text has become another one: the library is told the edit, and lays again what it affects.
-function layEdited(text) {
-    const done = [...layouts].map(([wrap, layout]) => [wrap, layout.change(text)]);
-    edits = new Map(done);
-    state.pointed = null;
+// ---- what takes its time
+
+const SLOW = 1000; // milliseconds, after which what is at work is told
+
+// What is at work: questions that are open, and pictures that are being drawn. The document says it, for tests.
+const atWork = { asked: 0, drawn: 0 };
+function busyWith(what, count) {
+    atWork[what] = count;
+    document.documentElement.dataset.busy = atWork.asked + atWork.drawn || '';
+}
+
+// What takes over a second says so, and can be stopped.
+class Slow {
+    static #told = new Set();
+    #words;
+    #stop;
+    #late;
+    #timer;
+
+    // `late` is told when it has taken a second, and when it is done.
+    constructor(words, stop, late = () => {}) {
+        this.#words = words;
+        this.#stop = stop;
+        this.#late = late;
+        this.#timer = setTimeout(() => this.#tell(true), SLOW);
+    }
+    done() {
+        clearTimeout(this.#timer);
+        if (Slow.#told.has(this)) {
+            this.#tell(false);
+        }
+    }
+    #tell(isLate) {
+        Slow.#tellAll(this, isLate);
+        this.#late(isLate);
+    }
+    static #tellAll(slow, isLate) {
+        Slow.#told[isLate ? 'add' : 'delete'](slow);
+        const words = [...Slow.#told].map((one) => one.#words);
+        $('working').hidden = words.length === 0;
+        $('working').firstElementChild.textContent = [...new Set(words)].join(' ');
+    }
+    static stopAll() {
+        [...Slow.#told].forEach((slow) => slow.#stop());
+    }
+}
+
+async function slowly(words, answer, late) {
+    const slow = new Slow(words, () => library.stop(), late);
+    try {
+        return await answer;
+    } finally {
+        slow.done();
+    }
+}
+
+// ---- what is wanted, and laid in the Worker
+
+// A change of what is shown: its text, settings, compare, h and view, each where it is another one. `fresh` is a text that is no edit.
+// While some are laid, others wait; those that wait are laid as one.
+let laying = [];
+let waiting = [];
+
+const withChange = (before, change) => ({
+    ...before,
+    ...change,
+    settings: { ...before.settings, ...change.settings },
+    view: { ...before.view, ...change.view },
+});
+const withAll = (before, wants) => wants.reduce((now, { change }) => withChange(now, change), before);
+const newest = () => withAll(state, [...laying, ...waiting]);
+
+// Wants a change. If it is refused, that is said by the field, and what was there stays; `then` is called with whether it is done.
+function want(change, { field = null, before = '', then = () => {} } = {}) {
+    forgetRefusals();
+    tell('');
+    waiting.push({ change, field, before, then });
+    if (laying.length === 0) {
+        layNext();
+    }
+}
+
+async function layNext() {
+    [laying, waiting] = [waiting, []];
+    const change = withAll({ settings: {} }, laying);
+    const wanted = withChange(state, change);
+    let failed = null;
+    try {
+        take(await slowly('The clue is being laid.', library.ask('show', questionOf(change, wanted)), sayLate), wanted, change);
+    } catch (error) {
+        failed = error;
+    }
+    const done = laying;
+    laying = [];
+    if (failed === null) {
+        done.forEach(({ then }) => then(true));
+    } else {
+        refuseLast(failed, done);
+    }
+    if (waiting.length > 0) {
+        layNext();
+    }
+}
+
+// The last of what was wanted is refused, and what came before it may be good: that is wanted once more. What was stopped is over.
+function refuseLast(error, wants) {
+    const over = error instanceof Stopped ? wants : wants.splice(-1);
+    const { field, before } = over.at(-1);
+    refuseChange(error, withAll({}, over), before, field);
+    over.forEach(({ then }) => then(false));
+    waiting = error instanceof Stopped ? waiting : [...wants, ...waiting];
+}
+
+// The picture is then of what was wanted before.
+function sayLate(isLate) {
+    state.late = isLate ? 'This is the clue as it was: what is wanted now is being laid' : '';
+    showVerdicts();
+}
+
+// A text that was typed is an edit; other settings lay it anew; where neither has changed, the library only lists anew.
+const isAnew = ({ fresh, compare, settings }) => fresh || compare !== undefined || Object.keys(settings).length > 0;
+function questionOf(change, { settings, compare, h }) {
+    const fresh = isAnew(change) || layouts.size === 0;
+    return { text: change.text ?? (fresh ? shown().bytes : undefined), settings, compare, h, fresh };
+}
+
+function take({ laid, fits: hasRoom }, { settings, h, compare }, change) {
+    layouts = new Map(laid.map((one) => [one.wrap, new Laid(one)]));
+    fits = hasRoom;
+    if (change.text !== undefined || isAnew(change)) {
+        edits = new Map(laid.filter((one) => one.edit !== undefined).map((one) => [one.wrap, one.edit]));
+        state.pointed = null;
+    }
+    Object.assign(state, { settings, h, compare }, change.view, change.text === undefined ? {} : { doubt: '' });
+    document.querySelector('main').hidden = false;
+    $('link').hidden = false;
+    render();
+}
+
+// A text that was typed and is not laid stays in its box, and the picture is then of another one.
+function refuseChange(error, change, before, field) {
+    if (change.text !== undefined && !change.fresh) {
+        state.doubt = 'This is the clue as it was: what is written now is not laid';
+    }
+    refuse(before + refusalWords(error), field);
+    if (layouts.size > 0) {
+        showVerdicts();
+        renderControls(true);
+    }
 }
 
 // ---- words
@@ -72,6 +218,12 @@ function forgetRefusals() {
 }
 
 function refusalWords(error) {
+    if (error instanceof Stopped) {
+        return 'It was stopped, and what was there stays.';
+    }
+    if (!(error instanceof Refusal || error instanceof Unfit)) {
+        console.error(error);
+    }
     const number = error instanceof Refusal ? ` (Refusal ${error.number}, ${error.name}.)` : '';
     return `${withCapital(error.message)}.${number}`;
 }
@@ -86,21 +238,28 @@ function wholeNumber(name, words) {
     return Number(words);
 }
 
-// Does something that the library may refuse. If it does, that is said, and what was there stays.
+// Does something for which a number is wanted. If there is none, that is said, and nothing is done.
 function attempt(field, action, before = '') {
-    forgetRefusals();
-    tell('');
     try {
         action();
     } catch (error) {
-        if (!(error instanceof Refusal || error instanceof Unfit)) {
+        if (!(error instanceof Unfit)) {
             throw error;
         }
+        forgetRefusals();
+        tell('');
         refuse(before + refusalWords(error), field);
         return false;
     }
-    render();
     return true;
+}
+
+// Shows the same in another way.
+function view(change) {
+    forgetRefusals();
+    tell('');
+    Object.assign(state, change);
+    render();
 }
 
 // A text box holds no carriage return: there it is a sign of its own.
@@ -149,29 +308,48 @@ function drawForeign(pen, character, width, height) {
     pen.restore();
 }
 
-// The pictures that were drawn, for one size of cell.
+// The pictures that were drawn, for one size of cell: as many as have so many dots together, or one. The oldest go first.
+const GLYPH_DOTS = 4e6;
 class Glyphs {
     #size = '';
+    #dots = 0; // of one
     #drawn = new Map();
 
     put(pen, character, colour, x, y, width, height) {
-        const size = `${width} ${height}`;
-        if (size !== this.#size) {
-            this.#drawn.clear();
-            this.#size = size;
-        }
+        this.#fit(width, height);
         const key = `${colour} ${character}`;
-        let picture = this.#drawn.get(key);
-        if (picture === undefined) {
-            picture = make('canvas', { width: Math.max(1, Math.ceil(width)), height: Math.max(1, Math.ceil(height)) });
-            const inner = picture.getContext('2d');
-            inner.fillStyle = colour;
-            drawCharacter(inner, character, width, height);
-            this.#drawn.set(key, picture);
-        }
+        const picture = this.#drawn.get(key) ?? this.#draw(key, character, colour, width, height);
         pen.drawImage(picture, x, y);
     }
+
+    #fit(width, height) {
+        const size = `${width} ${height}`;
+        if (size !== this.#size) {
+            [...this.#drawn.keys()].forEach((key) => this.#forget(key));
+            this.#size = size;
+            this.#dots = Math.max(1, Math.ceil(width)) * Math.max(1, Math.ceil(height));
+        }
+    }
+
+    // Its memory is given back at once, and not when it is found that nobody has it.
+    #forget(key) {
+        this.#drawn.get(key).width = 0;
+        this.#drawn.delete(key);
+    }
+
+    #draw(key, character, colour, width, height) {
+        while (this.#drawn.size > 0 && (this.#drawn.size + 1) * this.#dots > GLYPH_DOTS) {
+            this.#forget(this.#drawn.keys().next().value);
+        }
+        const picture = make('canvas', { width: Math.max(1, Math.ceil(width)), height: Math.max(1, Math.ceil(height)) });
+        const inner = picture.getContext('2d');
+        inner.fillStyle = colour;
+        drawCharacter(inner, character, width, height);
+        this.#drawn.set(key, picture);
+        return picture;
+    }
 }
+const glyphs = new Glyphs(); // both pictures have cells of one size
 
 // ---- the picture
 
@@ -182,13 +360,15 @@ const FOOT = 36;
 const LOST_MOST = 18; // so many lost characters of a line are drawn, at most
 const LOST_TOLD = 5; // and so many lines are told
 
-const decoder = new TextDecoder();
+const CANVAS_DOTS = 3e7; // a picture has no more dots, and no more on a side: browsers draw nothing on larger ones
+const CANVAS_SIDE = 16000;
+const SLICE_TIME = 30; // milliseconds and dots, after which the page is let do something else before it goes on drawing
+const SLICE_DOTS = 3e7;
+
 const colours = () => {
     const style = getComputedStyle(document.documentElement);
     return (name) => style.getPropertyValue(`--${name}`).trim();
 };
-
-const printsSomething = (events) => events.some((event) => event.kind === Drawn.PRINTED && event.end > event.start);
 
 // How far a layout goes beyond its box: by hidden lines above and below, of which some are drawn, and by lost words on the right.
 function overhang(layout) {
@@ -196,8 +376,7 @@ function overhang(layout) {
     const beyond = 4 * Math.max(settings.base, settings.spacing);
     const above = Math.max(0, Math.min(beyond, settings.top - index[0]));
     const below = Math.max(0, Math.min(beyond, index[index.length - 1] + settings.base - settings.top - settings.height));
-    const ends = layout.dropped.map(({ line, count }) => penAfter(layout, line) + Math.min(count, LOST_MOST) * settings.glyph);
-    const right = ends.reduce((most, end) => Math.max(most, end - settings.width), 0);
+    const right = Math.max(0, layout.lostEnd(LOST_MOST) - settings.width);
     return { above, below, right };
 }
 
@@ -212,32 +391,48 @@ function measure(available) {
     return { above, below, right, zoom, dense };
 }
 
-const penAfter = (layout, line) => {
-    const last = layout.events[line].at(-1);
-    return last === undefined ? layout.lines[line].left : last.x + last.width;
-};
-
-function lostItem({ line, count, text }) {
+function lostItem(layout, { line, count, start, end }) {
     const words = `Line ${line}: ${characters(count)} ${count === 1 ? 'is' : 'are'} not on the screen: `;
-    return make('li', { className: 'lost' }, words, make('span', { className: 'word' }, `“${visible(text)}”`));
+    return make('li', { className: 'lost' }, words, make('span', { className: 'word' }, `“${visible(layout.textBetween(start, end))}”`));
 }
 
 let dragged = null; // where the drag of an edge began, by what width and zoom
 
+const NO_CANVAS = 'The picture cannot be drawn: this browser has no canvas of its size';
+const NOT_WHOLE = 'The picture is not whole: its drawing was stopped';
+const COARSE = 'The picture is coarse: it has fewer dots than the screen has pixels';
+
+// Whether what is drawn on a canvas is there, in its last dot, which is looked at on another one.
+const probe = make('canvas', { width: 1, height: 1 });
+function canDraw(canvas) {
+    const [x, y] = [canvas.width - 1, canvas.height - 1];
+    try {
+        const seen = probe.getContext('2d', { willReadFrequently: true });
+        seen.clearRect(0, 0, 1, 1);
+        canvas.getContext('2d').fillRect(x, y, 1, 1);
+        seen.drawImage(canvas, x, y, 1, 1, 0, 0, 1, 1);
+        return seen.getImageData(0, 0, 1, 1).data[3] === 255;
+    } catch {
+        return false;
+    }
+}
+
 class Picture {
     #wrap;
     #layout;
-    #bytes;
     #starts;
-    #lost;
     #place;
-    #glyphs = new Glyphs();
+    #steps = null; // of the drawing, where there are some left
+    #next = 0;
+    #slow = null;
+    #lacks = ''; // what the picture does not have
     figure = make('figure');
     #caption = make('figcaption');
     #verdict = make('div', { className: 'verdict' });
     #frame = make('div', { className: 'frame' });
     #sheet = make('div', { className: 'sheet' });
     #canvas = make('canvas', { tabIndex: 0, className: 'picture' });
+    #mark = make('div', { className: 'mark', hidden: true });
     #edge = make('div', { className: 'edge', tabIndex: 0, title: 'Drag to change the box width' });
 
     constructor(wrap) {
@@ -252,7 +447,7 @@ class Picture {
         this.#edge.setAttribute('aria-orientation', 'horizontal');
         this.#edge.setAttribute('aria-valuemin', limits.width[0]);
         this.#edge.setAttribute('aria-valuemax', limits.width[1]);
-        this.#sheet.append(this.#canvas, this.#edge);
+        this.#sheet.append(this.#canvas, this.#mark, this.#edge);
         this.#frame.append(this.#sheet);
         this.figure.append(this.#caption, this.#verdict, this.#frame);
         this.#listen();
@@ -261,7 +456,9 @@ class Picture {
     #listen() {
         this.#canvas.addEventListener('pointermove', (event) => this.#pointAt(event));
         this.#canvas.addEventListener('pointerdown', (event) => this.#pointAt(event));
-        this.#canvas.addEventListener('pointerleave', () => point(null));
+        this.#canvas.addEventListener('pointerleave', pointAtNone);
+        this.#canvas.addEventListener('contextlost', () => this.#end(NO_CANVAS));
+        this.#canvas.addEventListener('contextrestored', () => renderPictures());
         this.#canvas.addEventListener('keydown', (event) => this.#pointByKey(event));
         this.#edge.addEventListener('pointerdown', (event) => this.#take(event));
         this.#edge.addEventListener('pointermove', (event) => this.#pull(event));
@@ -276,7 +473,7 @@ class Picture {
         const { zoom, above } = this.#place;
         const { top } = this.#layout.settings;
         const y = Math.floor((event.offsetY - HEAD) / zoom) - above + top;
-        point(this.#wrap, this.#layout.findLine(y));
+        pointAtY(this.#wrap, y);
     }
 
     #pointByKey(event) {
@@ -284,9 +481,9 @@ class Picture {
         if (event.key in steps) {
             event.preventDefault();
             const now = state.pointed?.wrap === this.#wrap ? state.pointed.line : -1;
-            point(this.#wrap, Math.max(0, Math.min(this.#layout.lineCount - 1, now + steps[event.key])));
+            pointAtLine(this.#wrap, Math.max(0, Math.min(this.#layout.lineCount - 1, now + steps[event.key])));
         } else if (event.key === 'Escape') {
-            point(null);
+            pointAtLine(null);
         }
     }
 
@@ -296,7 +493,7 @@ class Picture {
         event.preventDefault();
         this.#edge.focus();
         this.#edge.setPointerCapture(event.pointerId);
-        dragged = { x: event.clientX, width: state.settings.width, zoom: this.#place.zoom };
+        dragged = { x: event.clientX, width: newest().settings.width, zoom: this.#place.zoom };
     }
     #pull(event) {
         if (dragged !== null) {
@@ -308,7 +505,7 @@ class Picture {
         renderPictures();
     }
     #pullByKey(event) {
-        const { glyph, width } = state.settings;
+        const { glyph, width } = newest().settings;
         const steps = { ArrowLeft: -1, ArrowDown: -1, ArrowRight: 1, ArrowUp: 1, PageDown: -glyph, PageUp: glyph };
         const step = steps[event.key];
         if (step !== undefined) {
@@ -322,24 +519,23 @@ class Picture {
     // The zoom stays while the edge is dragged.
     show(layout, place) {
         this.#layout = layout;
-        this.#bytes = layout.bytes;
-        this.#starts = new Set(layout.pages(state.h).map((page) => page.line));
-        this.#lost = new Map(layout.dropped.map(({ line, text }) => [line, text]));
+        this.#starts = layout.pageStarts();
         this.#place = { ...place, ...(dragged && { zoom: dragged.zoom }) };
-        this.#showVerdict();
         this.#fit();
         this.draw();
+        this.mark();
         this.#canvas.setAttribute('aria-label', `The screen. ${this.#spoken()}`);
     }
 
+    // The canvas has as many dots as the browser draws, and fewer than the screen where that is needed.
     #fit() {
         const { above, below, right, zoom, dense } = this.#place;
         const { width, height } = this.#layout.settings;
         const wide = GUTTER + (width + right) * zoom + TAIL;
         const high = HEAD + (above + height + below) * zoom + FOOT;
-        const density = wide * high * dense * dense > 3e7 ? 1 : dense;
-        this.#place.dense = density;
-        Object.assign(this.#canvas, { width: Math.ceil(wide * density), height: Math.ceil(high * density) });
+        const most = Math.min(Math.sqrt(CANVAS_DOTS / (wide * high)), CANVAS_SIDE / Math.max(wide, high));
+        this.#place.dense = Math.min(dense, most);
+        this.#size(wide, high);
         Object.assign(this.#canvas.style, { width: `${wide}px`, height: `${high}px` });
         const [left, top] = [GUTTER + width * zoom, HEAD + above * zoom - 4];
         Object.assign(this.#edge.style, { left: `${left}px`, top: `${top}px`, height: `${height * zoom + 8}px` });
@@ -347,7 +543,77 @@ class Picture {
         this.#edge.setAttribute('aria-valuetext', `${width} pixels`);
     }
 
+    // A browser may have a lower limit: then half as many dots a side are tried, some times.
+    #size(wide, high) {
+        for (let tries = 0; tries < 5; tries++) {
+            const { dense } = this.#place;
+            const size = { width: Math.ceil(wide * dense), height: Math.ceil(high * dense) };
+            if (size.width !== this.#canvas.width || size.height !== this.#canvas.height) {
+                Object.assign(this.#canvas, size);
+            } else if (this.#lacks !== NO_CANVAS) {
+                return;
+            }
+            if (canDraw(this.#canvas)) {
+                this.#lacks = '';
+                return;
+            }
+            this.#lacks = NO_CANVAS;
+            this.#place.dense = dense / 2;
+        }
+    }
+
+    // Draws in slices, so that the page answers between them. Where all is drawn in one, nothing is seen of that.
     draw() {
+        this.leave();
+        if (this.#lacks === NO_CANVAS) {
+            this.showVerdict();
+            return;
+        }
+        this.#steps = this.#drawing();
+        this.#slow = new Slow('The picture is being drawn.', () => this.#end(NOT_WHOLE));
+        busyWith('drawn', atWork.drawn + 1);
+        this.#drawSlice();
+        if (this.#steps !== null) {
+            this.showVerdict();
+        }
+    }
+
+    #drawSlice() {
+        const until = performance.now() + SLICE_TIME;
+        try {
+            for (let dots = 0; dots < SLICE_DOTS && performance.now() < until; ) {
+                const { done, value } = this.#steps.next();
+                if (done) {
+                    this.#end(this.#place.zoom * this.#place.dense < 1 ? COARSE : '');
+                    return;
+                }
+                dots += value;
+            }
+            this.#next = setTimeout(() => this.#drawSlice());
+        } catch (error) {
+            this.#end(`The picture cannot be drawn: ${error.message}`);
+        }
+    }
+
+    // Draws no further.
+    leave() {
+        clearTimeout(this.#next);
+        if (this.#steps !== null) {
+            this.#steps = null;
+            this.#slow.done();
+            busyWith('drawn', atWork.drawn - 1);
+        }
+    }
+
+    // The drawing is at its end, and lacks something or nothing.
+    #end(lacks) {
+        this.leave();
+        this.#lacks = lacks;
+        this.showVerdict();
+    }
+
+    // Each step draws something, and says how many dots that took.
+    *#drawing() {
         const { zoom, dense, above } = this.#place;
         const pen = this.#canvas.getContext('2d');
         const scale = zoom * dense;
@@ -355,19 +621,37 @@ class Picture {
         const on = { pen, colour: colours(), scale, x: (x) => Math.round(left + x * scale), y: (y) => Math.round(top + y * scale) };
         pen.clearRect(0, 0, this.#canvas.width, this.#canvas.height);
         this.#drawBox(on);
-        this.#linesDrawn().forEach((line) => this.#drawLine(on, line));
-        this.#drawNumbers(on);
+        yield (this.#canvas.width * this.#canvas.height) / 4;
+        const lines = this.#linesDrawn();
+        const { glyph, base } = this.#layout.settings;
+        for (const line of lines) {
+            yield this.#drawLine(on, line) * glyph * base * scale * scale;
+        }
+        this.#drawNumbers(on, lines);
+    }
+
+    // The mark around the line that is pointed at lies over the picture: nothing is drawn again for it.
+    mark() {
+        const isHere = state.pointed?.wrap === this.#wrap;
+        this.#mark.hidden = !isHere;
+        if (isHere) {
+            const { settings, index } = this.#layout;
+            const { zoom, above } = this.#place;
+            const top = HEAD + (above + index[state.pointed.line] - settings.top) * zoom;
+            const place = { left: GUTTER, top, width: settings.width * zoom, height: settings.base * zoom };
+            Object.entries(place).forEach(([side, pixels]) => (this.#mark.style[side] = `${pixels}px`));
+        }
     }
 
     // The lines that have a place in the picture, shown or not.
     #linesDrawn() {
-        const { settings, index, lines, showing } = this.#layout;
+        const { settings, index, shows } = this.#layout;
         const { above, below } = this.#place;
         const drawn = [];
-        lines.forEach((line, k) => {
-            const y = index[k] - settings.top;
+        index.forEach((at, k) => {
+            const y = at - settings.top;
             if (y + settings.base > -above && y < settings.height + below) {
-                drawn.push({ k, y, shows: showing[k], line });
+                drawn.push({ k, y, shows: shows[k] === 1, dropped: this.#layout.droppedIn(k) });
             }
         });
         return drawn;
@@ -383,27 +667,30 @@ class Picture {
         pen.strokeRect(x(0) - thick / 2, y(0) - thick / 2, x(width) - x(0) + thick, y(height) - y(0) + thick);
     }
 
-    #drawLine(on, { k, y, shows, line }) {
+    // Answers how many characters it drew.
+    #drawLine(on, { k, y, shows, dropped }) {
         const { pen, colour, scale } = on;
-        const { settings, events } = this.#layout;
+        const { settings } = this.#layout;
+        let drawn = 1;
         this.#drawBand(on, k, y);
         const ink = colour(shows ? 'screen-ink' : 'hidden-ink');
-        for (const event of events[k]) {
+        for (const event of this.#layout.eventsOf(k)) {
             if (event.kind === Drawn.PRINTED) {
-                this.#drawText(on, this.#printed(event), ink, event.x, y);
+                drawn += this.#drawText(on, this.#printed(event), ink, event.x, y);
             }
         }
-        if (line.dropped > 0) {
-            const at = penAfter(this.#layout, k);
-            const text = [...this.#lost.get(k)].slice(0, LOST_MOST);
-            this.#drawText(on, text, colour('lost'), at, y);
+        if (dropped > 0) {
+            const at = this.#layout.penAfter(k);
+            const text = [...this.#layout.lostIn(k)].slice(0, LOST_MOST);
+            drawn += this.#drawText(on, text, colour('lost'), at, y);
             const end = at + text.length * settings.glyph;
             pen.fillStyle = colour('lost');
             pen.fillRect(on.x(at), on.y(y + settings.base) - scale / 2, on.x(end) - on.x(at), Math.max(1, scale / 2));
         }
+        return drawn;
     }
 
-    // Behind a line: what the last edit did to it, and whether it is pointed at.
+    // Behind a line: what the last edit did to it.
     #drawBand({ pen, colour, x, y }, k, top) {
         const { width, base } = this.#layout.settings;
         const done = state.colour ? fateOf(edits.get(this.#wrap), k) : '';
@@ -411,41 +698,37 @@ class Picture {
             pen.fillStyle = colour(done);
             pen.fillRect(x(0), y(top), x(width) - x(0), y(top + base) - y(top));
         }
-        if (state.pointed?.wrap === this.#wrap && state.pointed.line === k) {
-            pen.strokeStyle = colour('pointed');
-            pen.lineWidth = 2 * this.#place.dense;
-            pen.strokeRect(x(0) - 1, y(top) - 1, x(width) - x(0) + 2, y(top + base) - y(top) + 2);
-        }
     }
 
     #printed(event) {
-        const text = decoder.decode(this.#bytes.subarray(event.start, event.end));
+        const text = this.#layout.textBetween(event.start, event.end);
         return [...(text === '\u00ad' ? '-' : text)];
     }
 
     #drawText({ pen, scale, x, y }, text, colour, left, top) {
         const { glyph, base } = this.#layout.settings;
         text.forEach((character, k) => {
-            this.#glyphs.put(pen, character, colour, x(left + k * glyph), y(top), glyph * scale, base * scale);
+            glyphs.put(pen, character, colour, x(left + k * glyph), y(top), glyph * scale, base * scale);
         });
+        return text.length;
     }
 
     // The numbers of the lines, as far as they have room, and where pages begin.
-    #drawNumbers({ pen, colour, y }) {
+    #drawNumbers({ pen, colour, y }, lines) {
         const { dense } = this.#place;
         const { base } = this.#layout.settings;
         pen.textBaseline = 'middle';
         pen.textAlign = 'right';
         let free = -Infinity;
-        for (const { k, y: top, line, shows } of this.#linesDrawn()) {
+        for (const { k, y: top, dropped, shows } of lines) {
             const middle = y(top + base / 2);
             if (k > 0 && this.#starts.has(k)) {
                 pen.fillStyle = colour('accent');
                 pen.fillRect(0, y(top) - dense, (GUTTER - 4) * dense, dense);
             }
-            if (middle >= free || line.dropped > 0) {
-                pen.font = `${line.dropped > 0 ? 'bold ' : ''}${12 * dense}px ui-monospace, "DejaVu Sans Mono", monospace`;
-                pen.fillStyle = colour(line.dropped > 0 ? 'lost' : shows ? 'quiet' : 'hidden-ink');
+            if (middle >= free || dropped > 0) {
+                pen.font = `${dropped > 0 ? 'bold ' : ''}${12 * dense}px ui-monospace, "DejaVu Sans Mono", monospace`;
+                pen.fillStyle = colour(dropped > 0 ? 'lost' : shows ? 'quiet' : 'hidden-ink');
                 pen.fillText(k, (GUTTER - 10) * dense, middle);
                 free = middle + 12 * dense;
             }
@@ -456,35 +739,37 @@ class Picture {
     // ---- what is said
 
     #spoken() {
-        const { showing, events } = this.#layout;
-        const told = events.slice(0, 60).map((line, k) => {
-            const words = line.filter((event) => event.kind === Drawn.PRINTED).map((event) => this.#printed(event).join(''));
-            return showing[k] ? `Line ${k}: ${words.join(' ') || 'empty'}.` : `Line ${k} does not show.`;
+        const { shows, lineCount } = this.#layout;
+        const told = Array.from({ length: Math.min(60, lineCount) }, (_, k) => {
+            const printed = this.#layout.eventsOf(k).filter((event) => event.kind === Drawn.PRINTED);
+            const words = printed.map((event) => this.#printed(event).join(''));
+            return shows[k] === 1 ? `Line ${k}: ${words.join(' ') || 'empty'}.` : `Line ${k} does not show.`;
         });
         return told.join(' ');
     }
 
-    #showVerdict() {
-        const { showing, events, dropped } = this.#layout;
-        const hidden = events.filter((line, k) => !showing[k] && printsSomething(line)).length;
-        const items = dropped.slice(0, LOST_TOLD).map(lostItem);
-        if (dropped.length > LOST_TOLD) {
-            const more = dropped.slice(LOST_TOLD).reduce((sum, { count }) => sum + count, 0);
+    // What is lost, what does not show, and what the picture itself lacks: only where there is nothing of these the whole clue is there.
+    showVerdict() {
+        const layout = this.#layout;
+        const { hidden, lostCount } = layout;
+        const items = layout.lost(LOST_TOLD).map((one) => lostItem(layout, one));
+        if (lostCount > LOST_TOLD) {
+            const more = layout.lostCharacters() - layout.lost(LOST_TOLD).reduce((sum, { count }) => sum + count, 0);
             items.push(make('li', {}, `and ${characters(more)} in later lines`));
         }
         if (hidden > 0) {
             items.push(make('li', {}, `${counted(hidden, 'line does', 'lines do')} not show: the box is too low`));
         }
-        this.#verdict.className = `verdict ${dropped.length > 0 ? 'bad' : hidden > 0 ? 'warn' : ''}`;
-        if (items.length === 0) {
-            this.#verdict.textContent = 'The whole clue is on the screen';
-        } else {
-            this.#verdict.replaceChildren('Part of the clue is not on the screen', make('ul', {}, ...items));
-        }
+        const doubts = [state.late || state.doubt, this.#steps === null ? this.#lacks : 'The picture is being drawn'].filter((words) => words !== '');
+        const found = items.length > 0 ? ['Part of the clue is not on the screen', make('ul', {}, ...items)] : [];
+        this.#verdict.className = `verdict ${lostCount > 0 ? 'bad' : hidden > 0 || doubts.length > 0 ? 'warn' : ''}`;
+        const words = doubts.map((doubt) => make('div', { className: 'doubt' }, doubt));
+        this.#verdict.replaceChildren(...words, ...(words.length + found.length === 0 ? ['The whole clue is on the screen'] : found));
     }
 }
 
 const pictures = new Map([[0, new Picture(0)], [1, new Picture(1)]]);
+const showVerdicts = () => [...layouts.keys()].forEach((wrap) => pictures.get(wrap).showVerdict());
 
 // What an edit did to a line.
 function fateOf(edit, line) {
@@ -503,32 +788,53 @@ const END_WORDS = {
     [End.LINE_BREAK]: 'a line break',
 };
 
-function point(wrap, line = null) {
+function pointAtLine(wrap, line = null) {
     const pointed = line === null ? null : { wrap, line };
     if (pointed?.line === state.pointed?.line && pointed?.wrap === state.pointed?.wrap) {
         return;
     }
     state.pointed = pointed;
-    for (const shownWrap of layouts.keys()) {
-        pictures.get(shownWrap).draw();
-    }
     renderPointed();
+}
+
+// Which line is there the library says. While it looks, only the newest place waits.
+let looking = false;
+let under = null; // the place that is pointed at
+async function pointAtY(wrap, y) {
+    under = { wrap, y };
+    if (looking) {
+        return;
+    }
+    looking = true;
+    for (let asked = null; under !== null && asked !== under; ) {
+        asked = under;
+        const line = await library.ask('find', asked).catch(() => null);
+        if (asked === under) {
+            pointAtLine(asked.wrap, line);
+        }
+    }
+    looking = false;
+}
+function pointAtNone() {
+    under = null;
+    pointAtLine(null);
 }
 
 function pointAtRow(event) {
     const row = event.target.closest('tr[data-line]');
-    point(state.settings.wrap, row === null ? null : Number(row.dataset.line));
+    pointAtLine(state.settings.wrap, row === null ? null : Number(row.dataset.line));
 }
 
 function renderPointed() {
     const { pointed, settings } = state;
     document.querySelector('#lines tr.pointed')?.classList.remove('pointed');
     $('pointed').textContent = 'Point at a line, or press the arrow keys on the picture.';
+    [...layouts.keys()].forEach((wrap) => pictures.get(wrap).mark());
     if (pointed === null) {
         return;
     }
     const layout = layouts.get(pointed.wrap);
-    const line = layout.lines[pointed.line];
+    const line = layout.line(pointed.line);
     const text = visible(layout.lineText(pointed.line));
     $('pointed').textContent = `Line ${pointed.line}: “${text}”, from byte ${line.start}, ends by ${END_WORDS[line.end]}.`;
     if (pointed.wrap === settings.wrap) {
@@ -553,9 +859,9 @@ const COLUMNS = {
 };
 
 function lineRow(layout, k) {
-    const line = layout.lines[k];
+    const line = layout.line(k);
     const fate = state.colour ? fateOf(edits.get(state.settings.wrap), k) : '';
-    const numbers = Object.keys(COLUMNS).map((column) => make('td', { data: { column } }, String(line[column])));
+    const numbers = LINE.map((column) => make('td', { data: { column } }, String(line[column])));
     const row = make('tr', { className: `${fate} ${line.dropped > 0 ? 'lost' : ''}`, data: { line: k } });
     row.append(make('th', { scope: 'row' }, String(k)), ...numbers, make('td', {}, visible(layout.lineText(k)).slice(0, 80)));
     return row;
@@ -573,7 +879,7 @@ function renderLines() {
 
 function renderPages() {
     const layout = shown();
-    const pages = layout.pages(state.h);
+    const pages = layout.pages(ROWS + 1);
     const rows = pages.slice(0, ROWS).map((page, k) => {
         const last = (pages[k + 1]?.line ?? layout.lineCount) - 1;
         const lines = last === page.line ? String(page.line) : `${page.line} to ${last}`;
@@ -581,11 +887,10 @@ function renderPages() {
         return make('tr', {}, make('th', { scope: 'row' }, String(k + 1)), ...cells.map((words) => make('td', {}, words)));
     });
     $('pages').tBodies[0].replaceChildren(...rows);
-    $('pages-title').textContent = `${counted(pages.length, 'page', 'pages')} of ${counted(state.h, 'line', 'lines')}`;
+    $('pages-title').textContent = `${counted(layout.pageCount, 'page', 'pages')} of ${counted(state.h, 'line', 'lines')}`;
 }
 
 function renderFits() {
-    const fits = library.columnsFit(shown().bytes, state.h, state.settings);
     const most = counted(state.h, 'line', 'lines');
     const box = `A box of ${state.settings.width} pixels`;
     $('fits').textContent = fits
@@ -608,9 +913,13 @@ function renderEdited() {
 // ---- all of it
 
 function renderPictures() {
+    if (layouts.size === 0) {
+        return;
+    }
     const figures = [...layouts.keys()].map((wrap) => pictures.get(wrap).figure);
     if (figures.length !== $('pictures').children.length || figures[0] !== $('pictures').firstChild) {
         $('pictures').replaceChildren(...figures);
+        [...pictures].filter(([wrap]) => !layouts.has(wrap)).forEach(([, picture]) => picture.leave());
     }
     const place = measure(Math.min(...figures.map((figure) => figure.clientWidth)));
     for (const [wrap, layout] of layouts) {
@@ -633,10 +942,10 @@ function render() {
 
 // ---- the address
 
-let waiting = 0;
+let keeping = 0;
 function keepAddress() {
-    clearTimeout(waiting);
-    waiting = setTimeout(() => history.replaceState(null, '', `#${addressWords()}`), 150);
+    clearTimeout(keeping);
+    keeping = setTimeout(() => history.replaceState(null, '', `#${addressWords()}`), 150);
 }
 
 function addressWords() {
@@ -660,23 +969,38 @@ function readAddress(address) {
         text: words.get('t') ?? WELCOME,
         settings: readAll(AT_FIRST),
         compare: words.has('t') ? compare === 1 : true,
-        rest: { colour: colour === 1, h: fitLines(h), zoom: Math.max(0, Math.min(8, zoom)) },
+        h: fitLines(h),
+        view: { colour: colour === 1, zoom: Math.max(0, Math.min(8, zoom)), rows: ROWS },
     };
 }
 
 // Shows what a link says. What is bad in it is refused in words, and what was there stays.
+const LINK = 'The link: ';
 function openAddress(address) {
-    clearTimeout(waiting);
+    clearTimeout(keeping);
     const open = () => {
-        const { text, settings, compare, rest } = readAddress(address);
-        layAnew(text, settings, compare);
-        Object.assign(state, rest);
+        const { text, settings, compare, h, view: look } = readAddress(address);
+        want({ text, settings, compare, h, view: look, fresh: true }, { before: LINK, then: afterLink });
     };
-    if (!attempt(null, open, 'The link: ') && layouts.size === 0) {
-        layAnew(WELCOME, AT_FIRST, true);
-        render();
+    if (!attempt(null, open, LINK)) {
+        afterLink(false);
     }
-    $('clue').value = toBox(shown().text);
+}
+
+// Where nothing was there before a bad link, the page shows what it does at first, under what it has said.
+function afterLink(isDone) {
+    if (isDone || layouts.size > 0) {
+        $('clue').value = toBox(shown().text);
+        return;
+    }
+    const words = $('refusal').textContent;
+    const said = (isThere) => {
+        if (isThere) {
+            afterLink(true);
+            refuse(words);
+        }
+    };
+    want({ text: WELCOME, settings: AT_FIRST, compare: true, fresh: true }, { then: said });
 }
 
 // ---- the settings
@@ -700,7 +1024,7 @@ const CHOICES = [
 ];
 
 function setSetting(name, words, field) {
-    attempt(field, () => layAnew(shown().text, { ...state.settings, [name]: wholeNumber(name, String(words)) }));
+    attempt(field, () => want({ settings: { [name]: wholeNumber(name, String(words)) }, view: { rows: ROWS } }, { field }));
 }
 const setWidth = (width) => setSetting('width', Math.max(limits.width[0], Math.min(limits.width[1], width)), $('width'));
 
@@ -728,23 +1052,26 @@ function makeChoice([name, label, values]) {
     return make('fieldset', {}, legend, make('div', { className: 'choices' }, ...choices));
 }
 
-function renderControls() {
-    const { settings } = state;
+// What is wanted last is what the controls show. A field that is being written in stays as it is where its number was refused.
+function renderControls(isRefused = false) {
+    const { settings, h, compare } = newest();
     for (const [name, , [least, most]] of FIELDS) {
         const slider = $(`${name}-slider`);
         const value = settings[name];
         slider.min = value < least ? limits[name][0] : least;
         slider.max = value > most ? limits[name][1] : most;
         slider.value = value;
-        if (document.activeElement !== $(name) || Number($(name).value) !== value) {
+        if (document.activeElement !== $(name) || (!isRefused && Number($(name).value) !== value)) {
             $(name).value = value;
         }
     }
     for (const [name] of CHOICES) {
         $(`${name}-${settings[name]}`).checked = true;
     }
-    $('h').value = state.h;
-    $('compare').setAttribute('aria-pressed', state.compare);
+    if (document.activeElement !== $('h') || !isRefused) {
+        $('h').value = h;
+    }
+    $('compare').setAttribute('aria-pressed', compare);
     $('colour').checked = state.colour;
     $('zoom').value = state.zoom;
 }
@@ -772,7 +1099,7 @@ function makeKey([name, character]) {
     return key;
 }
 
-const written = () => attempt($('clue'), () => layEdited(fromBox($('clue').value)));
+const written = () => want({ text: fromBox($('clue').value) }, { field: $('clue') });
 
 // ---- files
 
@@ -789,53 +1116,69 @@ async function withFile(input, use) {
 }
 
 function openText(name, bytes) {
-    if (attempt(null, () => layAnew(bytes, state.settings), `${name} is not opened. `)) {
-        $('clue').value = toBox(shown().text);
-        tell(`${name} is opened.`);
-    }
+    const told = (isDone) => {
+        if (isDone) {
+            $('clue').value = toBox(shown().text);
+            tell(`${name} is opened.`);
+        }
+    };
+    want({ text: bytes, fresh: true, view: { rows: ROWS } }, { before: `${name} is not opened. `, then: told });
 }
 
 // A layout file has no text: its settings are taken, and its lines are held to those of the text that is here.
-function openLayout(name, bytes) {
-    let read;
+async function openLayout(name, bytes) {
+    const before = `${name} is not opened. `;
     try {
-        read = library.readFile(bytes);
+        const read = await slowly('The layout file is being read.', library.ask('read', { bytes }));
+        want({ settings: read.settings, view: { rows: ROWS } }, { before, then: (isDone) => isDone && tell(comparedWords(name, read)) });
     } catch (error) {
-        openRefused(name, error);
-        return;
-    }
-    if (attempt(null, () => layAnew(shown().text, read.settings), `${name} is not opened. `)) {
-        const same = JSON.stringify(read.lines) === JSON.stringify(shown().lines);
-        const has = `${counted(read.lines.length, 'line', 'lines')} of a text of ${counted(read.textLength, 'byte', 'bytes')}`;
-        tell(same ? `${name} is the layout of this clue.` : `${name} has ${has}, which is not this clue: its settings are taken.`);
+        openRefused(name, error, before);
     }
 }
 
-function openRefused(name, error) {
-    if (!(error instanceof Refusal)) {
-        throw error;
+function comparedWords(name, { table, textLength }) {
+    const here = shown().table;
+    if (table.length === here.length && table.every((number, k) => number === here[k])) {
+        return `${name} is the layout of this clue.`;
     }
-    if (error.number === Refused.RETIRED_SETTING && attempt(null, () => layAnew(shown().text, error.settings))) {
-        tell(`${name}: ${refusalWords(error)} The settings are taken.`);
+    const has = `${counted(table.length / LINE.length, 'line', 'lines')} of a text of ${counted(textLength, 'byte', 'bytes')}`;
+    return `${name} has ${has}, which is not this clue: its settings are taken.`;
+}
+
+function openRefused(name, error, before) {
+    if (error.number === Refused.RETIRED_SETTING) {
+        const words = `${name}: ${refusalWords(error)} The settings are taken.`;
+        want({ settings: error.settings, view: { rows: ROWS } }, { before, then: (isDone) => isDone && tell(words) });
         return;
     }
     forgetRefusals();
     tell('');
-    refuse(`${name} is not opened. ${refusalWords(error)}`);
+    refuse(before + (error instanceof Stopped ? 'It was stopped.' : refusalWords(error)));
 }
 
-function save() {
-    const address = URL.createObjectURL(new Blob([shown().file()], { type: 'application/octet-stream' }));
-    make('a', { href: address, download: 'clue.layout' }).click();
-    setTimeout(() => URL.revokeObjectURL(address), 1000);
-    tell('The layout is saved as clue.layout.');
+async function save() {
+    try {
+        const file = await slowly('The layout file is being written.', library.ask('write', { wrap: state.settings.wrap }));
+        const address = URL.createObjectURL(new Blob([file], { type: 'application/octet-stream' }));
+        make('a', { href: address, download: 'clue.layout' }).click();
+        setTimeout(() => URL.revokeObjectURL(address), 1000);
+        tell('The layout is saved as clue.layout.');
+    } catch (error) {
+        refuse(`The layout is not saved. ${refusalWords(error)}`);
+    }
 }
 
 // ---- the other controls
 
-function propose() {
-    const width = library.columnsPlan(shown().bytes, state.h, state.settings);
-    const most = counted(state.h, 'line', 'lines');
+async function propose() {
+    const { settings, h } = state;
+    const asked = library.ask('plan', { wrap: settings.wrap, settings, h });
+    const width = await slowly('A width is being looked for.', asked).catch((error) => error);
+    if (width instanceof Error) {
+        refuse(width instanceof Stopped ? 'No width is proposed: it was stopped.' : refusalWords(width));
+        return;
+    }
+    const most = counted(h, 'line', 'lines');
     $('planned').textContent =
         width === null
             ? `No width from 0 to ${grouped(limits.width[1])} shows it in ${most}.`
@@ -849,11 +1192,12 @@ function fitLines(h) {
     if (h < 0 || h > LINES_MOST) {
         throw new Unfit(`the number of lines is ${h}, and may be 1 to ${grouped(LINES_MOST)}`);
     }
-    library.columnsFit('', h);
     return h;
 }
 
-const setLines = () => attempt($('h'), () => (state.h = fitLines(wholeNumber('the number of lines', $('h').value))));
+function setLines() {
+    attempt($('h'), () => want({ h: fitLines(wholeNumber('the number of lines', $('h').value)) }, { field: $('h') }));
+}
 
 async function copyLink() {
     history.replaceState(null, '', `#${addressWords()}`);
@@ -872,38 +1216,35 @@ function listen() {
     on('open-layout', 'change', () => withFile($('open-layout'), openLayout));
     on('save', 'click', save);
     on('link', 'click', copyLink);
-    on('compare', 'click', () => attempt(null, () => layAnew(shown().text, state.settings, !state.compare)));
-    on('colour', 'change', () => attempt(null, () => (state.colour = $('colour').checked)));
-    on('zoom', 'change', () => attempt(null, () => (state.zoom = Number($('zoom').value))));
-    on('reset', 'click', () => attempt(null, () => layAnew(shown().text, AT_FIRST)));
+    on('compare', 'click', () => want({ compare: !newest().compare, view: { rows: ROWS } }));
+    on('colour', 'change', () => view({ colour: $('colour').checked }));
+    on('zoom', 'change', () => view({ zoom: Number($('zoom').value) }));
+    on('reset', 'click', () => want({ settings: AT_FIRST, view: { rows: ROWS } }));
     on('h', 'input', setLines);
     on('plan', 'click', propose);
     on('use', 'click', () => setWidth(Number($('use').value)));
-    on('more', 'click', () => attempt(null, () => (state.rows += ROWS)));
+    on('more', 'click', () => view({ rows: state.rows + ROWS }));
+    on('stop', 'click', () => Slow.stopAll());
     on('lines', 'pointerover', pointAtRow);
-    on('lines', 'pointerleave', () => point(null));
+    on('lines', 'pointerleave', pointAtNone);
     window.addEventListener('hashchange', (event) => openAddress(event.newURL));
     window.addEventListener('resize', renderPictures);
     matchMedia('(prefers-color-scheme: dark)').addEventListener('change', renderPictures);
 }
 
-async function start() {
+function start() {
     if (typeof WebAssembly !== 'object') {
         refuse('This browser has no WebAssembly, in which the library runs: it is too old, or WebAssembly is switched off.');
         return;
     }
-    try {
-        library = await load(wasm);
-    } catch (error) {
-        refuse(`The library could not be started: ${error.message}.`);
+    if (typeof Worker !== 'function') {
+        refuse('This browser has no Worker, in which the library runs: it is too old.');
         return;
     }
     $('settings').append(...CHOICES.slice(0, 1).map(makeChoice), ...FIELDS.map(makeField), ...CHOICES.slice(1).map(makeChoice));
     $('keys').append(...KEYS.map(makeKey));
     const columns = [['line', ''], ...Object.values(COLUMNS), ['text', '']];
     $('lines').tHead.rows[0].append(...columns.map(([word, title]) => make('th', { scope: 'col', title }, word)));
-    document.querySelector('main').hidden = false;
-    $('link').hidden = false;
     listen();
     openAddress(location.href);
 }

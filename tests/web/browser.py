@@ -10,6 +10,7 @@ import sys
 import clues
 import everyone
 import files
+import limits
 import writing
 from driving import URL, counts, same, scheme, size, start, visit
 
@@ -25,6 +26,15 @@ TESTS = [
     files.test_layout_files,
     files.test_text_files,
     clues.test_chance,
+    limits.test_wrap,
+    limits.test_refused_text,
+    limits.test_canvas,
+    limits.test_no_canvas,
+    limits.test_glyphs,
+    limits.test_long_link,
+    limits.test_typed_numbers,
+    limits.test_slow,
+    limits.test_stopped,
     everyone.test_link,
     everyone.test_widths,
     everyone.test_keyboard,

@@ -48,6 +48,11 @@ const [cases, done] = arguments;
 const box = document.getElementById('clue');
 const numbers = (row) => [...row.querySelectorAll('td[data-column]')].map((cell) => Number(cell.textContent));
 const table = () => [...document.querySelectorAll('#lines tbody tr')].map(numbers);
+const settled = async () => {
+    while (document.documentElement.dataset.busy) {
+        await new Promise((told) => setTimeout(told));
+    }
+};
 const come = () => new Promise((told) => window.addEventListener('hashchange', told, { once: true }));
 (async () => {
     const seen = [];
@@ -55,9 +60,11 @@ const come = () => new Promise((told) => window.addEventListener('hashchange', t
         const there = come();
         location.hash = `#${new URLSearchParams(words)}`;
         await there;
+        await settled();
         const fresh = table();
         box.value = edited;
         box.dispatchEvent(new InputEvent('input', { bubbles: true }));
+        await settled();
         seen.push([fresh, table()]);
     }
     done(seen);

@@ -71,15 +71,27 @@ def picture(driver, name, whole=True):
         file.write(base64.b64decode(shot['data']))
 
 
+# The page lays and draws while it goes on: what it shows is looked at when it has done all.
+def settled(driver):
+    driver.execute_async_script(
+        '''const [done] = arguments;
+           const look = () => (document.documentElement.dataset.busy ? setTimeout(look, 5) : done());
+           look();'''
+    )
+
+
 def find(driver, css):
+    settled(driver)
     return driver.find_element(By.CSS_SELECTOR, css)
 
 
 def text_of(driver, css):
+    settled(driver)
     return driver.execute_script('return document.querySelector(arguments[0])?.textContent ?? null', css)
 
 
 def is_hidden(driver, css):
+    settled(driver)
     return driver.execute_script('return document.querySelector(arguments[0]).hidden', css)
 
 
@@ -104,6 +116,7 @@ def go(driver, text, settings=AT_FIRST, **rest):
            location.hash = hash;''',
         words,
     )
+    settled(driver)
 
 
 def write(driver, text):
@@ -113,10 +126,12 @@ def write(driver, text):
            box.dispatchEvent(new InputEvent('input', { bubbles: true }));''',
         text,
     )
+    settled(driver)
 
 
 # The eleven numbers of each line that the page shows.
 def table(driver):
+    settled(driver)
     return driver.execute_script(
         '''const numbers = (row) => [...row.querySelectorAll('td[data-column]')].map((cell) => Number(cell.textContent));
            return [...document.querySelectorAll('#lines tbody tr')].map(numbers);'''
@@ -139,6 +154,7 @@ def visit(driver, address):
 
 # How many dots of the picture have a colour of the style sheet: in the box, or right of it.
 def dots(driver, colour, wrap, outside=False):
+    settled(driver)
     return driver.execute_script(
         '''const [colour, wrap, outside] = arguments;
            const figure = document.querySelector(`figure[data-wrap="${wrap}"]`);

@@ -9,6 +9,7 @@ import sys
 
 import everyone
 import files
+import limits
 import writing
 from driving import URL, counts, holds, same, scheme, size, start, visit
 
@@ -25,6 +26,17 @@ def test_policy(driver):
     same('another script does not run', False, run)
 
 
+TESTS = [
+    writing.test_opened,
+    writing.test_lost_word,
+    files.test_layout_files,
+    everyone.test_link,
+    limits.test_wrap,
+    limits.test_slow,
+    limits.test_stopped,
+]
+
+
 def severe(driver):
     return [entry['message'] for entry in driver.get_log('browser') if entry['level'] == 'SEVERE']
 
@@ -36,7 +48,7 @@ def main():
         size(driver, 1280, 1000)
         scheme(driver, 'light')
         visit(driver, URL)
-        for test in [writing.test_opened, writing.test_lost_word, files.test_layout_files, everyone.test_link]:
+        for test in TESTS:
             test(driver)
         same('nothing is wrong in the console', [], severe(driver))
         test_policy(driver)

@@ -144,7 +144,9 @@ def test_pointed(driver):
     ActionChains(driver).move_to_element_with_offset(canvas, 0, int(top + 3 * (2 * 10 + 4))).perform()
     same('the line under the pointer', '2', find(driver, '#lines tr.pointed').get_attribute('data-line'))
     holds('it is read out', text_of(driver, '#pointed').startswith('Line 2: “not the·”, from byte 22, ends by a line break'))
-    holds('it is marked in the picture', dots(driver, 'pointed', 1) > 100)
+    mark, line = find(driver, '.mark'), {'width': 72 * 3 + 4, 'height': 8 * 3 + 4}
+    same('it is marked in the picture', [True, line], [mark.is_displayed(), mark.size])
+    same('where it stands', 10 + 3 * 2 * 10 - 2, round(mark.rect['y'] - canvas.rect['y']))
     picture(driver, 'pointed', whole=False)
     ActionChains(driver).move_to_element(find(driver, '#lines tr[data-line="1"] th')).perform()
     holds('a row of the table points at its line too', text_of(driver, '#pointed').startswith('Line 1: '))
