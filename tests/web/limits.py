@@ -1,15 +1,23 @@
 """What is too large for a browser or takes long: it is refused, drawn smaller, told, and stopped; and never is all well where it is not."""
 import time
 
-from driving import AT_FIRST, CLUE, URL, choose, dots, fill, find, go, holds, is_hidden, picture, same, table, text_of, visit, write
+from selenium.webdriver.common.by import By
+
+from driving import AT_FIRST, CLUE, URL, choose, dots, fill, find, go, holds, is_hidden, picture, same, settled, table, text_of, visit, wait_until, write
 from native import tables
 
 WHOLE = 'The whole clue is on the screen'
 LONG = 'the quick brown fox ' * 2620
 
 
-def verdict(driver):
+# What stands over the picture at this moment, and when all is done.
+def verdict_now(driver):
     return driver.execute_script("const found = document.querySelector('.verdict'); return [found.className.trim(), found.textContent]")
+
+
+def verdict(driver):
+    settled(driver)
+    return verdict_now(driver)
 
 
 def test_wrap(driver):
@@ -117,9 +125,11 @@ def is_told(driver):
     return driver.execute_script("return [!document.getElementById('working').hidden, document.querySelector('#working span').textContent]")
 
 
-# A second and a half, and then what the page says.
+# What the page says when something has taken long, which it does after a second; it is waited for a while.
 def told_later(driver):
-    time.sleep(1.5)
+    until = time.monotonic() + 10
+    while not is_told(driver)[0] and time.monotonic() < until:
+        time.sleep(0.05)
     return is_told(driver)
 
 
@@ -130,13 +140,13 @@ def test_long_link(driver):
     settings = {**AT_FIRST, 'glyph': 64, 'base': 64, 'width': 64, 'height': 64, 'spacing': 0}
     driver.execute_script('location.hash = new URLSearchParams(arguments[0]);', {'t': LONG, **settings, 'zoom': 8})
     same('a long drawing says that it takes long', [True, 'The picture is being drawn.'], told_later(driver))
-    kind, words = verdict(driver)
+    kind, words = verdict_now(driver)
     holds(f'meanwhile nothing is said to be well: {kind}, {words}', 'warn' in kind and 'The picture is being drawn' in words)
     longest = driver.execute_script('return window.longest')
     holds(f'the page answers meanwhile: it did not for {longest} ms', longest < 2000)
     picture(driver, 'drawing', whole=False)
     driver.execute_script("document.getElementById('stop').click()")
-    kind, words = verdict(driver)
+    kind, words = verdict_now(driver)
     holds(f'a stopped drawing is no whole picture: {kind}, {words}', 'warn' in kind and 'The picture is not whole' in words)
     same('then nothing is at work', [True, [False, '']], [is_hidden(driver, '#working'), is_told(driver)])
     go(driver, CLUE)
@@ -144,8 +154,10 @@ def test_long_link(driver):
     driver.execute_script('location.hash = new URLSearchParams(arguments[0]);', {'t': LONG, **settings, 'zoom': 8, 'compare': 1})
     told_later(driver)
     driver.execute_script("document.getElementById('compare').click()")
+    wait_until(driver, lambda one: len(one.find_elements(By.CSS_SELECTOR, 'figure')) == 1)
+    told_later(driver)
     driver.execute_script("document.getElementById('stop').click()")
-    same('a picture that is no longer shown is not drawn on', [True, [False, '']], [is_hidden(driver, '#working'), is_told(driver)])
+    same('a picture that is no longer shown is not drawn on', '', driver.execute_script('return document.documentElement.dataset.busy'))
     both = {**AT_FIRST, 'width': 0, 'height': 4096, 'spacing': 8}
     go(driver, 'a ' * 26000, both, compare=1)
     longest = driver.execute_script('return window.longest')
@@ -197,7 +209,7 @@ def test_slow(driver):
     added = visit_late(driver)
     write_and_go_on(driver, 'second')
     same('what is laid for long says so', [True, 'The clue is being laid.'], told_later(driver))
-    kind, words = verdict(driver)
+    kind, words = verdict_now(driver)
     holds(f'the picture is told to be the old one: {kind}, {words}', kind == 'verdict warn' and words.startswith('This is the clue as it was'))
     same('then it is laid', tables([(AT_FIRST, 'second')])[0], table(driver))
     same('and all is well', [['verdict', WHOLE], [False, '']], [verdict(driver), is_told(driver)])
