@@ -637,10 +637,12 @@ static inline uint32_t bisquemop_settings_write_file(const struct bisquemop_sett
 uint32_t bisquemop_read_file(const uint8_t *file, uint64_t file_len, uint32_t *settings, uint64_t settings_len,
                              uint32_t *table, uint64_t table_len, uint64_t *value, uint64_t *text_len);
 
-/* A struct of the thirteen numbers that were handed out. */
+/* A struct of the thirteen numbers that were handed out. The top is put together without a cast: one of C is none of C++,
+   and would be a warning there. */
 static inline struct bisquemop_settings bisquemop_settings_from(const uint32_t *numbers)
 {
     struct bisquemop_settings s;
+    int32_t low_bits = numbers[7] & INT32_MAX; /* of the top, all but the highest */
     s.glyph = numbers[0];
     s.width = numbers[1];
     s.tab = numbers[2];
@@ -648,7 +650,7 @@ static inline struct bisquemop_settings bisquemop_settings_from(const uint32_t *
     s.paragraph = numbers[4];
     s.base = numbers[5];
     s.height = numbers[6];
-    s.top = numbers[7] <= INT32_MAX ? (int32_t)numbers[7] : -(int32_t)(UINT32_MAX - numbers[7]) - 1;
+    s.top = numbers[7] <= INT32_MAX ? low_bits : low_bits - INT32_MAX - 1;
     s.alignment = numbers[8];
     s.vertical = numbers[9];
     s.leading = numbers[10];
