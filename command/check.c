@@ -1,4 +1,5 @@
 /* bisquemop check: lays all texts of a release, and lists those that lose a character. */
+#include "characters.h"
 #include "command.h"
 #include "findings.h"
 #include "folders.h"
@@ -23,7 +24,7 @@ static const char help[] =
     "  --json           print a document in JSON instead\n"
     "\n"
     "Exit status: 0 nothing is lost or refused; 1 something is; 2 the words are\n"
-    "wrong.\n";
+    "wrong, or there is no file in a folder.\n";
 
 enum { WIDTHS_MAX = 64 };
 
@@ -33,6 +34,7 @@ struct job {
     uint32_t widths[WIDTHS_MAX];
     size_t width_count;
     int in_columns, json;
+    int some_empty; /* a folder has no file in it */
     struct paths files;
 };
 
@@ -89,9 +91,16 @@ static void take_option(struct words *words, struct job *job)
 
 static void take_folder(struct words *words, struct job *job)
 {
+    size_t before = job->files.count;
     int error = add_files(&job->files, words->word);
     if (error) {
         misused(words, "%s: %s", words->word, strerror(error));
+    }
+    if (job->files.count == before) {
+        fprintf(stderr, "bisquemop check: ");
+        print_foreign(stderr, words->word);
+        fprintf(stderr, ": there is no file in it\n");
+        job->some_empty = 1;
     }
 }
 
@@ -127,13 +136,25 @@ static int loses(struct job *job)
     return some;
 }
 
+/* Reads one of the files, or answers that it cannot be used and why. */
+static int read_one(const struct path *path, int chomp, struct trouble *trouble)
+{
+    if (path->error) {
+        text.path = path->name;
+        trouble->error = path->error;
+        trouble->number = BISQUEMOP_OK;
+        return 0;
+    }
+    return read_text_file(path->name, chomp, &text, trouble);
+}
+
 static struct tally check_files(struct job *job)
 {
     struct tally tally = {job->files.count, 0, 0};
     for (size_t k = 0; k < job->files.count; k++) {
         struct trouble trouble;
         show_progress(k, tally.files, tally.lose);
-        if (!read_text(job->files.all[k], job->wanted.chomp, &text, &trouble)) {
+        if (!read_one(&job->files.all[k], job->wanted.chomp, &trouble)) {
             find_refused(&trouble, &text);
             tally.refused++;
         } else if (loses(job)) {
@@ -164,6 +185,9 @@ static int run(struct words *words)
     tally = check_files(&job);
     end_findings(&tally, job.width_count);
     free_paths(&job.files);
+    if (job.some_empty) {
+        return NOT_DONE;
+    }
     return tally.lose > 0 || tally.refused > 0 ? SOME_LOST : ALL_SHOWS;
 }
 

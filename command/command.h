@@ -21,6 +21,10 @@ struct subcommand {
 
 extern const struct subcommand show_command, fit_command, pages_command, file_command, check_command;
 
+/* The status to end by, once all that was to be said is printed to standard output. Where it cannot be, that is said
+   and the status is another one: what could not be printed was not said. */
+int when_printed(int status);
+
 /* Prints the whole help of a subcommand to standard output. */
 void print_help(const struct subcommand *subcommand);
 

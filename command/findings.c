@@ -48,7 +48,7 @@ static void say_lost(const struct laid *laid)
 {
     uint64_t dropped = all_dropped(laid);
     const char *before = "";
-    print_path(stdout, laid->text->path);
+    print_foreign(stdout, laid->text->path);
     printf(": width %" PRIu32 ": ", laid->wanted->settings.width);
     if (dropped > 0) {
         print_count_of_characters(stdout, dropped);
@@ -105,6 +105,8 @@ static void print_refused(const struct trouble *trouble, const struct text *text
         uint64_t line, byte;
         place_in_text(text, trouble->value, &line, &byte);
         printf(", \"offset\": %" PRIu64 ", \"line\": %" PRIu64 ", \"byte\": %" PRIu64, trouble->value, line, byte);
+    } else if (trouble->number == BISQUEMOP_TEXT_TOO_LONG && trouble->value == MORE_THAN_ROOM) {
+        printf(", \"longer_than\": %lu", (unsigned long)sizeof text->bytes);
     } else if (trouble->number == BISQUEMOP_TEXT_TOO_LONG) {
         printf(", \"length\": %" PRIu64, trouble->value);
     }

@@ -4,13 +4,19 @@
 
 #include <stddef.h>
 
+/* A file, or a folder that could not be read to its end: then `error` says why. */
+struct path {
+    char *name;
+    int error;
+};
+
 struct paths {
-    char **all;
+    struct path *all;
     size_t count, room;
 };
 
-/* Adds a file, or all regular files in a folder and in those below it, but hidden ones. A folder that cannot be read is
-   added by itself, so that reading it says why. Answers 0, or errno if there is no such file or folder. */
+/* Adds a file, or all regular files in a folder and in those below it, but hidden ones; and what cannot be read of the
+   folders. Answers 0, or errno if there is no such file or folder. */
 int add_files(struct paths *paths, const char *path);
 
 /* Puts them in the order of their bytes. */

@@ -3,44 +3,51 @@
 
 #include "characters.h"
 
-#include <bisquemop.h>
+#include <inttypes.h>
 #include <stdio.h>
 #include <string.h>
 
-/* How many bytes from the first one on are UTF-8. */
-static size_t valid_bytes(const uint8_t *bytes, size_t len)
+/* A character by its number, which from U+10000 on takes two. */
+static void print_escaped(uint32_t scalar)
 {
-    size_t some = len < BISQUEMOP_TEXT_MAX ? len : BISQUEMOP_TEXT_MAX;
-    uint64_t valid;
-    return bisquemop_check_text(bytes, some, &valid) == BISQUEMOP_OK ? some : (size_t)valid;
+    if (scalar < 0x10000) {
+        printf("\\u%04" PRIx32, scalar);
+    } else {
+        printf("\\u%04" PRIx32 "\\u%04" PRIx32, 0xD7C0 + (scalar >> 10), 0xDC00 + (scalar & 0x3FF));
+    }
 }
 
-static void print_byte(uint8_t byte)
+/* What a terminal would act upon is escaped, since a document may be looked at on one. */
+static void print_piece(const struct piece *piece)
 {
-    if (byte == '"' || byte == '\\') {
-        printf("\\%c", byte);
-    } else if (byte < 0x20 || byte == 0x7F) {
-        printf("\\u%04x", byte);
+    uint32_t scalar = piece->is_character ? scalar_at(piece->at) : 0xFFFD;
+    if (scalar == '"' || scalar == '\\') {
+        printf("\\%c", (char)scalar);
+    } else if (!piece->is_character || is_acted_upon(scalar)) {
+        print_escaped(scalar);
     } else {
-        putchar(byte);
+        fwrite(piece->at, 1, piece->count, stdout);
     }
 }
 
 void print_json_string(const uint8_t *bytes, size_t len)
 {
-    size_t valid = 0;
+    struct bytes all = bytes_of(bytes, len);
+    struct piece piece;
     putchar('"');
-    for (size_t k = 0; k < len; k++) {
-        if (k >= valid) {
-            valid = k + valid_bytes(bytes + k, len - k);
-        }
-        if (k < valid) {
-            print_byte(bytes[k]);
-        } else {
-            printf("\\ufffd");
-        }
+    while (next_piece(&all, &piece)) {
+        print_piece(&piece);
     }
     putchar('"');
+}
+
+static int is_utf8(const uint8_t *bytes, size_t len)
+{
+    struct bytes all = bytes_of(bytes, len);
+    struct piece piece = {bytes, 0, 1};
+    while (piece.is_character && next_piece(&all, &piece)) {
+    }
+    return piece.is_character;
 }
 
 static void print_json_bytes(const uint8_t *bytes, size_t len)
@@ -58,7 +65,7 @@ void print_json_path(const char *path)
     size_t len = strlen(path);
     printf("\"path\": ");
     print_json_string(bytes, len);
-    if (valid_bytes(bytes, len) < len) {
+    if (!is_utf8(bytes, len)) {
         printf(", \"path_bytes\": ");
         print_json_bytes(bytes, len);
     }

@@ -41,7 +41,7 @@ static void failed(const char *path)
 {
     int error = errno;
     fprintf(stderr, "bisquemop file: ");
-    print_path(stderr, path);
+    print_foreign(stderr, path);
     fprintf(stderr, ": cannot be written: %s\n", strerror(error));
     exit(NOT_DONE);
 }
@@ -66,7 +66,7 @@ static void write_bytes(const char *path)
 static int say_written(const char *path)
 {
     uint64_t dropped = all_dropped(&laid);
-    print_path(stderr, strcmp(path, "-") == 0 ? "standard output" : path);
+    print_foreign(stderr, strcmp(path, "-") == 0 ? "standard output" : path);
     fprintf(stderr, ": %" PRIu64 " bytes, %" PRIu64 " %s", len, laid.lines, laid.lines == 1 ? "line" : "lines");
     if (dropped > 0) {
         fprintf(stderr, "; ");
@@ -105,7 +105,8 @@ static int write_layout(struct words *words)
 
 /* ---- read */
 
-/* Reads a layout file into the bytes, or says why not. One that is longer than any has no end where one would be. */
+/* Reads a layout file into the bytes, or says why not. One that is longer than any has no end where one would be, and
+   is not read to its own. */
 static int read_in(const char *path, struct trouble *trouble)
 {
     trouble->number = BISQUEMOP_OK;

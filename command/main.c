@@ -4,14 +4,18 @@
  *
  * Here its first word is looked at; each subcommand has a file of its own.
  */
+#define _POSIX_C_SOURCE 200809L
+#include "characters.h"
 #include "command.h"
 #include "nearest.h"
 #include "settings.h"
 
 #include <errno.h>
+#include <fcntl.h>
 #include <stdio.h>
 #include <stdlib.h>
 #include <string.h>
+#include <unistd.h>
 
 static const struct subcommand *const subcommands[] = {&show_command, &fit_command, &pages_command, &file_command,
                                                        &check_command};
@@ -50,7 +54,8 @@ static const struct subcommand *find_subcommand(const char *name)
 
 static int unknown_word(const char *word)
 {
-    fprintf(stderr, "bisquemop: there is no subcommand %s", word);
+    fprintf(stderr, "bisquemop: there is no subcommand ");
+    print_foreign(stderr, word);
     for (int k = 0; k < SUBCOMMANDS; k++) {
         if (is_near(word, subcommands[k]->name)) {
             fprintf(stderr, "; is it %s?", subcommands[k]->name);
@@ -99,13 +104,30 @@ static int run(int count, char **all)
     return words.of ? words.of->run(&words) : unknown_word(all[1]);
 }
 
-/* What could not be printed was not said. */
-int main(int count, char **all)
+/* ---- the streams */
+
+/* A stream that is closed would be the next file that is opened. In its place stands one that can be read where it
+   should be written, and written where it should be read, so that it fails as a closed one does. */
+static void hold_streams(void)
 {
-    int status = run(count, all);
+    for (int stream = STDIN_FILENO; stream <= STDERR_FILENO; stream++) {
+        if (fcntl(stream, F_GETFD) == -1 && open("/dev/null", stream == STDIN_FILENO ? O_WRONLY : O_RDONLY) == -1) {
+            exit(NOT_DONE);
+        }
+    }
+}
+
+int when_printed(int status)
+{
     if (fflush(stdout) != 0 || ferror(stdout)) {
         fprintf(stderr, "bisquemop: standard output: %s\n", strerror(errno));
         return NOT_DONE;
     }
     return status;
+}
+
+int main(int count, char **all)
+{
+    hold_streams();
+    return when_printed(run(count, all));
 }

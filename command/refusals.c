@@ -53,15 +53,24 @@ static void say_not_utf8(FILE *out, uint64_t offset, const struct text *text)
             byte, line, offset, text->bytes[offset]);
 }
 
+static void say_too_long(FILE *out, uint64_t length, const struct text *text)
+{
+    if (length == MORE_THAN_ROOM) {
+        fprintf(out, "text too long: it has more than %lu bytes", (unsigned long)sizeof text->bytes);
+    } else {
+        fprintf(out, "text too long: it has %" PRIu64 " bytes", length);
+    }
+    fprintf(out, ", and a text at most %d; part it\n", BISQUEMOP_TEXT_MAX);
+}
+
 void say_text_trouble(FILE *out, const struct trouble *trouble, const struct text *text)
 {
-    print_path(out, text->path);
+    print_foreign(out, text->path);
     fprintf(out, ": ");
     if (trouble->error) {
         fprintf(out, "cannot be read: %s\n", strerror(trouble->error));
     } else if (trouble->number == BISQUEMOP_TEXT_TOO_LONG) {
-        fprintf(out, "text too long: it has %" PRIu64 " bytes, and a text at most %d; part it\n", trouble->value,
-                BISQUEMOP_TEXT_MAX);
+        say_too_long(out, trouble->value, text);
     } else if (trouble->number == BISQUEMOP_NOT_UTF8) {
         say_not_utf8(out, trouble->value, text);
     } else {
@@ -71,10 +80,13 @@ void say_text_trouble(FILE *out, const struct trouble *trouble, const struct tex
 
 /* ---- layout files */
 
-static const char *file_advice(uint32_t number)
+static const char *file_advice(const struct trouble *trouble)
 {
-    switch (number) {
+    switch (trouble->number) {
     case BISQUEMOP_BAD_FIELD:
+        if (trouble->value == BISQUEMOP_FILE_BYTES(BISQUEMOP_LINES_MAX)) {
+            return "no layout file has more bytes; the file is damaged, or none; write it again";
+        }
         return "the file is damaged, or no layout file; write it again";
     case BISQUEMOP_OLD_ENTRY:
         return "the line has ten numbers, as lines had once; lay the text again and write it anew";
@@ -112,7 +124,7 @@ static const char *file_place(uint32_t number)
 void say_file_trouble(FILE *out, const struct trouble *trouble, const char *path)
 {
     const char *place = file_place(trouble->number);
-    print_path(out, path);
+    print_foreign(out, path);
     if (trouble->error) {
         fprintf(out, ": cannot be read: %s\n", strerror(trouble->error));
         return;
@@ -121,7 +133,7 @@ void say_file_trouble(FILE *out, const struct trouble *trouble, const char *path
     if (place) {
         fprintf(out, ", %s%" PRIu64, place, trouble->value);
     }
-    fprintf(out, ": %s\n", file_advice(trouble->number));
+    fprintf(out, ": %s\n", file_advice(trouble));
 }
 
 void must(uint32_t number, uint64_t value)

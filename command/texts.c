@@ -1,4 +1,5 @@
 /* Reading a text from a file. */
+#define _POSIX_C_SOURCE 200809L
 #include "texts.h"
 
 #include "command.h"
@@ -8,36 +9,45 @@
 #include <stdio.h>
 #include <stdlib.h>
 #include <string.h>
+#include <sys/stat.h>
 
-/* Reads to the end of a file. What has no room is counted. */
-static int read_all(FILE *file, uint8_t *bytes, size_t room, uint64_t *len)
+/* How many bytes there are where `count` have been read and there are more: a file's own number says how many. */
+static uint64_t count_all(FILE *file, uint64_t count)
 {
-    uint8_t piece[4096];
-    size_t count, kept = 0;
-    *len = 0;
-    while ((count = fread(piece, 1, sizeof piece, file)) > 0) {
-        size_t keep = count < room - kept ? count : room - kept;
-        memcpy(bytes + kept, piece, keep);
-        kept += keep;
-        *len += count;
+    struct stat itself;
+    off_t at = ftello(file);
+    if (at >= 0 && fstat(fileno(file), &itself) == 0 && S_ISREG(itself.st_mode) && itself.st_size >= at) {
+        return count + (uint64_t)(itself.st_size - at);
+    }
+    return MORE_THAN_ROOM;
+}
+
+/* Reads as far as there is room, and a byte more to learn whether that is all. */
+static int read_some(FILE *file, uint8_t *bytes, size_t room, uint64_t *len)
+{
+    *len = fread(bytes, 1, room, file);
+    if (*len == room && getc(file) != EOF) {
+        *len = count_all(file, room + 1);
+        return 0;
     }
     return ferror(file) ? errno : 0;
 }
 
-int read_bytes(const char *path, uint8_t *bytes, size_t room, uint64_t *len)
+static int read_file(const char *path, uint8_t *bytes, size_t room, uint64_t *len)
 {
-    FILE *file;
+    FILE *file = fopen(path, "rb");
     int error;
-    if (strcmp(path, "-") == 0) {
-        return read_all(stdin, bytes, room, len);
-    }
-    file = fopen(path, "rb");
     if (!file) {
         return errno;
     }
-    error = read_all(file, bytes, room, len);
+    error = read_some(file, bytes, room, len);
     fclose(file);
     return error;
+}
+
+int read_bytes(const char *path, uint8_t *bytes, size_t room, uint64_t *len)
+{
+    return strcmp(path, "-") == 0 ? read_some(stdin, bytes, room, len) : read_file(path, bytes, room, len);
 }
 
 static void take_last_line_feed(struct text *text)
@@ -47,13 +57,13 @@ static void take_last_line_feed(struct text *text)
     }
 }
 
-int read_text(const char *path, int chomp, struct text *text, struct trouble *trouble)
+/* Checks a text that was read, by what reading it answered. */
+static int is_text(int error, int chomp, struct text *text, struct trouble *trouble)
 {
-    text->path = path;
     trouble->number = BISQUEMOP_OK;
     trouble->value = 0;
-    trouble->error = read_bytes(path, text->bytes, sizeof text->bytes, &text->len);
-    if (trouble->error) {
+    trouble->error = error;
+    if (error) {
         return 0;
     }
     if (chomp) {
@@ -68,13 +78,22 @@ int read_text(const char *path, int chomp, struct text *text, struct trouble *tr
     return trouble->number == BISQUEMOP_OK;
 }
 
+int read_text_file(const char *path, int chomp, struct text *text, struct trouble *trouble)
+{
+    text->path = path;
+    return is_text(read_file(path, text->bytes, sizeof text->bytes, &text->len), chomp, text, trouble);
+}
+
 void must_read_text(const struct words *words, const char *path, int chomp, struct text *text)
 {
     struct trouble trouble;
+    int error;
     if (!path) {
         misused(words, "give the file of the text, or - for standard input");
     }
-    if (!read_text(path, chomp, text, &trouble)) {
+    text->path = path;
+    error = read_bytes(path, text->bytes, sizeof text->bytes, &text->len);
+    if (!is_text(error, chomp, text, &trouble)) {
         fprintf(stderr, "bisquemop %s: ", words->of->name);
         say_text_trouble(stderr, &trouble, text);
         exit(NOT_DONE);

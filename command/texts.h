@@ -18,14 +18,17 @@ struct text {
     uint64_t len;                          /* of the file; more than the bytes that are kept if it is too long */
 };
 
-/* Reads all of a file, or of standard input for -, and keeps as many bytes as there is room for. *len is how many there
-   are. Answers 0 or errno. */
+/* A length that is not known, but that there is no room for it: that of a device or a pipe, which may have no end. */
+#define MORE_THAN_ROOM UINT64_MAX
+
+/* Reads a file, or standard input for -, as far as there is room. *len is how many bytes it has. Answers 0 or errno. */
 int read_bytes(const char *path, uint8_t *bytes, size_t room, uint64_t *len);
 
-/* Reads a text and checks it. Answers whether it can be used. */
-int read_text(const char *path, int chomp, struct text *text, struct trouble *trouble);
+/* Reads the text of a file and checks it; a path of - is a file of that name. Answers whether it can be used. */
+int read_text_file(const char *path, int chomp, struct text *text, struct trouble *trouble);
 
-/* Reads a text, or says why not and ends the program. A path of NULL is a file that was not given. */
+/* Reads a text, of standard input for -, or says why not and ends the program. A path of NULL is a file that was not
+   given. */
 struct words;
 void must_read_text(const struct words *words, const char *path, int chomp, struct text *text);
 

@@ -1,6 +1,7 @@
 /* The words of a subcommand, one after the other. */
 #include "words.h"
 
+#include "characters.h"
 #include "command.h"
 #include "nearest.h"
 #include "settings.h"
@@ -23,7 +24,7 @@ void misused(const struct words *words, const char *format, ...)
     va_list arguments;
     fprintf(stderr, "bisquemop %s: ", words->of->name);
     va_start(arguments, format);
-    vfprintf(stderr, format, arguments);
+    print_sentence(stderr, format, arguments);
     va_end(arguments);
     fprintf(stderr, "\n");
     end_by_help(words);
@@ -76,7 +77,7 @@ enum word next_word(struct words *words)
     part_value(words, word);
     if (is_option(words, "--help") || is_option(words, "-h")) {
         print_help(words->of);
-        exit(ALL_SHOWS);
+        exit(when_printed(ALL_SHOWS));
     }
     return WORD_OPTION;
 }
@@ -141,12 +142,14 @@ long option_number(struct words *words, long least, long most)
 
 static void unknown_choice(const struct words *words, const char *const *names)
 {
-    char list[100] = "";
+    fprintf(stderr, "bisquemop %s: %s ", words->of->name, words->word);
+    print_foreign(stderr, words->given);
+    fprintf(stderr, " is not known; choose one of");
     for (; *names; names++) {
-        size_t used = strlen(list);
-        snprintf(list + used, sizeof list - used, " %s", *names);
+        fprintf(stderr, " %s", *names);
     }
-    misused(words, "%s %s is not known; choose one of%s", words->word, words->given, list);
+    fprintf(stderr, "\n");
+    end_by_help(words);
 }
 
 unsigned option_choice(struct words *words, const char *const *names)

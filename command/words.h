@@ -40,7 +40,7 @@ int read_number(const char *text, long *number);
 /* The operand at hand, if it is the first: `before` is NULL then. */
 const char *only_operand(const struct words *words, const char *before);
 
-/* Says what is wrong with the words and which help to read, and ends the program. */
+/* Says what is wrong with the words and which help to read, and ends the program. The format is print_sentence's. */
 void misused(const struct words *words, const char *format, ...) __attribute__((format(printf, 2, 3), noreturn));
 
 /* The same for an option that the subcommand does not have. */

@@ -637,8 +637,8 @@ static inline uint32_t bisquemop_settings_write_file(const struct bisquemop_sett
 uint32_t bisquemop_read_file(const uint8_t *file, uint64_t file_len, uint32_t *settings, uint64_t settings_len,
                              uint32_t *table, uint64_t table_len, uint64_t *value, uint64_t *text_len);
 
-/* A struct of the thirteen numbers that were handed out. The top is put together without a cast: one of C is none of C++,
-   and would be a warning there. */
+/* A struct of the thirteen numbers that were handed out. The top is put together without a cast, since one of
+   C would be a warning in C++. */
 static inline struct bisquemop_settings bisquemop_settings_from(const uint32_t *numbers)
 {
     struct bisquemop_settings s;
