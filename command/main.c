@@ -117,6 +117,13 @@ static void hold_streams(void)
     }
 }
 
+/* A line of an error goes out at once, so that it stays whole where others write beside it. */
+static void keep_lines_whole(void)
+{
+    static char line[BUFSIZ];
+    setvbuf(stderr, line, _IOLBF, sizeof line);
+}
+
 int when_printed(int status)
 {
     if (fflush(stdout) != 0 || ferror(stdout)) {
@@ -129,5 +136,6 @@ int when_printed(int status)
 int main(int count, char **all)
 {
     hold_streams();
+    keep_lines_whole();
     return when_printed(run(count, all));
 }

@@ -42,6 +42,7 @@ void show_progress(uint64_t files_done, uint64_t files, uint64_t lose)
     if (isatty(STDERR_FILENO) && (last_shown == 0 || now - last_shown >= 100)) {
         fprintf(stderr, "\r\033[K%" PRIu64 " of %" PRIu64 " files, %" PRIu64 " lose characters", files_done, files,
                 lose);
+        fflush(stderr);
         last_shown = now;
         is_shown = 1;
     }
@@ -51,6 +52,7 @@ void clear_progress(void)
 {
     if (is_shown) {
         fprintf(stderr, "\r\033[K");
+        fflush(stderr);
         is_shown = 0;
     }
 }
