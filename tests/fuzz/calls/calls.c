@@ -186,8 +186,16 @@ static void lend_index(void)
     put_into(SECOND, ys, (size_t)count * sizeof ys[0]);
 }
 
-/* The offset in a file of the setting that is retired. */
-enum { RETIRED_AT = 47 };
+/* The offset in a file of the setting that is retired, and that of its first line; and how many bytes a line has. */
+enum { RETIRED_AT = 47, LINES_AT = 62, FILE_LINE = 47 };
+
+/* The file is cut behind one of its lines that has ten numbers, as lines had once. Answers its length. */
+static uint64_t make_old(void)
+{
+    size_t at = LINES_AT + FILE_LINE * (size_t)below((uint32_t)given.lines);
+    bytes[at + 1] = FILE_LINE - 3 - 4;
+    return at + FILE_LINE - 4;
+}
 
 static void lend_file(void)
 {
@@ -197,6 +205,8 @@ static void lend_file(void)
     if (bisquemop_settings_write_file(&given.s, table, sizeof table / sizeof table[0], given.lines, bytes, sizeof bytes,
                                       &len) != BISQUEMOP_OK) {
         len = below(200);
+    } else if (one_in(8)) {
+        len = make_old();
     }
     lend(OTHER, (size_t)(one_in(8) ? len - below(8) % (len + 1) : len));
     put_into(OTHER, bytes, (size_t)len);
