@@ -1,4 +1,5 @@
 // Laying a text again after an edit: a public call.
+// A table is lent with a count of lines beside it, as C lends it: the count may be past the table, and refusal 5 answers that.
 ghost use Rattle.std.specs.Prelude.{◌≡◌, length, Ok};
 ghost use Rattle.meaning.specs.Table.{entries_in};
 ghost use Rattle.meaning.specs.Edit.{unaffected};
@@ -34,25 +35,21 @@ fn lay_lines(
     ensures table_after { table.new ≡ relay_table s part.now table.old lines edit }
 {
     let e = read_entry(table, k);
-    let first = e.before;
-    let front = at_front(part, first, held_of(part, e));
+    let front = at_front(part, e.before, held_of(part, e));
     let base = e.start;
     let found = find_stop(part, s, table, lines, k, base, edit, front);
-    let kept = found.kept;
-    let left = lines - kept;
+    let left = lines - found.kept;
     let to = k + found.laid;
     let after = to + left;
     if table.len() / ENTRY_NUMBERS < after {
         return Err(Refusal::TooSmall(after as u64));
     }
-    let from = count_before(table, lines, kept);
-    let now = found.before;
     let shift = Shift {
         edit,
-        from,
-        to: now,
+        from: count_before(table, lines, found.kept),
+        to: found.before,
     };
-    move_lines(table, kept, to, left, shift);
+    move_lines(table, found.kept, to, left, shift);
     write_again(part, s, table, base, k, found.laid, front);
     Ok(Relaid {
         lines: after as u64,

@@ -1,4 +1,5 @@
 // Where laying again stops: at the first line that an old line meets, or at the text's end. Nothing is written.
+// A table goes with the number of its lines beside it: heights says at `height_of` why.
 ghost use Rattle.std.specs.Prelude.{◌+◌, ◌*◌, ◌≤◌, ◌≡◌, length};
 ghost use Rattle.meaning.specs.Table.{entry_numbers, entries_in};
 ghost use Rattle.again.specs.Relaid.{count_of};
@@ -89,7 +90,8 @@ pub fn count_before(table: &[u32], lines: usize, j: usize) -> Chars
     Chars(count)
 }
 
-// Lays lines from a stand on, before each of which the old lines from line k on are looked at.
+// Lays lines from a stand on, before each of which the old lines from line k on are looked at. It ends where the text or a line met ends
+// it, so it is no `for`.
 pub fn find_stop(
     part: &[u8],
     s: Settings,
@@ -111,8 +113,7 @@ pub fn find_stop(
         let first = base.0 + stand.at.0;
         let start = Offset(first);
         j = skip_before(table, lines, j, edit, start);
-        let held = stand.rest;
-        let rest = rest_behind(base, held);
+        let rest = rest_behind(base, stand.rest);
         if meets_first(table, lines, j, edit, start, rest) {
             return found_at(n, j, stand.before);
         }

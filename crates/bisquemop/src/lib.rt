@@ -1,4 +1,5 @@
-// The calls for C, as a library; bisquemop_c hands each on to C. include/bisquemop.h says what each one does.
+// The calls for C, as a library; bisquemop_c hands each on to C. include/bisquemop.h says what each one does. Calls that look alike
+// (an index and a file, a width that fits and one that is planned) do since C passes the settings as thirteen numbers to each.
 #![tactic(auto)]
 
 ghost use Rattle.std.specs.Prelude.{◌≡◌};
@@ -16,9 +17,7 @@ use c_answers::drawn::{drawing_count, drawing_value};
 use c_answers::fitted::{
     choosing_left, choosing_value, choosing_which, fitting_value, paging_count, paging_value,
 };
-use c_answers::placed::{
-    found_value, frame_rest_count, frame_rest_end, frame_value, put_y, y_value,
-};
+use c_answers::placed::{found_value, frame_value, put_rest, put_y, y_value};
 use c_answers::read::{reading_length, reading_value};
 use c_answers::relaid::{relay_count, relay_value};
 use c_given::settings_from;
@@ -227,8 +226,7 @@ pub fn bisquemop_one_line(
     };
     let answer = one_line(s, text, start, rest, entry);
     *value = frame_value(answer);
-    *stops = frame_rest_end(answer, *stops);
-    *counts = frame_rest_count(answer, *counts);
+    put_rest(answer, stops, counts);
     answer_number(&answer)
 }
 

@@ -3,7 +3,7 @@
 use Rattle.std.specs.Prelude.{ℕ, ◌+◌, ◌≤◌, ◌≡◌, true, false, List, ◌∷◌, length, None, Option, Some}
 use Rattle.std.proofs.Common.{arith, sym, ◌∙◌}
 use Rattle.std.proofs.Math.Path.{refl, ap}
-use Rattle.meaning.specs.Tokens.{Tok, tokens, chars_of, size_of, kind_of, count_of}
+use Rattle.meaning.specs.Tokens.{Tok, tokens, size_of, kind_of, count_of}
 use Rattle.meaning.specs.Cursor.{fits_in, advance}
 use Rattle.meaning.specs.SpaceConfig.{spaces_after}
 use Rattle.meaning.specs.Lookahead.{next_fits}
@@ -16,11 +16,11 @@ use Rattle.meaning.specs.declared.settings.Settings.{Settings}
 use Rattle.meaning.specs.declared.cursor.LineCursor.{LineCursor}
 use Rattle.meaning.specs.declared.cursor.Spaces.{Spaces}
 use Rattle.meaning.specs.declared.cursor.Place.{Place}
-use Rattle.laws.specs.Spell.{spell, SoundTok}
+use Rattle.laws.specs.Spell.{SoundTok}
 use Rattle.laws.specs.TokenLaws.{tokens_cover, tokens-sound, chars-size}
 use Rattle.parser.specs.Lexing.{chars_from, lexeme_at}
 use Rattle.parser.specs.declared.lexeme.Lexeme.{Lexeme}
-use Rattle.moves.specs.FineLaws.{fits-room, advance_fine, spaces_fine}
+use Rattle.moves.specs.FineLaws.{advance_fine, spaces_fine}
 use Rattle.moves.specs.Fine.{FineCursor, FineSpaces}
 use Rattle.steps.specs.Stepping.{look_of, tok_of}
 use Rattle.steps.specs.Lexed.{counts-chars}

@@ -3,7 +3,7 @@
 use Rattle.std.specs.Prelude.{ℕ, ◌+◌, ◌≤◌, max, ◌≡◌, Bool, true, false, length}
 use native.Mathlib.Omega.{arith}
 use mathlib.Core.List.{List, [], ◌∷◌, ◌++◌}
-use Rattle.utf8.specs.Encoding.{bytes, size}
+use Rattle.utf8.specs.Encoding.{size}
 use Rattle.meaning.specs.Tokens.{Tok, newLine, carriageReturn, tab, softHyphen, space, word, ender, size_of, ender_of, need_of, kind_of, count_of}
 use Rattle.meaning.specs.Cursor.{fits_in, advance}
 use Rattle.meaning.specs.SpaceConfig.{spaces_after}

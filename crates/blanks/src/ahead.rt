@@ -22,18 +22,17 @@ fn look_beyond(
     requires { LookReady s p text.now at x seen × White x.kind }
     ensures { ForeseesAfter s p text.now x result }
 {
-    let cursor = p.cursor;
     if p.empty {
         return None;
     }
-    let width = white_width(x.kind, x.count.0, cursor, p.spaces);
-    if !fits(cursor, width) {
+    let width = white_width(x.kind, x.count.0, p.cursor, p.spaces);
+    if !fits(p.cursor, width) {
         return None;
     }
     if let Some(look) = seen {
         return Some(look);
     }
-    let next = advanced(cursor, width);
+    let next = advanced(p.cursor, width);
     let left = spaces_after(p.spaces, x.count.0);
     Some(next_word_fits(text, x.end.0 as usize, s.glyph.0, next, left))
 }

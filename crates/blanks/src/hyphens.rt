@@ -25,11 +25,10 @@ fn hyphenated(s: Settings, p: Place, at: usize, m: Measure, reach: Offset) -> St
     requires { FineSettings s × FinePlace p × Small at m × (at + 2 ≤ 65535) }
     ensures { result ≡ stepped_at m at softHyphen (meant.hyphenated s p at reach.0) }
 {
-    let glyph = s.glyph;
-    if fits(p.cursor, glyph.0) {
-        let after = noted_print(m, glyph);
+    if fits(p.cursor, s.glyph.0) {
+        let after = noted_print(m, s.glyph);
         if p.empty {
-            return Stepped::Go(moved_on(p, glyph.0), after, reach);
+            return Stepped::Go(moved_on(p, s.glyph.0), after, reach);
         }
         let next = Offset(at as u32 + 2);
         return Stepped::Stop(ends_before(LineEnd::LineBreak, after, next, Chars(0), reach));
@@ -57,13 +56,11 @@ pub fn on_break(text: &[u8], s: Settings, p: Place, at: usize, x: Lexeme, m: Mea
     ensures { result ≡ step_from s p text.now at x m }
 {
     let ahead = next_word_width(text, x.end.0 as usize, s.glyph.0);
-    let reach = ahead.reach;
-    let next = ahead.width;
-    let Some(w) = next else {
-        return Stepped::Go(p, m, reach);
+    let Some(w) = ahead.width else {
+        return Stepped::Go(p, m, ahead.reach);
     };
     if shows(p, w.0) {
-        return hyphenated(s, p, at, m, reach);
+        return hyphenated(s, p, at, m, ahead.reach);
     }
-    Stepped::Go(p, m, reach)
+    Stepped::Go(p, m, ahead.reach)
 }

@@ -121,12 +121,11 @@ pub fn on_space(
     requires { Ready s p text.now at x m × (x.kind ≡ Whitespace) × ForeseesAfter s p text.now x seen }
     ensures { result ≡ step_from s p text.now at x m }
 {
-    let count = x.count;
-    let used = used_up(p, count.0);
+    let used = used_up(p, x.count.0);
     if skips_space(s, p) {
-        return Stepped::Go(used, noted_space(m, count, Pixels(0)), Offset(0));
+        return Stepped::Go(used, noted_space(m, x.count, Pixels(0)), Offset(0));
     }
-    let width = spaces_width(p.spaces, count.0);
+    let width = spaces_width(p.spaces, x.count.0);
     if fits(p.cursor, width) {
         return whole_run(text, s, moved_on(used, width), x, width, m, seen);
     }

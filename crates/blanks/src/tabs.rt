@@ -32,14 +32,13 @@ pub fn on_tab(
     if skips_space(s, p) {
         return Stepped::Go(p, m, Offset(0));
     }
-    let cursor = p.cursor;
-    let width = tab_width(cursor);
-    if fits(cursor, width) {
+    let width = tab_width(p.cursor);
+    if fits(p.cursor, width) {
         let q = moved_on(p, width);
         let look = draws_space(text, s, q, x.end.0 as usize, seen);
         return Stepped::Go(q, noted_space(m, Chars(0), Pixels(width)), look.reach);
     }
-    let left = room(cursor);
+    let left = room(p.cursor);
     let edge = moved_on(p, left);
     Stepped::Go(edge, noted_space(m, Chars(0), Pixels(left)), Offset(0))
 }

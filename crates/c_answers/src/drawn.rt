@@ -9,18 +9,12 @@ use meaning::refusals::Refusal;
 pub fn drawing_value(a: Result<Drawing, Refusal>) -> u64
     ensures { result ≡ drawingValue a }
 {
-    match a {
-        Ok(drawing) => drawing.lines,
-        Err(refusal) => value(refusal),
-    }
+    a.map_or_else(value, |drawing| drawing.lines)
 }
 
 // The count of events, and where the call was refused the number that the caller had there.
 pub fn drawing_count(a: Result<Drawing, Refusal>, old: u64) -> u64
     ensures { result ≡ drawingCount a old }
 {
-    match a {
-        Ok(drawing) => drawing.events,
-        Err(_) => old,
-    }
+    a.map_or(old, |drawing| drawing.events)
 }

@@ -41,27 +41,18 @@ pub fn choosing_left(a: Result<Chosen, Refusal>, old: u64) -> u64
 pub fn paging_value(a: Result<Paged, Refusal>) -> u64
     ensures { result ≡ pagingValue a }
 {
-    match a {
-        Ok(paged) => paged.lines,
-        Err(refusal) => value(refusal),
-    }
+    a.map_or_else(value, |paged| paged.lines)
 }
 
 // The count of pages, and where the call was refused the number that the caller had there.
 pub fn paging_count(a: Result<Paged, Refusal>, old: u64) -> u64
     ensures { result ≡ pagingCount a old }
 {
-    match a {
-        Ok(paged) => paged.pages,
-        Err(_) => old,
-    }
+    a.map_or(old, |paged| paged.pages)
 }
 
 pub fn fitting_value(a: Result<bool, Refusal>) -> u64
     ensures { result ≡ fittingValue a }
 {
-    match a {
-        Ok(fits) => fits as u64,
-        Err(refusal) => value(refusal),
-    }
+    a.map_or_else(value, |fits| fits as u64)
 }

@@ -10,28 +10,17 @@ use meaning::sizes::NO_LINE;
 pub fn frame_value(a: Result<NextLine, Refusal>) -> u64
     ensures { result ≡ frameValue a }
 {
-    match a {
-        Ok(next) => next.start.0 as u64,
-        Err(refusal) => value(refusal),
-    }
+    a.map_or_else(value, |next| next.start.0 as u64)
 }
 
-// The end and the count of the next line's rest, and where the call was refused the number that the caller had there.
-pub fn frame_rest_end(a: Result<NextLine, Refusal>, old: u32) -> u32
-    ensures { result ≡ frameRestEnd a old }
+// The end and the count of the next line's rest are written only where the call was done.
+pub fn put_rest(a: Result<NextLine, Refusal>, stops: &mut u32, counts: &mut u32)
+    ensures stops_after { stops.new ≡ frameRestEnd a stops.old }
+    ensures counts_after { counts.new ≡ frameRestCount a counts.old }
 {
-    match a {
-        Ok(next) => next.rest.end.0,
-        Err(_) => old,
-    }
-}
-
-pub fn frame_rest_count(a: Result<NextLine, Refusal>, old: u32) -> u32
-    ensures { result ≡ frameRestCount a old }
-{
-    match a {
-        Ok(next) => next.rest.count.0,
-        Err(_) => old,
+    if let Ok(next) = a {
+        *stops = next.rest.end.0;
+        *counts = next.rest.count.0;
     }
 }
 

@@ -9,18 +9,12 @@ use meaning::refusals::Refusal;
 pub fn reading_value(a: Result<FileRead, Refusal>) -> u64
     ensures { result ≡ readingValue a }
 {
-    match a {
-        Ok(read) => read.lines,
-        Err(refusal) => value(refusal),
-    }
+    a.map_or_else(value, |read| read.lines)
 }
 
 // The length of the text, and where the call was refused the number that the caller had there.
 pub fn reading_length(a: Result<FileRead, Refusal>, old: u64) -> u64
     ensures { result ≡ readingLength a old }
 {
-    match a {
-        Ok(read) => read.bytes,
-        Err(_) => old,
-    }
+    a.map_or(old, |read| read.bytes)
 }

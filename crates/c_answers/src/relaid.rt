@@ -9,18 +9,12 @@ use meaning::refusals::Refusal;
 pub fn relay_value(a: Result<Relaid, Refusal>) -> u64
     ensures { result ≡ relayValue a }
 {
-    match a {
-        Ok(relaid) => relaid.lines,
-        Err(refusal) => value(refusal),
-    }
+    a.map_or_else(value, |relaid| relaid.lines)
 }
 
 // The count of lines laid, and where the call was refused the number that the caller had there.
 pub fn relay_count(a: Result<Relaid, Refusal>, old: u64) -> u64
     ensures { result ≡ relayCount a old }
 {
-    match a {
-        Ok(relaid) => relaid.laid,
-        Err(_) => old,
-    }
+    a.map_or(old, |relaid| relaid.laid)
 }

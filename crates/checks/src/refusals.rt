@@ -12,6 +12,7 @@ pub fn number(r: Refusal) -> u32
     u32::from(r)
 }
 
+// What goes besides the number: no number of a kind, since most refusals have none or another one each time.
 pub fn value(r: Refusal) -> u64
     ensures { result ≡ besides r }
 {

@@ -1,13 +1,13 @@
 -- The tests of the call that chooses between two texts, in their order, and what each leaves; what is chosen.
 -- Rule 10, refusal 1, refusal 2, refusal 3, refusal 4.
 -- Assumes nothing.
-use Rattle.std.specs.Prelude.{ℕ, ◌≤◌, ◌≡◌, true, false, Err, Ok}
+use Rattle.std.specs.Prelude.{ℕ, ◌≡◌, true, false, None, Err, Ok}
 use Rattle.meaning.specs.declared.answers.Chosen.TheVariants as chosen
 use Rattle.std.proofs.Math.Path.{sym, ap}
-use Rattle.std.proofs.Common.{subst, ◌∙◌}
+use Rattle.std.proofs.Common.{subst, ◌∙◌, arith}
 use mathlib.Core.List.{List, [], ◌∷◌}
 use Rattle.std.proofs.Math.ListN.{length, take}
-use Rattle.std.proofs.Math.Seq.{length-take-le}
+use Rattle.std.proofs.Math.Seq.{length-take-le, take_all}
 use Rattle.basis.specs.Choice.{pick, pick_true, pick-false}
 use Rattle.utf8.specs.Decoding.{decode_all}
 use Rattle.utf8.specs.Places.{boundary}
@@ -20,18 +20,8 @@ use Rattle.meaning.specs.declared.refusals.Refusal.{Refusal}
 use Rattle.choosing.specs.ChosenPart.{taken-within}
 use Rattle.laws.specs.PageBoundaries.{taken-boundary}
 use Rattle.laws.specs.TestOrder.{first_alone, none_refuses, three-good}
-use Rattle.checks.specs.LimitLaws.{limit-some}
 use Rattle.rows.specs.GoodInput.{text-ready}
-use Rattle.choosing.specs.Taking.{Takeable, taken}
-use Rattle.choosing.specs.declared.taken.Taken.{Taken}
-
-pub end_is : (s : Settings) (h : ℕ) (t : List ℕ) (x : Taken) → x ≡ taken s h t → x.end.0 ≡ taken_bytes s h (decode_all t)
-unfolding taken
-end_is s h t x e = ap (λ (y : Taken). y.end.0) e
-
-pub whole_is : (s : Settings) (h : ℕ) (t : List ℕ) (x : Taken) → x ≡ taken s h t → x.whole ≡ within_lines s h (decode_all t)
-unfolding taken
-whole_is s h t x e = ap (λ (y : Taken). y.whole) e
+use Rattle.choosing.specs.Taking.{Takeable, taken, all_taken}
 
 module _ (s : Settings) (h : ℕ) (long short : List ℕ) where
   -- ---- the tests
@@ -61,27 +51,22 @@ module _ (s : Settings) (h : ℕ) (long short : List ℕ) where
   -- ---- where nothing is refused
 
   module _ (good : check_choosing s h long short ≡ Ok tt) where
-    some : 1 ≤ h
-    unfolding check_choosing
-    some = limit-some h (none_refuses (check_limit h) _ good).0
-
     others-good : (check_settings s ≡ Ok tt) × (check_text long ≡ Ok tt) × (check_text short ≡ Ok tt)
     unfolding check_choosing
     others-good = three-good (check_settings s) (check_text long) (check_text short) (none_refuses (check_limit h) _ good).1
 
-    takeable : (t : List ℕ) → check_text t ≡ Ok tt → Takeable s h t
+    takeable : (t : List ℕ) → check_text t ≡ Ok tt → Takeable s t
     unfolding check_text
     takeable t e =
         record {
           ready = text-ready s others-good.0 t e;
           utf8 = (none_refuses (check_utf8 t) [] (none_refuses (check_length (length t)) (check_utf8 t ∷ []) e).1).0;
-          some = some;
         }
 
-    pub long-takeable : Takeable s h long
+    pub long-takeable : Takeable s long
     long-takeable = takeable long others-good.1
 
-    pub short-takeable : Takeable s h short
+    pub short-takeable : Takeable s short
     short-takeable = takeable short others-good.2
 
   -- ---- the part
@@ -93,6 +78,10 @@ module _ (s : Settings) (h : ℕ) (long short : List ℕ) where
   pub part-short : false ≡ within_lines s h (decode_all long) → (n : ℕ) → n ≡ taken_bytes s h (decode_all short) → take n short ≡ chosen_part s h long short
   unfolding chosen_part
   part-short e n is = ap (λ (k : ℕ). take k short) is ∙ sym (pick-false _ _ _ (sym e))
+
+  -- The short text is within the limit too.
+  pub part_all : false ≡ within_lines s h (decode_all long) → check_utf8 short ≡ Ok tt → None ≡ taken s h short → short ≡ chosen_part s h long short
+  part_all e good none = sym (take_all (length short) short (omega arith)) ∙ part-short e (length short) (sym (all_taken s h short good none))
 
   -- ---- the answer
 

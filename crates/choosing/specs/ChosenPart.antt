@@ -1,9 +1,8 @@
 -- The long text or the short one: which it is, and what is handed back of it and left out (rule 10).
 -- Assumes nothing.
-use Rattle.std.specs.Prelude.{ℕ, ◌≤◌, ◌<◌, ◌≡◌, true, List, ◌∷◌, ◌++◌, take, drop, Err, Ok, Result}
+use Rattle.std.specs.Prelude.{ℕ, ◌≤◌, ◌<◌, ◌≡◌, true, List, ◌∷◌, ◌++◌, take, drop, Ok}
 use Rattle.meaning.specs.declared.answers.Chosen.TheVariants as chosen
 use Rattle.meaning.specs.declared.answers.Chosen.{Chosen}
-use Rattle.meaning.specs.declared.refusals.Refusal.{Refusal}
 use Rattle.std.proofs.Math.Path.{sym}
 use Rattle.std.proofs.Common.{ap, ◌∙◌, arith, le-leb, take-append-drop, length-take-le}
 use Rattle.std.proofs.Math.Nat.{mul-one, zero-mul, zero-add}

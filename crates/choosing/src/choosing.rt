@@ -30,15 +30,16 @@ fn check_choosing<'a>(s: Settings, long: &'a [u8], short: &'a [u8], h: u32) -> R
 // Part of the long text or of the short one, whichever the limit of lines chooses: the long one whole if it is within the limit, else
 // the beginning of the short one that so many lines take.
 pub fn chosen_part<'a>(fits: bool, s: Settings, long: &'a [u8], short: &'a [u8], h: u32) -> &'a [u8]
-    requires { (fits ≡ within_lines s h (decode_all long.now)) × Takeable s h short.now }
+    requires { (fits ≡ within_lines s h (decode_all long.now)) × Takeable s short.now }
     ensures { result.now ≡ chosen_part s h long.now short.now }
 {
     if fits {
         return long;
     }
-    let first = take_lines(short, s, h);
-    let bytes = first.end.0 as usize;
-    &short[..bytes]
+    match take_lines(short, s, h) {
+        None => short,
+        Some(end) => &short[..end.0 as usize],
+    }
 }
 
 // How many characters a text has from a boundary on.
@@ -54,8 +55,7 @@ pub fn choose<'a>(s: Settings, long: &'a [u8], short: &'a [u8], h: u32) -> Resul
     ensures { result ≡ choosing_answer s h long.now short.now }
 {
     check_choosing(s, long, short, h)?;
-    let first = take_lines(long, s, h);
-    let fits = first.whole;
+    let fits = take_lines(long, s, h).is_none();
     let part = chosen_part(fits, s, long, short, h);
     let bytes = part.len();
     if fits {

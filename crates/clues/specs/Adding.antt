@@ -1,6 +1,6 @@
 -- One turn of the loop that adds a text's figures to those of each width: the first j widths are done, and the others are to be done yet.
 -- Assumes nothing.
-use Rattle.std.specs.Prelude.{ℕ, suc, ◌+◌, ◌*◌, ◌≤◌, ◌<◌, ◌≡◌, refl, get_or, drop, set, Ok}
+use Rattle.std.specs.Prelude.{ℕ, suc, ◌+◌, ◌≤◌, ◌<◌, ◌≡◌, refl, get_or, drop, set, Ok}
 use Rattle.meaning.specs.Refusals.{Checked}
 use Rattle.std.proofs.Math.Path.{sym, ap}
 use Rattle.std.proofs.Common.{◌∙◌, add-zero, add-one, arith, get_or-drop}
@@ -17,7 +17,6 @@ use Rattle.rows.specs.RowsFrom.{TextReady, entries_of}
 use Rattle.columns.specs.OtherWidths.{ready_with}
 use Rattle.clues.specs.Summing.{of_room, of_one, Narrow, EachOf, added_to, each-length, each_at, narrow_at}
 use Rattle.month_figures.specs.Rooms.{Room}
-use Rattle.month_figures.specs.Sums.{sum_numbers, sum_at, put_sum, sums_of, sums-length, sums_at, sums-put}
 
 -- What adding a text takes for granted.
 pub record AllReady (s : Settings) (t : List ℕ) (k : Checked) (ws : List ℕ) (fs : List Figures) : Type 0 where
@@ -66,55 +65,21 @@ module _ (s : Settings) (t : List ℕ) (k : Checked) (ws : List ℕ) (fs₀ fs :
           within = omega arith;
         }
 
--- ---- the same of the array that holds the figures
+-- ---- one turn, as the code makes it
 
-pub record EachReady (s : Settings) (t : List ℕ) (k : Checked) (ws u : List ℕ) : Type 0 where
-  pub all : AllReady s t k ws (sums_of ws u)
-  pub room : sum_numbers * length ws ≤ length u
-
-pub record Added (s : Settings) (t : List ℕ) (k : Checked) (ws u₀ u : List ℕ) (j : ℕ) : Type 0 where
-  pub adding : Adding s t k ws (sums_of ws u₀) (sums_of ws u) j
-  pub long : length u ≡ length u₀
-
-pub added-start : (s : Settings) (t : List ℕ) (k : Checked) (ws u : List ℕ) → Added s t k ws u u 0
-added-start s t k ws u = record { adding = adding-start s t k ws (sums_of ws u); long = refl }
-
-module _ (s : Settings) (t : List ℕ) (k : Checked) (ws u₀ u : List ℕ) (j : ℕ) (r : EachReady s t k ws u₀) (a : Added s t k ws u₀ u j) where
-  pub added-within : j < length ws → sum_numbers * j + sum_numbers ≤ length u
-  added-within h = omega (arith, r.room, a.long)
-
+module _ (s : Settings) (t : List ℕ) (k : Checked) (ws : List ℕ) (fs₀ fs : List Figures) (j : ℕ) (r : AllReady s t k ws fs₀) (a : Adding s t k ws fs₀ fs j) where
   module _ (h : j < length ws) (s' : Settings) (is : s' ≡ with_width s (get_or ws j 0)) where
     pub added-text : k ≡ Ok tt → TextReady s' t
     added-text e =
-        let ready : TextReady s t = record { settings = r.all.settings; short = r.all.short e } in
-        ready_with s (get_or ws j 0) (narrow_at ws j r.all.widths h) t ready s' is
+        let ready : TextReady s t = record { settings = r.settings; short = r.short e } in
+        ready_with s (get_or ws j 0) (narrow_at ws j r.widths h) t ready s' is
 
     pub added_figures : (g : Figures) → g ≡ figures_by k (entries_of s' t) → g ≡ figures_by k (entries_of (with_width s (get_or ws j 0)) t)
     added_figures g e = e ∙ ap (λ (y : Settings). figures_by k (entries_of y t)) is
 
-  module _ (h : j < length ws) (f g v : Figures) (f-is : f ≡ sum_at u j) (g-is : g ≡ figures_by k (entries_of (with_width s (get_or ws j 0)) t)) where
-    here-is : get_or (sums_of ws u) j f ≡ f
-    here-is = sums_at ws u j f h ∙ sym f-is
-
-    pub added-room : Room f g
-    added-room = rw (sym here-is) (adding-room s t k ws (sums_of ws u₀) (sums_of ws u) j r.all a.adding h f g g-is)
-
-    pub added_next : v ≡ together f g → (u' : List ℕ) → u' ≡ put_sum u j v → length u' ≡ length u → Added s t k ws u₀ u' (j + 1)
-    added_next e u' put same =
-        let sum : v ≡ together (get_or (sums_of ws u) j f) (figures_by k (entries_of (with_width s (get_or ws j 0)) t)) =
-        e ∙ (let back = sym here-is in λ i. together (back i) (g-is i))
-        in
-        record {
-          adding =
-              rw (put, sums-put ws u j v h (added-within h))
-              (adding-next s t k ws (sums_of ws u₀) (sums_of ws u) j r.all a.adding h f v sum);
-          long = same ∙ a.long;
-        }
-
-  pub added-all : length ws ≤ j → sums_of ws u ≡ added_to s t k ws (sums_of ws u₀)
+  pub added-all : length ws ≤ j → fs ≡ added_to s t k ws fs₀
   unfolding added_to
   added-all h =
-      let fs = sums_of ws u in
-      let few : length fs ≤ j = omega (arith, sums-length ws u) in
+      let few : length fs ≤ j = omega (arith, a.same, each-length r.count ws fs₀ r.each) in
       let none : added_to s t k (drop j ws) (drop j fs) ≡ [] = rw (drop_of_length-le ws h, drop_of_length-le fs few) in
-      sym (append-nil fs) ∙ sym (λ i. take_all j fs few i ++ none i) ∙ a.adding.left
+      sym (append-nil fs) ∙ sym (λ i. take_all j fs few i ++ none i) ∙ a.left

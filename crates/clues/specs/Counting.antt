@@ -1,9 +1,9 @@
 -- What is still to be counted of a stream: so many clues are counted, and these bytes and all that follow are to be counted yet.
 -- Assumes nothing.
-use Prim.Native.Nat.{ℕ, zero, suc, ◌+◌, ◌-◌, ◌*◌, ◌≤◌, ◌<◌}
+use Prim.Native.Nat.{ℕ, zero, suc, ◌+◌, ◌-◌, ◌≤◌, ◌<◌}
 use Rattle.meaning.specs.Refusals.{Checked}
 use Rattle.std.specs.Prelude.{◌≡◌, refl, List, [], ◌∷◌, ◌++◌}
-use Rattle.std.proofs.Common.{sym, ◌∙◌, drop-drop, take-take}
+use Rattle.std.proofs.Common.{sym, subst, ◌∙◌, drop-drop, take-take}
 use Rattle.std.proofs.Math.Path.{ap}
 use native.Mathlib.Omega.{arith}
 use Rattle.std.proofs.Math.ListN.{length, take, drop, length-drop}
@@ -15,8 +15,7 @@ use Rattle.meaning.specs.declared.figures.Figures.{Figures}
 use Rattle.parser.specs.GoodText.{good_length}
 use Rattle.moves.specs.Fine.{FineSettings}
 use Rattle.clues.specs.Summing.{Narrow, EachOf, added_to, each_more}
-use Rattle.month_figures.specs.Sums.{sum_numbers, sums_of}
-use Rattle.clues.specs.Adding.{EachReady}
+use Rattle.clues.specs.Adding.{AllReady}
 use Rattle.clues.specs.Gathering.{with_clue, with_clues}
 use Rattle.clues.specs.Feeds.{before_feed, ended-line, before-most}
 
@@ -24,29 +23,24 @@ use Rattle.clues.specs.Feeds.{before_feed, ended-line, before-most}
 unfoldable pub counting : Settings → (widths : List ℕ) → (n : ℕ) → List Figures → (bytes : List ℕ) → List Figures
 counting s ws n fs bytes = with_clues s ws fs (take (most_clues - n) (stream_lines bytes))
 
--- What counting takes for granted: the array holds the figures of n clues.
-pub record Counts (s : Settings) (ws u : List ℕ) (n : ℕ) : Type 0 where
+-- What counting takes for granted: the sums are, for each width, the figures of n clues.
+pub record Counts (s : Settings) (ws : List ℕ) (u : List Figures) (n : ℕ) : Type 0 where
   pub settings : FineSettings s
   pub widths : Narrow ws
-  pub room : sum_numbers * length ws ≤ length u
-  pub each : EachOf n ws (sums_of ws u)
+  pub each : EachOf n ws u
 
-module _ (s : Settings) (ws u : List ℕ) (n : ℕ) (c : Counts s ws u n) (t : List ℕ) where
-  pub clue_ready : (k : Checked) → k ≡ check_text t → n < most_clues → EachReady s t k ws u
+module _ (s : Settings) (ws : List ℕ) (u : List Figures) (n : ℕ) (c : Counts s ws u n) (t : List ℕ) where
+  pub clue_ready : (k : Checked) → k ≡ check_text t → n < most_clues → AllReady s t k ws u
   clue_ready k e h =
-      record {
-        all = record { settings = c.settings; widths = c.widths; short = λ g. good_length t (sym e ∙ g); count = n; few = h; each = c.each };
-        room = c.room;
-      }
+      record { settings = c.settings; widths = c.widths; short = λ g. good_length t (sym e ∙ g); count = n; few = h; each = c.each }
 
-  pub clue_counts : (u' : List ℕ) → length u' ≡ length u → sums_of ws u' ≡ added_to s t (check_text t) ws (sums_of ws u) → Counts s ws u' (n + 1)
-  clue_counts u' long e =
+  pub clue_counts : (u' : List Figures) → u' ≡ added_to s t (check_text t) ws u → Counts s ws u' (n + 1)
+  clue_counts u' e =
       let one : n + 1 ≡ suc n = omega arith in
       record {
         settings = c.settings;
         widths = c.widths;
-        room = omega (arith, c.room, long);
-        each = rw (e, one) (each_more s t (check_text t) n ws (sums_of ws u) (good_length t) c.each);
+        each = rw (e, one) (each_more s t (check_text t) n ws u (good_length t) c.each);
       }
 
 pub clue_added : (s : Settings) (ws : List ℕ) (t : List ℕ) (fs gs : List Figures) (k : Checked) → k ≡ check_text t → gs ≡ added_to s t k ws fs → gs ≡ with_clue s ws fs t
@@ -65,19 +59,19 @@ drop-take (suc m) (suc n) (x ∷ l) = let e : n - m ≡ suc n - suc m = omega ar
 pub same-part : (b : List ℕ) (at stop end : ℕ) → stop ≤ end → take (stop - at) (drop at b) ≡ take (stop - at) (drop at (take end b))
 same-part b at stop end h = rw (drop-take at end b) (sym (take-take (stop - at) (end - at) (drop at b) (omega arith)))
 
-pub record Passing (s : Settings) (ws bytes : List ℕ) (from n : ℕ) (u : List ℕ) (at m : ℕ) (v : List ℕ) : Type 0 where
+pub record Passing (s : Settings) (ws bytes : List ℕ) (from n : ℕ) (u : List Figures) (at m : ℕ) (v : List Figures) : Type 0 where
   pub same : length v ≡ length u
   pub counts : Counts s ws v m
   pub few : m ≤ most_clues
   pub within : at ≤ length bytes
-  pub goes : (rest : List ℕ) → counting s ws m (sums_of ws v) (drop at bytes ++ rest) ≡ counting s ws n (sums_of ws u) (drop from bytes ++ rest)
+  pub goes : (rest : List ℕ) → counting s ws m v (drop at bytes ++ rest) ≡ counting s ws n u (drop from bytes ++ rest)
 
 -- And no other clue ends in it, unless there are as many as a month may have.
-pub record Passed (s : Settings) (ws bytes : List ℕ) (from n : ℕ) (u : List ℕ) (at m : ℕ) (v : List ℕ) : Type 0 where
+pub record Passed (s : Settings) (ws bytes : List ℕ) (from n : ℕ) (u : List Figures) (at m : ℕ) (v : List Figures) : Type 0 where
   pub passing : Passing s ws bytes from n u at m v
   pub done : m < most_clues → before_feed (drop at bytes) ≡ length (drop at bytes)
 
-pub passing-start : (s : Settings) (ws bytes : List ℕ) (from n : ℕ) (u : List ℕ) → Counts s ws u n → n ≤ most_clues → from ≤ length bytes → Passing s ws bytes from n u from n u
+pub passing-start : (s : Settings) (ws bytes : List ℕ) (from n : ℕ) (u : List Figures) → Counts s ws u n → n ≤ most_clues → from ≤ length bytes → Passing s ws bytes from n u from n u
 passing-start s ws bytes from n u c h f = record { same = refl; counts = c; few = h; within = f; goes = λ rest. refl }
 
 -- One clue off the front of what is left.
@@ -88,12 +82,12 @@ clue_off s ws n fs xs rest h b =
     let more : most_clues - n ≡ suc (most_clues - (n + 1)) = omega arith in
     rw (more, ended-line xs rest b)
 
-module _ (s : Settings) (ws bytes : List ℕ) (from n : ℕ) (u : List ℕ) (at m : ℕ) (v : List ℕ) (p : Passing s ws bytes from n u at m v) (stop : ℕ) (is : stop ≡ at + before_feed (drop at bytes)) where
+module _ (s : Settings) (ws bytes : List ℕ) (from n : ℕ) (u : List Figures) (at m : ℕ) (v : List Figures) (p : Passing s ws bytes from n u at m v) (stop : ℕ) (is : stop ≡ at + before_feed (drop at bytes)) where
   pub stop-within : stop ≤ length bytes
   stop-within = omega (arith, before-most (drop at bytes), length-drop at bytes, p.within)
 
-  pub passing-next : m < most_clues → stop < length bytes → (t : List ℕ) → t ≡ take (stop - at) (drop at bytes) → (v' : List ℕ) → length v' ≡ length v
-      → sums_of ws v' ≡ with_clue s ws (sums_of ws v) t → Passing s ws bytes from n u (stop + 1) (m + 1) v'
+  pub passing-next : m < most_clues → stop < length bytes → (t : List ℕ) → t ≡ take (stop - at) (drop at bytes) → (v' : List Figures) → length v' ≡ length v
+      → v' ≡ with_clue s ws v t → Passing s ws bytes from n u (stop + 1) (m + 1) v'
   unfolding with_clue
   passing-next h b t t-is v' long e =
       let k = before_feed (drop at bytes) in
@@ -105,17 +99,19 @@ module _ (s : Settings) (ws bytes : List ℕ) (from n : ℕ) (u : List ℕ) (at 
       in
       record {
         same = long ∙ p.same;
-        counts = clue_counts s ws v m p.counts t v' long e;
+        counts = clue_counts s ws v m p.counts t v' e;
         few = omega arith;
         within = omega arith;
         goes =
             λ rest.
-            rw (next, e, text) (sym (clue_off s ws m (sums_of ws v) (drop at bytes) rest h inside)) ∙ p.goes rest;
+            rw (next, e, text) (sym (clue_off s ws m v (drop at bytes) rest h inside)) ∙ p.goes rest;
       }
 
   pub passing-done : length bytes ≤ stop → Passed s ws bytes from n u at m v
   passing-done b = record { passing = p; done = λ _. omega (arith, before-most (drop at bytes), length-drop at bytes, is) }
 
-pub passing-full : (s : Settings) (ws bytes : List ℕ) (from n : ℕ) (u : List ℕ) (at m : ℕ) (v : List ℕ) → Passing s ws bytes from n u at m v
-    → most_clues ≤ m → Passed s ws bytes from n u at m v
-passing-full s ws bytes from n u at m v p h = record { passing = p; done = λ l. absurd (omega arith) }
+pub passing-full : (s : Settings) (ws bytes : List ℕ) (from n : ℕ) (u : List Figures) (at m : ℕ) (v : List Figures) → Passing s ws bytes from n u at m v
+    → most_clues ≤ m → Passed s ws bytes from n u at most_clues v
+passing-full s ws bytes from n u at m v p h =
+    let full : m ≡ most_clues = omega (arith, p.few) in
+    subst (λ (k : ℕ). Passed s ws bytes from n u at k v) full (record { passing = p; done = λ l. absurd (omega arith) })

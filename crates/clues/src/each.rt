@@ -1,10 +1,9 @@
 // The figures of each width, and one text more in all of them.
 ghost use Rattle.std.specs.Prelude.{max, ◌≡◌};
 ghost use Rattle.meaning.specs.Month.{together};
-ghost use Rattle.month_figures.specs.Sums.{sums_of};
 ghost use Rattle.clues.specs.Summing.{added_to};
 ghost use Rattle.month_figures.specs.Rooms.{Room};
-ghost use Rattle.clues.specs.Adding.{EachReady};
+ghost use Rattle.clues.specs.Adding.{AllReady};
 
 use crate::one::figures_in;
 use columns::width::with_width;
@@ -12,7 +11,6 @@ use meaning::figures::Figures;
 use meaning::refusals::Refusal;
 use meaning::settings::Settings;
 use month_figures::adding::both;
-use month_figures::sums::{read_sum, write_sum};
 
 // A text that was checked once is laid in each width, and its figures are added to those of that width.
 pub fn add_text(
@@ -20,15 +18,13 @@ pub fn add_text(
     checked: Result<(), Refusal>,
     s: Settings,
     widths: &[u32],
-    sums: &mut [u64],
+    sums: &mut [Figures],
 )
-    requires { EachReady s text.now checked widths.now sums.old }
-    ensures { sums_of widths.now sums.new ≡ added_to s text.now checked widths.now (sums_of widths.now sums.old) }
+    requires { AllReady s text.now checked widths.now sums.old }
+    ensures { sums.new ≡ added_to s text.now checked widths.now sums.old }
 {
     for k in 0..widths.len() {
         let more = figures_in(text, checked, with_width(s, widths[k]));
-        let f = read_sum(sums, k);
-        let sum = both(f, more);
-        write_sum(sums, k, sum);
+        sums[k] = both(sums[k], more);
     }
 }

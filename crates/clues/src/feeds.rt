@@ -14,7 +14,8 @@ fn no_feed(s: &[u8], from: usize, to: usize) -> bool
     none
 }
 
-// Blocks of so many bytes with no line feed are skipped, while there are any.
+// Blocks of so many bytes with no line feed are skipped, while there are any. By hand and with the size passed, as utf8 skips its blocks:
+// there chunks_exact and take_while took two thirds more instructions.
 fn skip_blocks(s: &[u8], from: usize, end: usize, block: usize) -> usize
     requires { (from ≤ end) × (end ≤ length s.now) × (0 < block) }
     ensures { (result ≤ end) × (result + before_feed (drop result (take end s.now)) ≡ from + before_feed (drop from (take end s.now))) }

@@ -1,13 +1,13 @@
 // A stream of clues, block by block through one buffer: each clue that ends in the block is a part of it, and is counted.
 ghost use Rattle.std.specs.Prelude.{◌+◌, ◌≤◌, ◌<◌, ◌≡◌, length, take};
 ghost use Rattle.meaning.specs.Month.{most_clues};
-ghost use Rattle.month_figures.specs.Sums.{sums_of};
 ghost use Rattle.clues.specs.Gathering.{with_clue};
 ghost use Rattle.clues.specs.Counting.{Counts, Passed};
 
 use crate::each::add_text;
 use crate::feeds::find_feed;
 use checks::text::check_text;
+use meaning::figures::Figures;
 use meaning::settings::Settings;
 
 // Reading stops at so many clues.
@@ -21,11 +21,11 @@ pub struct Ended {
 }
 
 // One clue more, behind so many: checked once, and laid in each width.
-pub fn add_clue(text: &[u8], s: Settings, widths: &[u32], sums: &mut [u64], clues: u64) -> u64
+pub fn add_clue(text: &[u8], s: Settings, widths: &[u32], sums: &mut [Figures], clues: u64) -> u64
     requires counts { Counts s widths.now sums.old clues }
     requires clues_lt_most_clues { clues < most_clues }
     ensures value { result ≡ clues + 1 }
-    ensures sums_after { sums_of widths.now sums.new ≡ with_clue s widths.now (sums_of widths.now sums.old) text.now }
+    ensures sums_after { sums.new ≡ with_clue s widths.now sums.old text.now }
 {
     let checked = check_text(text);
     add_text(text, checked, s, widths, sums);
@@ -39,7 +39,7 @@ pub fn count_ended(
     end: usize,
     s: Settings,
     widths: &[u32],
-    sums: &mut [u64],
+    sums: &mut [Figures],
     clues: u64,
 ) -> Ended
     requires from_le_end { from ≤ end }
@@ -49,14 +49,16 @@ pub fn count_ended(
     ensures { Passed s widths.now (take end buffer.now) from clues sums.old result.at result.clues sums.new }
 {
     let mut at = from;
-    let mut n = clues;
-    while n < MOST_CLUES {
+    for n in clues..MOST_CLUES {
         let stop = find_feed(buffer, at, end);
         if end <= stop {
             return Ended { at, clues: n };
         }
-        n = add_clue(&buffer[at..stop], s, widths, sums, n);
+        add_clue(&buffer[at..stop], s, widths, sums, n);
         at = stop + 1;
     }
-    Ended { at, clues: n }
+    Ended {
+        at,
+        clues: MOST_CLUES,
+    }
 }

@@ -11,7 +11,7 @@ use month_figures::counted::{no_lines, tally_figures, with_line};
 use rows::stand::lay_row;
 use stands::stand::{at_start, next_stand};
 
-// The figures of a text that is good.
+// The figures of a text that is good. No `for`: that a line is the last is known when it is laid.
 pub fn laid_figures(text: &[u8], s: Settings) -> Figures
     requires { TextReady s text.now }
     ensures { result ≡ figures_by (Ok tt) (entries_of s text.now) }

@@ -1,26 +1,21 @@
 -- One turn of the loop that fills lines with a text's bytes, and what keeps its numbers small.
 -- Assumes nothing.
-use Rattle.std.specs.Prelude.{ℕ, ◌+◌, ◌≤◌, ◌<◌, min, ◌≡◌, List, true, false, leb, eqb, length, get_or, drop}
+use Rattle.std.specs.Prelude.{ℕ, ◌+◌, ◌≤◌, ◌<◌, min, ◌≡◌, List, true, false, leb, eqb, length, get_or, drop, Option, None}
 use Rattle.std.proofs.Math.Path.{refl, sym, ap}
 use Rattle.std.proofs.Common.{◌∙◌, add-one, drop_of_length-le}
 use native.Mathlib.Omega.{arith}
 use borrow.Author.Tests.{leb-true, le-leb, lt-leb, eq-eqb, ne_eqb}
 use Rattle.std.proofs.Math.Seq.{drop-cons}
 use Rattle.basis.specs.Choice.{pick, pick_cases, pick_true, pick-false}
-use Rattle.meaning.specs.Checks.{text_limit}
 use Rattle.widths.specs.LineParts.{breaks}
 use Rattle.widths.specs.TabStops.{next_stop}
-use Rattle.columns.specs.Filling.{empty_line, fill_word, fill_to, fill_other, fill_blank, fill_by, fill_all}
+use Rattle.columns.specs.Filling.{along_of, grown, grown_by, apart_none, empty_line, fill_word, fill_to, fill_other, fill_blank, fill_by, fill_all}
 use Rattle.columns.specs.LeadBytes.{leads}
 use Rattle.columns.specs.declared.filling.Fill.{Fill}
 
 -- The line is filled up to the edge at most, what moves along is of it, and no more lines are full than bytes have been looked at.
 abbrev pub SmallFill : (w i : ℕ) → Fill → Type 0
-SmallFill w i x = (x.at ≤ w) × (x.part ≤ x.at) × (x.lines ≤ i)
-
--- In a box that the settings allow no sum wraps.
-abbrev pub FineFill : (glyph tab w : ℕ) → Fill → Type 0
-FineFill g t w x = (g ≤ 64) × (t ≤ 4096) × (w ≤ 4096) × SmallFill w text_limit x
+SmallFill w i x = (x.at ≤ w) × (along_of x ≤ x.at) × (x.lines ≤ i)
 
 -- The lines that a text's bytes fill.
 abbrev pub lines_filled : (glyph tab w : ℕ) → (bytes : List ℕ) → ℕ
@@ -30,9 +25,7 @@ module _ (g t w : ℕ) where
   small_word : (i : ℕ) (x : Fill) → SmallFill w i x → SmallFill w (i + 1) (fill_word g w x)
   unfolding fill_word
   small_word i x h =
-      let grown : pick x.moves (x.part + g) 0 ≤ x.at + g =
-      pick_cases (λ n. n ≤ x.at + g) x.moves (λ _. omega (arith, h.1)) (λ _. omega arith) in
-      pick_cases (SmallFill w (i + 1)) (leb (x.at + g) w) (λ e. (leb-true (x.at + g) w e, grown, omega (arith, h.2)))
+      pick_cases (SmallFill w (i + 1)) (leb (x.at + g) w) (λ e. (leb-true (x.at + g) w e, omega (arith, grown_by g x.part, h.1), omega (arith, h.2)))
       (λ _. (omega arith, omega arith, omega (arith, h.2)))
 
   small-blank : (i c : ℕ) (x : Fill) → SmallFill w i x → SmallFill w (i + 1) (fill_blank g t w x c)
@@ -40,8 +33,8 @@ module _ (g t w : ℕ) where
   small-blank i c x h =
       let P : Fill → Type 0 = SmallFill w (i + 1) in
       let few : x.lines ≤ i + 1 = omega (arith, h.2) in
-      pick_cases P (eqb c 0x0020) (λ _. (omega arith, omega arith, few)) λ _.
-      pick_cases P (eqb c 0x0009) (λ _. (omega arith, omega arith, few)) (λ _. (h.0, omega arith, few))
+      pick_cases P (eqb c 0x0020) (λ _. (omega arith, omega (arith, apart_none x.begun), few)) λ _.
+      pick_cases P (eqb c 0x0009) (λ _. (omega arith, omega (arith, apart_none x.begun), few)) (λ _. (h.0, omega arith, few))
 
   small-more : (i c : ℕ) (x : Fill) → SmallFill w i x → SmallFill w (i + 1) (fill_by leads g t w x c)
   unfolding fill_by
@@ -78,24 +71,18 @@ module _ (g t w : ℕ) where
   -- ---- what one byte does, by the tests of the code
 
   module _ (x : Fill) where
-    pub grown-true : x.moves ≡ true → x.part + g ≡ pick x.moves (x.part + g) 0
-    grown-true e = sym (pick_true x.moves _ _ e)
-
-    pub grown-false : x.moves ≡ false → 0 ≡ pick x.moves (x.part + g) 0
-    grown-false e = sym (pick-false x.moves _ _ e)
-
-    pub word-here : x.at + g ≤ w → (n : ℕ) → n ≡ pick x.moves (x.part + g) 0
-        → record { lines = x.lines; at = x.at + g; begun = true; moves = x.moves; part = n } ≡ fill_word g w x
+    pub word-here : x.at + g ≤ w → (n : Option ℕ) → n ≡ grown g x.part
+        → record { lines = x.lines; at = x.at + g; begun = true; part = n } ≡ fill_word g w x
     unfolding fill_word
     word-here e n is =
-        ap (λ (m : ℕ). record { lines = x.lines; at = x.at + g; begun = true; moves = x.moves; part = m }) is
+        ap (λ (m : Option ℕ). record { lines = x.lines; at = x.at + g; begun = true; part = m }) is
         ∙ sym (pick_true (leb (x.at + g) w) _ _ (le-leb (x.at + g) w e))
 
-    pub word_next : w < x.at + g → (n : ℕ) → n ≡ min (x.part + g) w
-        → record { lines = x.lines + 1; at = n; begun = true; moves = false; part = 0 } ≡ fill_word g w x
+    pub word_next : w < x.at + g → (n : ℕ) → n ≡ min (along_of x + g) w
+        → record { lines = x.lines + 1; at = n; begun = true; part = None } ≡ fill_word g w x
     unfolding fill_word
     word_next e n is =
-        ap (λ (m : ℕ). record { lines = x.lines + 1; at = m; begun = true; moves = false; part = 0 }) is
+        ap (λ (m : ℕ). record { lines = x.lines + 1; at = m; begun = true; part = None }) is
         ∙ sym (pick-false (leb (x.at + g) w) _ _ (lt-leb (x.at + g) w e))
 
     pub on-space : (c : ℕ) → c ≡ 0x0020 → fill_to w x (x.at + g) ≡ fill_blank g t w x c

@@ -2,7 +2,8 @@
 -- and a wider box is filled no sooner (rule 4, rule 8).
 -- Assumes nothing.
 use Prim.Native.Nat.{ℕ, ◌+◌, ◌≤◌, ◌<◌, min}
-use Rattle.std.specs.Prelude.{◌≡◌, Bool, true, false, leb, eqb}
+use Rattle.std.specs.Prelude.{◌≡◌, Bool, true, false, leb, eqb, Option, Some, None, is_some, unwrap_or}
+use Rattle.std.specs.Bool.{then_some}
 use Rattle.std.proofs.Math.Path.{refl}
 use Rattle.std.proofs.Common.{sym, ◌∙◌, arith}
 use Rattle.std.proofs.lemmas.Bool.{false≢true}
@@ -16,24 +17,40 @@ use Rattle.columns.specs.declared.filling.Fill.{Fill}
 
 -- ---- what a character does, told by a test of those that words are made of
 
+-- Whether the word at hand moves along where it does not fit, and what is there of it.
+abbrev pub moves : Fill → Bool
+moves x = is_some x.part
+
+abbrev pub along_of : Fill → ℕ
+along_of x = unwrap_or x.part 0
+
+-- What moves along of a word, with one character more.
+abbrev pub grown : (glyph : ℕ) → Option ℕ → Option ℕ
+grown g None = None
+grown g (Some n) = Some (n + g)
+
+-- Of the next word nothing is there yet; it moves along where the line has a word.
+abbrev pub apart_if : (begun : Bool) → Option ℕ
+apart_if b = then_some b 0
+
 -- So many lines are full, and nothing is in the next one.
 abbrev pub empty_line : ℕ → Fill
-empty_line n = record { lines = n; at = 0; begun = false; moves = false; part = 0 }
+empty_line n = record { lines = n; at = 0; begun = false; part = None }
 
 -- A character of a word goes into the line if it fits. If it does not, the line is full, and what is there of the word moves along, if the
 -- word is not the line's first.
 unfoldable pub fill_word : (glyph w : ℕ) → Fill → Fill
 fill_word g w x =
-    pick (leb (x.at + g) w) (record { lines = x.lines; at = x.at + g; begun = true; moves = x.moves; part = pick x.moves (x.part + g) 0 })
-    (record { lines = x.lines + 1; at = min (x.part + g) w; begun = true; moves = false; part = 0 })
+    pick (leb (x.at + g) w) (record { lines = x.lines; at = x.at + g; begun = true; part = grown g x.part })
+    (record { lines = x.lines + 1; at = min (along_of x + g) w; begun = true; part = None })
 
 -- Further on, up to the edge: the next word is apart from what the line has.
 abbrev pub fill_to : (w : ℕ) → Fill → (to : ℕ) → Fill
-fill_to w x to = record { lines = x.lines; at = min to w; begun = x.begun; moves = x.begun; part = 0 }
+fill_to w x to = record { lines = x.lines; at = min to w; begun = x.begun; part = apart_if x.begun }
 
 -- Any other character may be of the word or end it: what is there of it does not move.
 abbrev pub fill_other : Fill → Fill
-fill_other x = record { lines = x.lines; at = x.at; begun = x.begun; moves = false; part = 0 }
+fill_other x = record { lines = x.lines; at = x.at; begun = x.begun; part = None }
 
 -- A space or a tab: to the edge where it does not fit. No line ends by it.
 unfoldable pub fill_blank : (glyph tab w : ℕ) → Fill → ℕ → Fill
@@ -63,9 +80,25 @@ pub record Under (w : ℕ) (x y : Fill) : Type 0 where
   pub lines : x.lines ≤ y.lines
   pub at : x.lines ≡ y.lines → y.at < w → x.at ≤ y.at
   pub begun : x.lines ≡ y.lines → x.begun ≡ true → y.begun ≡ true
-  pub moves : x.lines ≡ y.lines → x.moves ≡ true → y.moves ≡ true
-  pub part : x.lines ≡ y.lines → x.part ≤ y.part
-  pub along : x.lines + 1 ≡ y.lines → y.at < w → x.part ≤ y.at
+  pub moved : x.lines ≡ y.lines → moves x ≡ true → moves y ≡ true
+  pub part : x.lines ≡ y.lines → along_of x ≤ along_of y
+  pub along : x.lines + 1 ≡ y.lines → y.at < w → along_of x ≤ y.at
+
+pub grown_by : (g : ℕ) (p : Option ℕ) → unwrap_or (grown g p) 0 ≤ unwrap_or p 0 + g
+grown_by g None = omega arith
+grown_by g (Some n) = omega arith
+
+pub grown_moves : (g : ℕ) (p : Option ℕ) → is_some (grown g p) ≡ is_some p
+grown_moves g None = refl
+grown_moves g (Some n) = refl
+
+pub apart_none : (b : Bool) → unwrap_or (apart_if b) 0 ≡ 0
+apart_none true = refl
+apart_none false = refl
+
+pub apart_moves : (b : Bool) → is_some (apart_if b) ≡ b
+apart_moves true = refl
+apart_moves false = refl
 
 module _ (w : ℕ) where
   pub under_self : (x : Fill) → Under w x x
@@ -74,7 +107,7 @@ module _ (w : ℕ) where
         lines = omega arith;
         at = λ _ _. omega arith;
         begun = λ _ e. e;
-        moves = λ _ e. e;
+        moved = λ _ e. e;
         part = λ _. omega arith;
         along = λ e _. absurd (omega arith);
       }
@@ -87,7 +120,7 @@ module _ (w : ℕ) where
         lines = omega (arith, u.lines, v.lines);
         at = λ e l. let b = v.at (same e) l in omega (arith, b, u.at (same' e) (omega (arith, b)));
         begun = λ e b. v.begun (same e) (u.begun (same' e) b);
-        moves = λ e b. v.moves (same e) (u.moves (same' e) b);
+        moved = λ e b. v.moved (same e) (u.moved (same' e) b);
         part = λ e. omega (arith, u.part (same' e), v.part (same e));
         along = λ e l.
             by_eq x.lines y.lines
@@ -99,22 +132,22 @@ module _ (w : ℕ) where
       }
 
   -- Fewer lines are full, and nothing moves along.
-  pub under-fewer : (x y : Fill) → x.part ≡ 0 → x.lines < y.lines → Under w x y
+  pub under-fewer : (x y : Fill) → along_of x ≡ 0 → x.lines < y.lines → Under w x y
   under-fewer x y none l =
       record {
         lines = omega arith;
         at = λ e _. absurd (omega arith);
         begun = λ e _. absurd (omega arith);
-        moves = λ e _. absurd (omega arith);
+        moved = λ e _. absurd (omega arith);
         part = λ e. absurd (omega arith);
         along = λ _ _. omega arith;
       }
 
   -- Nothing moves along: the line is no further.
-  pub under-by : (x y : Fill) → x.part ≡ 0 → x.lines ≤ y.lines → (x.lines ≡ y.lines → y.at < w → x.at ≤ y.at)
-      → (x.lines ≡ y.lines → x.begun ≡ true → y.begun ≡ true) → (x.lines ≡ y.lines → x.moves ≡ true → y.moves ≡ true) → Under w x y
+  pub under-by : (x y : Fill) → along_of x ≡ 0 → x.lines ≤ y.lines → (x.lines ≡ y.lines → y.at < w → x.at ≤ y.at)
+      → (x.lines ≡ y.lines → x.begun ≡ true → y.begun ≡ true) → (x.lines ≡ y.lines → moves x ≡ true → moves y ≡ true) → Under w x y
   under-by x y none l a b m =
-      record { lines = l; at = a; begun = b; moves = m; part = λ _. omega arith; along = λ _ _. omega arith }
+      record { lines = l; at = a; begun = b; moved = m; part = λ _. omega arith; along = λ _ _. omega arith }
 
   pub under_other : (x : Fill) → Under w (fill_other x) x
   under_other x = under-by (fill_other x) x refl (omega arith) (λ _ _. omega arith) (λ _ e. e) (λ _ e. absurd (false≢true e))
@@ -139,14 +172,12 @@ module _ (g t : ℕ) (some : 1 ≤ g) (w v : ℕ) (wide : w ≤ v) where
   fewer_if : (x y : Fill) → Under w x y → y.at < w → y.at < x.at → x.lines < y.lines
   fewer_if x y u low further = by_lt x.lines y.lines (λ l. l) (λ l. absurd (omega (arith, u.at (omega (arith, u.lines)) low)))
 
-  -- What moves along of a word, with one character more.
-  grown-by : (x : Fill) → pick x.moves (x.part + g) 0 ≤ x.part + g
-  grown-by x = pick_cases (λ n. n ≤ x.part + g) x.moves (λ _. omega arith) (λ _. omega arith)
-
-  grown-under : (x y : Fill) → (x.moves ≡ true → y.moves ≡ true) → x.part ≤ y.part → pick x.moves (x.part + g) 0 ≤ pick y.moves (y.part + g) 0
-  grown-under x y f l =
-      pick_cases (λ n. n ≤ pick y.moves (y.part + g) 0) x.moves
-      (λ a. pick_cases (λ n. x.part + g ≤ n) y.moves (λ _. omega arith) (λ b. absurd (false≢true (sym b ∙ f a)))) (λ _. omega arith)
+  -- What moves along of two words, with one character more.
+  grown-under : (p q : Option ℕ) → (is_some p ≡ true → is_some q ≡ true) → unwrap_or p 0 ≤ unwrap_or q 0
+      → unwrap_or (grown g p) 0 ≤ unwrap_or (grown g q) 0
+  grown-under None q f l = omega arith
+  grown-under (Some n) None f l = absurd (false≢true (f refl))
+  grown-under (Some n) (Some m) f l = omega arith
 
   word-under : (x y : Fill) → Under w x y → Under w (fill_word g v x) (fill_word g w y)
   unfolding fill_word
@@ -154,37 +185,39 @@ module _ (g t : ℕ) (some : 1 ≤ g) (w v : ℕ) (wide : w ≤ v) where
       pick_cases (Under w (fill_word g v x)) (leb (y.at + g) w)
       (λ b.
       let inside = leb-true (y.at + g) w b in
-      pick_cases (λ (z : Fill). Under w z (record { lines = y.lines; at = y.at + g; begun = true; moves = y.moves; part = pick y.moves (y.part + g) 0 }))
+      pick_cases (λ (z : Fill). Under w z (record { lines = y.lines; at = y.at + g; begun = true; part = grown g y.part }))
       (leb (x.at + g) v)
       (λ _.
       record {
         lines = u.lines;
         at = λ e l. omega (arith, u.at e (omega arith));
         begun = λ _ _. refl;
-        moves = u.moves;
-        part = λ e. grown-under x y (u.moves e) (u.part e);
-        along = λ e l. omega (arith, grown-by x, u.along e (omega arith));
+        moved = λ e m. grown_moves g y.part ∙ u.moved e (sym (grown_moves g x.part) ∙ m);
+        part = λ e. grown-under x.part y.part (u.moved e) (u.part e);
+        along = λ e l. omega (arith, grown_by g x.part, u.along e (omega arith));
       })
       (λ a.
       let less = fewer_if x y u (omega arith) (omega (arith, leb-false (x.at + g) v a)) in
       under-by w _ _ refl (omega (arith, less)) (λ e l. omega (arith, u.along (omega arith) (omega arith))) (λ _ _. refl) (λ _ e. absurd (false≢true e))))
       (λ b.
-      pick_cases (λ (z : Fill). Under w z (record { lines = y.lines + 1; at = min (y.part + g) w; begun = true; moves = false; part = 0 }))
+      pick_cases (λ (z : Fill). Under w z (record { lines = y.lines + 1; at = min (along_of y + g) w; begun = true; part = None }))
       (leb (x.at + g) v)
       (λ _.
       record {
         lines = omega (arith, u.lines);
         at = λ e _. absurd (omega (arith, u.lines));
         begun = λ _ _. refl;
-        moves = λ e _. absurd (omega (arith, u.lines));
+        moved = λ e _. absurd (omega (arith, u.lines));
         part = λ e. absurd (omega (arith, u.lines));
-        along = λ e l. omega (arith, grown-by x, u.part (omega arith));
+        along = λ e l. omega (arith, grown_by g x.part, u.part (omega arith));
       })
       (λ _.
       under-by w _ _ refl (omega (arith, u.lines)) (λ e l. omega (arith, u.part (omega arith))) (λ _ _. refl) (λ _ e. absurd (false≢true e))))
 
   to-under : (x y : Fill) (a b : ℕ) → y.at ≤ b → (x.at ≤ y.at → a ≤ b) → Under w x y → Under w (fill_to v x a) (fill_to w y b)
-  to-under x y a b h f u = under-by w _ _ refl u.lines (λ e l. omega (arith, f (u.at e (omega arith)))) u.begun u.begun
+  to-under x y a b h f u =
+      under-by w _ _ (apart_none x.begun) u.lines (λ e l. omega (arith, f (u.at e (omega arith)))) u.begun
+      (λ e m. apart_moves y.begun ∙ u.begun e (sym (apart_moves x.begun) ∙ m))
 
   other_under : (x y : Fill) → Under w x y → Under w (fill_other x) (fill_other y)
   other_under x y u = under-by w _ _ refl u.lines u.at u.begun (λ _ e. absurd (false≢true e))
@@ -210,8 +243,8 @@ module _ (g t : ℕ) (some : 1 ≤ g) (w v : ℕ) (wide : w ≤ v) where
   unfolding fill_blank
   blank-fewer c x y l =
       let P : Fill → Type 0 = λ (z : Fill). Under w z y in
-      pick_cases P (eqb c 0x0020) (λ _. under-fewer w _ y refl l) λ _.
-      pick_cases P (eqb c 0x0009) (λ _. under-fewer w _ y refl l) (λ _. under-fewer w _ y refl l)
+      pick_cases P (eqb c 0x0020) (λ _. under-fewer w _ y (apart_none x.begun) l) λ _.
+      pick_cases P (eqb c 0x0009) (λ _. under-fewer w _ y (apart_none x.begun) l) (λ _. under-fewer w _ y refl l)
 
   begun-under : (c : ℕ) (x y : Fill) → Under w x y
       → Under w (pick x.begun (fill_blank g t v x c) (fill_other x)) (pick y.begun (fill_blank g t w y c) (fill_other y))

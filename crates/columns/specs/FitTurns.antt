@@ -1,6 +1,6 @@
 -- One turn of the loop that lays a text's lines as long as it may fit.
 -- Assumes nothing.
-use Rattle.std.specs.Prelude.{ℕ, suc, ◌+◌, ◌-◌, ◌≤◌, ◌<◌, ◌≡◌, Bool, ◌&&◌, List, [], ◌∷◌, map, leb, length}
+use Rattle.std.specs.Prelude.{ℕ, suc, ◌+◌, ◌≤◌, ◌<◌, ◌≡◌, Bool, ◌&&◌, List, [], ◌∷◌, map, leb, length}
 use Rattle.std.proofs.Common.{arith, sym, ap, ◌∙◌}
 use Rattle.std.proofs.Math.Path.{refl}
 use Rattle.std.proofs.Math.Bool.{true, false}
@@ -28,6 +28,10 @@ use Rattle.stands.specs.declared.row.LaidRow.{LaidRow}
 unfoldable pub lines_fit : (n : ℕ) → List Entry → Bool
 lines_fit n es = leb (length es) n && all_kept es
 
+many-fits : (n : ℕ) (es : List Entry) → n < length es → lines_fit n es ≡ false
+unfolding lines_fit
+many-fits n es h = rw (lt-leb (length es) n h)
+
 module _ (n : ℕ) (e : Entry) where
   dropped-fits : (es : List Entry) → 0 < e.dropped.0 → lines_fit n (e ∷ es) ≡ false
   unfolding lines_fit all_kept pick
@@ -42,10 +46,6 @@ module _ (n : ℕ) (e : Entry) where
     unfolding lines_fit all_kept pick
     last_fits h = rw (eq-eqb _ _ kept, le-leb 1 n h)
 
-    full-fits : (es : List Entry) → n ≤ length es → lines_fit n (e ∷ es) ≡ false
-    unfolding lines_fit
-    full-fits es h = rw (lt-leb (suc (length es)) n (omega arith))
-
     next_fits_lem : (m : ℕ) (es : List Entry) → n ≡ suc m → lines_fit n (e ∷ es) ≡ lines_fit m es
     unfolding lines_fit all_kept pick
     next_fits_lem m es is =
@@ -58,7 +58,6 @@ module _ (n : ℕ) (e : Entry) where
 -- So many lines may still be laid, from a stand on: the text fits exactly if those that are left do.
 pub record Fitting (s : Settings) (t : List ℕ) (h left : ℕ) (p : Stand) : Type 0 where
   pub ready : StandReady s t p
-  pub some : 1 ≤ left
   pub same : lines_fit left (entries_from s t 0 p) ≡ fits_whole s h (decode_all t)
 
 -- The lines of the whole text.
@@ -66,10 +65,14 @@ all_fit : (s : Settings) (t : List ℕ) (h : ℕ) → lines_fit h (entries_of s 
 unfolding lines_fit fits_whole within_lines layout entries_of chars_from
 all_fit s t h = refl
 
-pub fit_start : (s : Settings) (t : List ℕ) (h : ℕ) (p : Stand) → TextReady s t → 1 ≤ h → StandsAt t text_front 0 nothing_resumed p
-    → Fitting s t h h p
-fit_start s t h p r some f =
-    record { ready = start-ready s t p r f; some = some; same = ap (lines_fit h) (all_entries s t p f) ∙ all_fit s t h }
+pub fit_start : (s : Settings) (t : List ℕ) (h : ℕ) (p : Stand) → TextReady s t → StandsAt t text_front 0 nothing_resumed p
+    → (n : ℕ) → n ≡ h → Fitting s t h n p
+fit_start s t h p r f n is =
+    record { ready = start-ready s t p r f; same = ap (λ (m : ℕ). lines_fit m (entries_from s t 0 p)) is ∙ ap (lines_fit h) (all_entries s t p f) ∙ all_fit s t h }
+
+-- No other may be laid, and one is left.
+pub fit_none : (s : Settings) (t : List ℕ) (h left : ℕ) (p : Stand) → Fitting s t h left p → left ≡ 0 → false ≡ fits_whole s h (decode_all t)
+fit_none s t h left p f none = sym (many-fits left (entries_from s t 0 p) (omega (arith, none, some_entries s t 0 p))) ∙ f.same
 
 module _ (s : Settings) (t : List ℕ) (h left : ℕ) (p : Stand) (f : Fitting s t h left p) (x : LaidRow) (is : x ≡ laid_row s t p) where
   abbrev here : x.entry ≡ (row_here s t 0 p).entry
@@ -87,27 +90,19 @@ module _ (s : Settings) (t : List ℕ) (h left : ℕ) (p : Stand) (f : Fitting s
 
   module _ (kept : x.entry.dropped.0 ≡ 0) where
     -- It ends the text.
-    pub fit_last : x.last ≡ true → true ≡ fits_whole s h (decode_all t)
-    fit_last e =
-        sym (ap (lines_fit left) (last_entry s t 0 p f.ready x is x.entry here e) ∙ last_fits left x.entry kept f.some) ∙ f.same
+    pub fit_last : x.last ≡ true → 1 ≤ left → true ≡ fits_whole s h (decode_all t)
+    fit_last e some =
+        sym (ap (lines_fit left) (last_entry s t 0 p f.ready x is x.entry here e) ∙ last_fits left x.entry kept some) ∙ f.same
 
     follow : (q : Stand) → StandsAt t x.next (p.before.0 + x.chars.0) x.rest q → x.last ≡ false
         → lines_fit left (x.entry ∷ entries_from s t 0 q) ≡ fits_whole s h (decode_all t)
     follow q on e = sym (ap (lines_fit left) (more_entries s t 0 p f.ready x is x.entry here q on e)) ∙ f.same
 
-    -- It does not, and no other may be laid.
-    pub fit_full : x.last ≡ false → left ≤ 1 → false ≡ fits_whole s h (decode_all t)
-    fit_full e few =
-        let q : Stand = record { at = x.next; before = record { 0 = p.before.0 + x.chars.0 }; rest = x.rest; known = p.known } in
-        let on : StandsAt t x.next (p.before.0 + x.chars.0) x.rest q = record { at-is = refl; before-is = refl; rest-is = refl; known = f.ready.known } in
-        sym (full-fits left x.entry kept (entries_from s t 0 q) (omega (arith, some_entries s t 0 q))) ∙ follow q on e
-
-    -- It does not, and another is laid.
-    pub fit_next : (q : Stand) → StandsAt t x.next (p.before.0 + x.chars.0) x.rest q → x.last ≡ false → 1 < left
-        → Fitting s t h (left - 1) q
-    fit_next q on e more =
+    -- It does not, and one less may be laid.
+    pub fit_next : (q : Stand) → StandsAt t x.next (p.before.0 + x.chars.0) x.rest q → x.last ≡ false → (n : ℕ) → left ≡ suc n
+        → Fitting s t h n q
+    fit_next q on e n more =
         record {
           ready = ready-next s t p f.ready x is q on;
-          some = omega arith;
-          same = sym (next_fits_lem left x.entry kept (left - 1) (entries_from s t 0 q) (omega arith)) ∙ follow q on e;
+          same = sym (next_fits_lem left x.entry kept n (entries_from s t 0 q) more) ∙ follow q on e;
         }

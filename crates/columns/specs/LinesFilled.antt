@@ -1,7 +1,7 @@
 -- A layout that drops nothing has more lines than its text fills, in every alignment: so a text fits no box in which it fills too many
 -- (rule 8, rule 10).
 -- Assumes nothing.
-use Rattle.std.specs.Prelude.{ℕ, zero, suc, ◌+◌, ◌-◌, ◌≤◌, ◌<◌, ◌≡◌, refl, false, ◌||◌, List, [], ◌∷◌, map, eqb, length, take, drop}
+use Rattle.std.specs.Prelude.{ℕ, zero, suc, ◌+◌, ◌-◌, ◌≤◌, ◌<◌, ◌≡◌, refl, false, ◌||◌, List, [], ◌∷◌, map, eqb, length, take, drop, None}
 use Rattle.std.proofs.Common.{sym, subst, ◌∙◌, inl, inr}
 use Rattle.std.proofs.lemmas.Bool.{false≢true, eqb-false}
 use native.Mathlib.Omega.{arith}
@@ -85,9 +85,9 @@ module _ (s : Settings) (some : 1 ≤ s.glyph.0) where
 
   -- A line starts at its left side or further on.
   from-left : (l left : ℕ) (cs : List ℕ)
-      → (filled (empty_line l) cs).lines ≤ (filled (record { lines = l; at = left; begun = false; moves = false; part = 0 }) cs).lines
+      → (filled (empty_line l) cs).lines ≤ (filled (record { lines = l; at = left; begun = false; part = None }) cs).lines
   from-left l left cs =
-      let there : Fill = record { lines = l; at = left; begun = false; moves = false; part = 0 } in
+      let there : Fill = record { lines = l; at = left; begun = false; part = None } in
       let u = under-by s.width.0 (empty_line l) there refl (omega arith) (λ _ _. omega arith) (λ _ e. e) (λ _ e. e) in
       (fill_under s.glyph.0 s.tab.0 some s.width.0 s.width.0 (omega arith) in_word cs (empty_line l) there u).lines
 

@@ -3,7 +3,7 @@
 -- Assumes nothing.
 use Prim.Native.Nat.{ℕ, zero, suc, ◌+◌, ◌*◌, ◌/◌, ◌≤◌, min}
 use Rattle.meaning.specs.declared.counts.Pixels.{Pixels}
-use Rattle.std.specs.Prelude.{◌≡◌, Bool, true, false, ◌&&◌, ◌||◌, eqb, take, drop, None, Option, Some}
+use Rattle.std.specs.Prelude.{◌≡◌, Bool, true, false, ◌&&◌, ◌||◌, eqb, take, drop, None, Option, Some, unwrap_or}
 use Rattle.std.proofs.Math.Path.{refl, sym, ap}
 use Rattle.std.proofs.Common.{subst, ◌∙◌, div-mul-le_self, mul-le-mul_right, arith, length-take, take-append-drop}
 use Rattle.std.proofs.Math.Bool.{not}
@@ -26,7 +26,7 @@ use Rattle.laws.specs.Spell.{text_of, spell, SoundTok}
 use Rattle.laws.specs.Runs.{Pass, Stops}
 use Rattle.laws.specs.Steps.{too_wide, some-spaces}
 use Rattle.widths.specs.TabStops.{next_stop, tab-to}
-use Rattle.columns.specs.Filling.{empty_line, fill_other, fill_blank, fill_by, fill_all, fill_append, Under, under_self, under-fewer, under-by, fill_under}
+use Rattle.columns.specs.Filling.{along_of, apart_if, apart_none, apart_moves, empty_line, fill_other, fill_blank, fill_by, fill_all, fill_append, Under, under_self, under-fewer, under-by, fill_under}
 use Rattle.columns.specs.TokenFilling.{run-still, run-rested, run_fills, word_fills, tab_fills, hyphen_fills, new-line_fills, return_fills}
 use Rattle.columns.specs.declared.filling.Fill.{Fill}
 
@@ -48,7 +48,7 @@ pub record InBox (s : Settings) (p : Place) : Type 0 where
 
 -- A pass at a place, so many lines being before its own, and the word before it being over.
 abbrev pub standing : (lines : ℕ) → Place → Fill
-standing l p = record { lines = l; at = p.cursor.position.0; begun = not p.empty; moves = not p.empty; part = 0 }
+standing l p = record { lines = l; at = p.cursor.position.0; begun = not p.empty; part = apart_if (not p.empty) }
 
 abbrev pub filled_in : Settings → Fill → List ℕ → Fill
 filled_in s x cs = fill_all in_word s.glyph.0 s.tab.0 s.width.0 x cs
@@ -92,7 +92,7 @@ module _ (s : Settings) (some : 1 ≤ s.glyph.0) (l : ℕ) (p : Place) (at : ℕ
 
   -- The same line, filled up to a place.
   abbrev filled_to : (to : ℕ) → Fill
-  filled_to n = record { lines = l; at = n; begun = not p.empty; moves = not p.empty; part = 0 }
+  filled_to n = record { lines = l; at = n; begun = not p.empty; part = apart_if (not p.empty) }
 
   room-is : position + room_of p.cursor ≡ w
   unfolding room_of
@@ -126,7 +126,7 @@ module _ (s : Settings) (some : 1 ≤ s.glyph.0) (l : ℕ) (p : Place) (at : ℕ
   goes xs rest y u = omega (arith, ap (λ (z : Fill). z.lines) (apart xs rest), fills_no_more rest _ y u)
 
   -- The line has ended behind k characters, and nothing of them moves along.
-  ends : (xs rest : List ℕ) (k : ℕ) → (filled_in s x (take k xs)).part ≡ 0 → (filled_in s x (take k xs)).lines ≡ l
+  ends : (xs rest : List ℕ) (k : ℕ) → along_of (filled_in s x (take k xs)) ≡ 0 → (filled_in s x (take k xs)).lines ≡ l
       → (filled_in s x (xs ++ rest)).lines ≤ (filled_in s (empty_line (l + 1)) (drop k xs ++ rest)).lines
   ends xs rest k none same =
       let next = drop k xs ++ rest in
@@ -165,7 +165,7 @@ module _ (s : Settings) (some : 1 ≤ s.glyph.0) (l : ℕ) (p : Place) (at : ℕ
     run-under to h =
         let r = run_fills g s.tab.0 w cs x run in
         let rested = run-rested g s.tab.0 w cs x more run in
-        under-by w _ _ rested.0 (omega (arith, r.lines)) (λ _ _. h) (λ _ b. sym r.begun ∙ b) (λ _ m. sym r.begun ∙ rested.1 m)
+        under-by w _ _ rested.0 (omega (arith, r.lines)) (λ _ _. h) (λ _ b. sym r.begun ∙ b) (λ _ m. apart_moves (not p.empty) ∙ sym r.begun ∙ rested.1 m)
 
     cut-ends : (k : ℕ) → 1 ≤ k → (filled_in s x (cs ++ rest)).lines ≤ (filled_in s (empty_line (l + 1)) (drop k cs ++ rest)).lines
     cut-ends k h =
@@ -202,7 +202,7 @@ module _ (s : Settings) (some : 1 ≤ s.glyph.0) (l : ℕ) (p : Place) (at : ℕ
   tab-under to a b =
       let P : Fill → Type 0 = λ (z : Fill). Under w z (filled_to to) in
       subst P (sym (tab_fills g s.tab.0 w x))
-      (pick_cases P (not p.empty) (λ h. under-by w _ _ refl (omega arith) (λ _ _. b h) (λ _ e. e) (λ _ e. e))
+      (pick_cases P (not p.empty) (λ h. under-by w _ _ (apart_none (not p.empty)) (omega arith) (λ _ _. b h) (λ _ e. e) (λ _ e. e))
       (λ _. under-by w _ _ refl (omega arith) (λ _ _. a) (λ _ e. e) (λ _ e. absurd (false≢true e))))
 
   tab-room : (rest : List ℕ) (look : Looked) → Roomy s l p (0x0009 ∷ []) rest (on_tab s p at look)
@@ -237,7 +237,7 @@ module _ (s : Settings) (some : 1 ≤ s.glyph.0) (l : ℕ) (p : Place) (at : ℕ
   hyphen-ends : (rest : List ℕ) → (filled_in s x (hyphen ++ rest)).lines ≤ (filled_in s (empty_line (l + 1)) (drop 1 hyphen ++ rest)).lines
   hyphen-ends rest =
       let is = hyphen_fills g s.tab.0 w x in
-      ends hyphen rest 1 (ap (λ (z : Fill). z.part) is) (ap (λ (z : Fill). z.lines) is)
+      ends hyphen rest 1 (ap along_of is) (ap (λ (z : Fill). z.lines) is)
 
   break_room : (rest : List ℕ) (v : Option Pixels) (r : ℕ) → Roomy s l p hyphen rest (on_break s p at v r)
   unfolding on_break hyphenated advance fill_all
@@ -248,7 +248,7 @@ module _ (s : Settings) (some : 1 ≤ s.glyph.0) (l : ℕ) (p : Place) (at : ℕ
       (λ _.
       pick_cases P (fits_in p.cursor g)
       (λ e. pick_cases P p.empty (λ _. (box-on _ _ _ (fits_by _ e) refl, goes hyphen rest _ (hyphen-on g))) (λ _. (λ _. hyphen-ends rest, tt)))
-      (λ _. pick_cases P p.empty (λ _. stays rest) (λ _. (λ _. ends hyphen rest 0 refl refl, tt))))
+      (λ _. pick_cases P p.empty (λ _. stays rest) (λ _. (λ _. ends hyphen rest 0 (apart_none (not p.empty)) refl, tt))))
       (λ _. stays rest)
 
   -- ---- a word
@@ -259,7 +259,7 @@ module _ (s : Settings) (some : 1 ≤ s.glyph.0) (l : ℕ) (p : Place) (at : ℕ
   part-ends cs rest k all e h =
       let few : length (take k cs) ≤ k = omega (arith, length-take k cs) in
       let r = word_fills g s.tab.0 w (take k cs) x (pass-parts in_word k cs all).0 (omega (arith, room-is, mul-le-mul_right g few)) in
-      ends cs rest k (r.part (rw e refl) refl) r.lines
+      ends cs rest k (ap (λ (n : Option ℕ). unwrap_or n 0) (r.part (rw e refl))) r.lines
 
   word_room : (cs rest : List ℕ) → Pass in_word cs → Stops in_word rest → Roomy s l p cs rest (on_word s p at cs)
   unfolding on_word cut_word unfit_word advance fill_all spaces_after
@@ -268,17 +268,17 @@ module _ (s : Settings) (some : 1 ≤ s.glyph.0) (l : ℕ) (p : Place) (at : ℕ
       pick_cases P (fits_in p.cursor (length cs * g))
       (λ e.
       let r = word_fills g s.tab.0 w cs x all (omega (arith, room-is, fits_by _ e)) in
-      let u = under-by w (fill_other (filled_in s x cs)) (record { lines = l; at = position + length cs * g; begun = true; moves = true; part = 0 }) refl
+      let u = under-by w (fill_other (filled_in s x cs)) (record { lines = l; at = position + length cs * g; begun = true; part = Some 0 }) refl
       (omega (arith, r.lines)) (λ _ _. omega (arith, r.at)) (λ _ _. refl) (λ _ _. refl) in
       (box-on _ _ _ (fits_by _ e) refl, omega (arith, ap (λ (z : Fill). z.lines) (apart cs rest), word_over rest (filled_in s x cs) _ over u)))
       λ _.
       pick_cases P p.empty
       (λ e.
       pick_cases P (eqb (room_of p.cursor / g) 0)
-      (λ _. pick_cases P (wrap_on s && has_moved p.cursor) (λ _. (λ _. ends cs rest 0 refl refl, tt))
+      (λ _. pick_cases P (wrap_on s && has_moved p.cursor) (λ _. (λ _. ends cs rest 0 (apart_none (not p.empty)) refl, tt))
       (λ _. (λ d. part-ends cs rest (length cs) all e (omega (arith, ap (λ (n : ℕ). n * g) d, zero-mul g)), tt)))
       (λ _. (λ _. part-ends cs rest (room_of p.cursor / g) all e (div-mul-le_self (room_of p.cursor) g), tt)))
-      (λ _. (λ _. ends cs rest 0 refl refl, tt))
+      (λ _. (λ _. ends cs rest 0 (apart_none (not p.empty)) refl, tt))
 
   -- ---- any token
 

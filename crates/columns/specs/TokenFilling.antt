@@ -2,7 +2,7 @@
 -- to the edge (rule 2, rule 4).
 -- Assumes nothing.
 use Prim.Native.Nat.{ℕ, suc, ◌+◌, ◌*◌, ◌≤◌}
-use Rattle.std.specs.Prelude.{◌≡◌, true, false, eqb, leb}
+use Rattle.std.specs.Prelude.{◌≡◌, true, false, eqb, leb, None}
 use Rattle.std.proofs.Math.Path.{refl, ap, subst}
 use Rattle.std.proofs.Common.{sym, ◌∙◌, mul-le-mul_right}
 use Rattle.std.proofs.lemmas.Bool.{false≢true}
@@ -18,7 +18,7 @@ use Rattle.meaning.specs.Characters.{Class, lf, cr, ht, shy, zwsp, blank, letter
 use Rattle.laws.specs.Runs.{Pass}
 use Rattle.widths.specs.LineParts.{breaks, other_than, others_break}
 use Rattle.widths.specs.TabStops.{next_stop}
-use Rattle.columns.specs.Filling.{empty_line, fill_word, fill_to, fill_other, fill_blank, fill_by, fill_all}
+use Rattle.columns.specs.Filling.{moves, along_of, grown, grown_moves, apart_none, apart_moves, empty_line, fill_word, fill_to, fill_other, fill_blank, fill_by, fill_all}
 use Rattle.columns.specs.declared.filling.Fill.{Fill}
 
 -- ---- the characters of a run
@@ -66,13 +66,13 @@ module _ (g t w : ℕ) where
 
   -- Nothing of a word moves along, and the next one may.
   abbrev pub Rested : Fill → Type 0
-  Rested z = (z.part ≡ 0) × (z.moves ≡ true → z.begun ≡ true)
+  Rested z = (along_of z ≡ 0) × (moves z ≡ true → z.begun ≡ true)
 
   rested-char : (x : Fill) (c : ℕ) → in_run c ≡ true → Rested (fill_by in_word g t w x c)
   rested-char x c h =
       subst Rested (sym (run-char x c h))
       (pick_cases Rested x.begun
-      (λ _. pick_cases Rested (eqb c 0x0020) (λ _. (refl, λ e. e)) (λ _. (refl, λ e. absurd (false≢true e)))) (λ _. (refl, λ e. absurd (false≢true e))))
+      (λ _. pick_cases Rested (eqb c 0x0020) (λ _. (apart_none x.begun, λ e. sym (apart_moves x.begun) ∙ e)) (λ _. (refl, λ e. absurd (false≢true e)))) (λ _. (refl, λ e. absurd (false≢true e))))
 
   rested-on : (cs : List ℕ) (x : Fill) → Pass in_run cs → Rested x → Rested (filled x cs)
   unfolding fill_all
@@ -111,7 +111,7 @@ module _ (g t w : ℕ) where
 
   -- A character of a word that fits.
   abbrev in_line : Fill → Fill
-  in_line x = record { lines = x.lines; at = x.at + g; begun = true; moves = x.moves; part = pick x.moves (x.part + g) 0 }
+  in_line x = record { lines = x.lines; at = x.at + g; begun = true; part = grown g x.part }
 
   word-char : (x : Fill) (c : ℕ) → in_word c ≡ true → x.at + g ≤ w → fill_by in_word g t w x c ≡ in_line x
   unfolding fill_by fill_word
@@ -121,17 +121,17 @@ module _ (g t w : ℕ) where
   pub record WordFills (x z : Fill) (n : ℕ) : Type 0 where
     pub lines : z.lines ≡ x.lines
     pub at : z.at ≡ x.at + n * g
-    pub moves : z.moves ≡ x.moves
-    pub part : x.moves ≡ false → x.part ≡ 0 → z.part ≡ 0
+    pub moved : moves z ≡ moves x
+    pub part : x.part ≡ None → z.part ≡ None
 
   pub word_fills : (cs : List ℕ) (x : Fill) → Pass in_word cs → x.at + length cs * g ≤ w → WordFills x (filled x cs) (length cs)
   unfolding fill_all
-  word_fills [] x h f = record { lines = refl; at = omega (arith, zero-mul g); moves = refl; part = λ _ e. e }
+  word_fills [] x h f = record { lines = refl; at = omega (arith, zero-mul g); moved = refl; part = λ e. e }
   word_fills (c ∷ cs) x h f =
       let one : suc (length cs) * g ≡ g + length cs * g = omega arith in
       let r = word_fills cs (in_line x) h.1 (omega (arith, f, one)) in
       subst (λ (z : Fill). WordFills x (filled z cs) (suc (length cs))) (sym (word-char x c h.0 (omega (arith, f, one))))
-      (record { lines = r.lines; at = omega (arith, r.at, one); moves = r.moves; part = λ e _. r.part e (pick-false x.moves _ _ e) })
+      (record { lines = r.lines; at = omega (arith, r.at, one); moved = r.moved ∙ grown_moves g x.part; part = λ e. r.part (ap (grown g) e) })
 
   -- ---- the tokens of one character
 

@@ -1,22 +1,22 @@
 // Lines filled with a text's bytes, from the left and with plain spaces: no layout that drops nothing has so few (rule 4, rule 8, rule 10).
-ghost use Rattle.std.specs.Prelude.{◌+◌, ◌*◌, ◌≤◌, ◌≡◌, length};
-ghost use Rattle.basis.specs.Choice.{pick};
+ghost use Rattle.std.specs.Prelude.{◌*◌, ◌≤◌, ◌≡◌, length};
 ghost use Rattle.meaning.specs.Checks.{text_limit};
 ghost use Rattle.widths.specs.LineParts.{breaks};
 ghost use Rattle.widths.specs.TabStops.{next_stop};
-ghost use Rattle.columns.specs.Filling.{fill_word, fill_to, fill_other, fill_blank, fill_by};
+ghost use Rattle.columns.specs.Filling.{grown, fill_word, fill_to, fill_other, fill_blank, fill_by};
 ghost use Rattle.columns.specs.LeadBytes.{leads};
-ghost use Rattle.columns.specs.FillTurns.{FineFill, lines_filled};
+ghost use Rattle.columns.specs.FillTurns.{SmallFill, lines_filled};
 
-// So many lines are full, and the next one is filled up to a place; whether it has a character of a word; whether the word at hand moves to the
-// next line if it does not fit, and how much of it is in this one.
+use crate::gauge::Gauge;
+
+// So many lines are full, and the next one is filled up to a place; whether it has a character of a word; and how much of the word at hand is
+// in it, if that word moves to the next line where it does not fit. `begun` is no Option: `at` counts with a word and without.
 #[derive(Clone, Copy)]
 pub struct Fill {
     pub lines: usize,
     pub at: u32,
     pub begun: bool,
-    pub moves: bool,
-    pub part: u32,
+    pub part: Option<u32>,
 }
 
 // A byte that begins a character of a word, whatever follows it.
@@ -46,45 +46,43 @@ pub fn breaks_line(b: u8) -> bool
 }
 
 // What moves along of a word, with one character more.
-fn grown_part(glyph: u32, tab: u32, w: u32, f: Fill) -> u32
-    requires { FineFill glyph tab w f }
-    ensures { result ≡ pick f.moves (f.part + glyph) 0 }
+fn grown_part(gauge: Gauge, f: Fill) -> Option<u32>
+    requires { SmallFill gauge.width text_limit f }
+    ensures { result ≡ grown gauge.glyph f.part }
 {
-    if f.moves {
-        return f.part + glyph;
-    }
-    0
+    let part = f.part?;
+    Some(part + gauge.glyph)
 }
 
 // A character of a word goes into the line if it fits, else into the next one, with what moves along.
-fn fill_word(glyph: u32, tab: u32, w: u32, f: Fill) -> Fill
-    requires { FineFill glyph tab w f }
-    ensures { result ≡ fill_word glyph w f }
+fn fill_word(gauge: Gauge, f: Fill) -> Fill
+    requires { SmallFill gauge.width text_limit f }
+    ensures { result ≡ fill_word gauge.glyph gauge.width f }
 {
-    let to = f.at + glyph;
-    if to <= w {
+    let to = f.at + gauge.glyph;
+    if to <= gauge.width {
         return Fill {
             at: to,
             begun: true,
-            part: grown_part(glyph, tab, w, f),
+            part: grown_part(gauge, f),
             ..f
         };
     }
-    let along = f.part + glyph;
+    let along = f.part.unwrap_or(0) + gauge.glyph;
     Fill {
         lines: f.lines + 1,
-        at: along.min(w),
+        at: along.min(gauge.width),
         begun: true,
-        moves: false,
-        part: 0,
+        part: None,
     }
 }
 
 // The first multiple of the tab width above a place, which stays where it is if that width is 0.
-pub fn next_stop(tab: u32, at: u32) -> u32
-    requires { (tab ≤ 4096) × (at ≤ text_limit * 4096) }
-    ensures { result ≡ next_stop tab at }
+pub fn next_stop(gauge: Gauge, at: u32) -> u32
+    requires { at ≤ text_limit * 4096 }
+    ensures { result ≡ next_stop gauge.tab at }
 {
+    let tab = gauge.tab;
     if tab == 0 {
         return at;
     }
@@ -97,8 +95,7 @@ fn fill_to(w: u32, f: Fill, to: u32) -> Fill
 {
     Fill {
         at: to.min(w),
-        moves: f.begun,
-        part: 0,
+        part: f.begun.then_some(0),
         ..f
     }
 }
@@ -107,66 +104,60 @@ fn fill_to(w: u32, f: Fill, to: u32) -> Fill
 fn fill_other(f: Fill) -> Fill
     ensures { result ≡ fill_other f }
 {
-    Fill {
-        moves: false,
-        part: 0,
-        ..f
-    }
+    Fill { part: None, ..f }
 }
 
 // A space or a tab behind a word: to the edge where it does not fit.
-fn fill_blank(glyph: u32, tab: u32, w: u32, f: Fill, b: u8) -> Fill
-    requires { FineFill glyph tab w f }
-    ensures { result ≡ fill_blank glyph tab w f b }
+fn fill_blank(gauge: Gauge, f: Fill, b: u8) -> Fill
+    requires { SmallFill gauge.width text_limit f }
+    ensures { result ≡ fill_blank gauge.glyph gauge.tab gauge.width f b }
 {
     if b == 0x20 {
-        let further = f.at + glyph;
-        return fill_to(w, f, further);
+        let further = f.at + gauge.glyph;
+        return fill_to(gauge.width, f, further);
     }
     if b == 9 {
-        let stop = next_stop(tab, f.at);
-        return fill_to(w, f, stop);
+        let stop = next_stop(gauge, f.at);
+        return fill_to(gauge.width, f, stop);
     }
     fill_other(f)
 }
 
 // One byte more. What stands before the first word of a line is not counted, since it may be skipped.
-fn fill_byte(glyph: u32, tab: u32, w: u32, f: Fill, b: u8) -> Fill
-    requires { FineFill glyph tab w f }
-    ensures { result ≡ fill_by leads glyph tab w f b }
+fn fill_byte(gauge: Gauge, f: Fill, b: u8) -> Fill
+    requires { SmallFill gauge.width text_limit f }
+    ensures { result ≡ fill_by leads gauge.glyph gauge.tab gauge.width f b }
 {
     if begins_word(b) {
-        return fill_word(glyph, tab, w, f);
+        return fill_word(gauge, f);
     }
     if breaks_line(b) {
         return Fill {
             lines: f.lines + 1,
             at: 0,
             begun: false,
-            moves: false,
-            part: 0,
+            part: None,
         };
     }
     if f.begun {
-        return fill_blank(glyph, tab, w, f, b);
+        return fill_blank(gauge, f, b);
     }
     fill_other(f)
 }
 
 // So many lines are full when all bytes are in.
-pub fn lines_filled(glyph: u32, tab: u32, w: u32, text: &[u8]) -> usize
-    requires { (glyph ≤ 64) × (tab ≤ 4096) × (w ≤ 4096) × (length text.now ≤ text_limit) }
-    ensures { result ≡ lines_filled glyph tab w text.now }
+pub fn lines_filled(gauge: Gauge, text: &[u8]) -> usize
+    requires { length text.now ≤ text_limit }
+    ensures { result ≡ lines_filled gauge.glyph gauge.tab gauge.width text.now }
 {
     let mut f = Fill {
         lines: 0,
         at: 0,
         begun: false,
-        moves: false,
-        part: 0,
+        part: None,
     };
     for b in text {
-        f = fill_byte(glyph, tab, w, f, *b);
+        f = fill_byte(gauge, f, *b);
     }
     f.lines
 }

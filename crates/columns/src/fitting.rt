@@ -1,5 +1,5 @@
 // Whether a text fits so many lines and loses no character: a public call (rule 10, refusal 1, refusal 2, refusal 3, refusal 4).
-ghost use Rattle.std.specs.Prelude.{◌≤◌, ◌≡◌};
+ghost use Rattle.std.specs.Prelude.{◌≡◌};
 ghost use Rattle.utf8.specs.Decoding.{decode_all};
 ghost use Rattle.meaning.specs.Columns.{fits_whole};
 ghost use Rattle.meaning.specs.ColumnCalls.{fitting_answer};
@@ -14,12 +14,11 @@ use stands::stand::{at_start, next_stand};
 // Laid so, the text has at most h lines and loses no character. No line is laid after one that dropped a character, and none after the
 // last that may be.
 pub fn fits_whole(text: &[u8], s: Settings, h: u32) -> bool
-    requires { TextReady s text.now × (1 ≤ h) }
+    requires { TextReady s text.now }
     ensures { result ≡ fits_whole s h (decode_all text.now) }
 {
-    let mut left = h;
     let mut stand = at_start(text);
-    loop {
+    for _line in 0..h {
         let row = lay_row(text, s, stand);
         if row.entry.dropped.0 != 0 {
             return false;
@@ -27,12 +26,9 @@ pub fn fits_whole(text: &[u8], s: Settings, h: u32) -> bool
         if row.last {
             return true;
         }
-        if left <= 1 {
-            return false;
-        }
-        left -= 1;
         stand = next_stand(text, stand, row);
     }
+    false
 }
 
 // Whether it does; or refusal 1, 2, 3 or 4.

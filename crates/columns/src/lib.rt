@@ -4,6 +4,7 @@
 mod checked;
 mod filling;
 pub mod fitting;
+mod gauge;
 mod parts;
 pub mod planning;
 mod skipping;

@@ -1,6 +1,6 @@
 // The smallest box width in which a text fits so many lines and loses no character: a public call (rule 10, refusal 1, refusal 2,
 // refusal 3, refusal 4).
-ghost use Rattle.std.specs.Prelude.{◌≤◌, ◌≡◌, Ok};
+ghost use Rattle.std.specs.Prelude.{◌≡◌, Ok};
 ghost use Rattle.utf8.specs.Decoding.{decode_all};
 ghost use Rattle.meaning.specs.Checks.{check_utf8};
 ghost use Rattle.meaning.specs.Columns.{narrowest};
@@ -15,9 +15,10 @@ use crate::width::{WIDEST_BOX, with_width};
 use meaning::refusals::Refusal;
 use meaning::settings::Settings;
 
-// The smallest width of all. Those are passed over in which it fills too many lines, or that lay it as one does in which it did not fit.
+// The smallest width of all. Those are passed over in which it fills too many lines, or that lay it as one does in which it did not fit: how
+// many, differs from width to width, so that no `for` has this step.
 fn narrowest_width(s: Settings, text: &[u8], h: u32) -> Option<u64>
-    requires { TextReady s text.now × (1 ≤ h) × (check_utf8 text.now ≡ Ok tt) }
+    requires { TextReady s text.now × (check_utf8 text.now ≡ Ok tt) }
     ensures { result ≡ narrowest s h (decode_all text.now) }
 {
     let skips = skips_of(s, text);

@@ -7,6 +7,7 @@ ghost use Rattle.moves.specs.Fine.{FineSettings};
 ghost use Rattle.rows.specs.RowsFrom.{TextReady};
 ghost use Rattle.columns.specs.Skipping.{tab_step, tab_skips, skips_of, next_width, SmallSkips};
 
+use crate::gauge::Gauge;
 use crate::parts::widest_part;
 use crate::width::WIDEST_BOX;
 use meaning::settings::Settings;
@@ -82,7 +83,12 @@ pub fn skips_of(s: Settings, text: &[u8]) -> Skips
         };
     }
     let step = s.glyph.0;
-    let widest = widest_part(step, s.tab.0, text);
+    let gauge = Gauge {
+        glyph: step,
+        tab: s.tab.0,
+        width: s.width.0,
+    };
+    let widest = widest_part(gauge, text);
     if has_tab(text) {
         return tab_skips(s, widest);
     }

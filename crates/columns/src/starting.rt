@@ -7,11 +7,13 @@ ghost use Rattle.columns.specs.Skipping.{SmallSkips};
 ghost use Rattle.columns.specs.FirstWidth.{NoneBelow, Begins};
 
 use crate::filling::lines_filled;
+use crate::gauge::Gauge;
 use crate::skipping::Skips;
 use crate::width::WIDEST_BOX;
 use meaning::settings::Settings;
 
-// The first width in which it fills fewer than h lines, by halving; past all widths if there is none.
+// The first width in which it fills fewer than h lines, by halving; past all widths if there is none. Halving has no `for`, and the library
+// halves a slice, not a range of numbers.
 fn room_width(s: Settings, text: &[u8], h: u32) -> u32
     requires { TextReady s text.now × (check_utf8 text.now ≡ Ok tt) }
     ensures { (result ≤ 4097) × NoneBelow s h (decode_all text.now) result }
@@ -21,7 +23,12 @@ fn room_width(s: Settings, text: &[u8], h: u32) -> u32
     let mut high = WIDEST_BOX + 1;
     while low < high {
         let middle = (low + high) / 2;
-        let filled = lines_filled(s.glyph.0, s.tab.0, middle, text);
+        let gauge = Gauge {
+            glyph: s.glyph.0,
+            tab: s.tab.0,
+            width: middle,
+        };
+        let filled = lines_filled(gauge, text);
         if lines <= filled {
             low = middle + 1;
         } else {

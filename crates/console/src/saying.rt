@@ -1,10 +1,28 @@
-// What programs say of an input that they refuse: a refusal by number and value, or that it cannot be read.
-ghost use Rattle.std.specs.Prelude.{◌≤◌};
-
-use crate::input::count_rest;
+// What programs say: rows of numbers; and of an input that they refuse, the refusal by number and value, or that it cannot be read.
 use checks::refusals::{number, value};
 use meaning::refusals::Refusal;
 use std::io;
+
+// A row's numbers, with a space between any two, as a line of text.
+fn say_row(rt: &impl Print, row: &[u32]) -> io::Result<()> {
+    let Some((last, others)) = row.split_last() else {
+        return Ok(());
+    };
+    for number in others {
+        print!(rt; "{number} ")?;
+    }
+    rt.println(last)
+}
+
+// What the rows are and how many, and then each of them.
+pub fn say_rows<const N: usize>(rt: &impl Print, name: &str, rows: &[[u32; N]]) -> io::Result<()> {
+    let n = rows.len();
+    println!(rt; "{name} {n}")?;
+    for row in rows {
+        say_row(rt, row)?;
+    }
+    Ok(())
+}
 
 fn say_refused(rt: &impl Print, refusal: Refusal) -> io::Result<()> {
     let number = number(refusal);
@@ -23,13 +41,11 @@ fn say_too_long(
     input: &mut impl io::Read,
     program: &str,
     first: usize,
-) -> io::Result<()>
-    requires { first ≤ 65536 }
-{
-    let Ok(rest) = count_rest(input) else {
+) -> io::Result<()> {
+    let Ok(rest) = io::copy(input, &mut io::sink()) else {
         return say_unread(rt, program);
     };
-    say_refused(rt, Refusal::TextTooLong((first + rest) as u64))
+    say_refused(rt, Refusal::TextTooLong(rest.saturating_add(first as u64)))
 }
 
 // Why a text, of which so many bytes were read from this input, was refused.
@@ -39,9 +55,7 @@ pub fn refuse(
     program: &str,
     refusal: Refusal,
     length: usize,
-) -> io::Result<()>
-    requires { length ≤ 65536 }
-{
+) -> io::Result<()> {
     if let Refusal::TextTooLong(_) = refusal {
         return say_too_long(rt, input, program, length);
     }

@@ -27,7 +27,7 @@ use Rattle.ink.specs.Sheet.{Sheet, sheet, drawn_on, on_append, on_none, on-is, p
 use Rattle.prints.specs.TokenDrawn.{tok_drawn, PenRoom}
 use Rattle.drawing.specs.PassDrawn.{DrawRoom, pen_at, none-drawn, go-drawn, stop-drawn}
 use Rattle.drawing.specs.DrawnBounds.{tok-few}
-use Rattle.drawing.specs.DrawingOn.{PenReady, Strode}
+use Rattle.drawing.specs.DrawingOn.{PenReady, inked_at, Strode}
 use Rattle.ink.specs.declared.pen.Pen.{Pen}
 use Rattle.drawing.specs.declared.inked.Inked.{Inked}
 use Rattle.prints.specs.TokenEvents.{tok-narrow}
@@ -38,10 +38,9 @@ pub record Drawing (t : List ℕ) (s : Settings) (goal : Sheet) (ev : List ℕ) 
   pub draws : drawn_on (sheet ev o) (drawn_from s p t at held.chars.0 held.count.0) ≡ goal
   pub ready : PenReady s p t at held o
 
-pub drawing-first : (t : List ℕ) (s : Settings) (ev : List ℕ) (p : Place) (at : ℕ) (r : Resumed) (x k : ℕ) → DrawRoom s p t at r x k
-    → Drawing t s (drawn_on (sheet ev (pen_at k x)) (drawn_from s p t at r.chars.0 r.count.0)) ev p at r (pen_at k x)
-drawing-first t s ev p at r x k h =
-    record { draws = refl; ready = record { pass = h.pass; few = omega (arith, h.few); narrow = omega (arith, h.narrow) } }
+-- Where a line begins to be drawn.
+pub pass-ready : (t : List ℕ) (s : Settings) (p : Place) (at : ℕ) (r : Resumed) (x k : ℕ) → DrawRoom s p t at r x k → PenReady s p t at r (pen_at k x)
+pass-ready t s p at r x k h = record { pass = h.pass; few = omega (arith, h.few); narrow = omega (arith, h.narrow) }
 
 -- ---- strides
 
@@ -59,6 +58,12 @@ module _ {t : List ℕ} {s : Settings} {goal : Sheet} {ev : List ℕ} {p : Place
       drawing-waits z e =
           let k = f.waits w in
           e ∙ (λ i. drawn_on (sheet u g.pen) (drawn_from s g.place t g.at (sym k.1 i) (sym k.2 i))) ∙ drawing_strode.draws
+
+-- Where it stands.
+pub drawing_at : {t : List ℕ} {s : Settings} {goal : Sheet} {ev : List ℕ} {q : Place} {to : ℕ} {held : Resumed} {v : Pen} {g : Inked} → g ≡ inked_at q to v
+    → Drawing t s goal ev q to held v → Drawing t s goal ev g.place g.at held g.pen
+unfolding inked_at
+drawing_at is d = rw is d
 
 -- ---- a token
 

@@ -32,7 +32,7 @@ use Rattle.drawing.specs.PassDrawn.{DrawRoom, pen_at}
 use Rattle.drawing.specs.DrawingOn.{PenReady, Drew}
 use Rattle.drawing.specs.PlainDrawn.{plain_start, plain_place, PlainToDraw, DrewPlain}
 use Rattle.drawing.proofs.OnwardEvents.{drew-none, drew-on, drew-first, drew-space}
-use Rattle.drawing.proofs.PassLoop.{drawing-first}
+use Rattle.drawing.proofs.PassLoop.{pass-ready}
 
 -- ---- columns
 
@@ -90,7 +90,7 @@ module _ {s : Settings} {t : List ℕ} {at end left : ℕ} (d : PlainToDraw s t 
     unfolding start_place plain_spaces plain_place word_place advance spaces_after
     first-drawn ev u v e =
         record {
-          onward = print_plain (drawing-first t s ev (plain_start s left) at nothing_resumed left k r).ready ev u v first x.word
+          onward = print_plain (pass-ready t s (plain_start s left) at nothing_resumed left k r) ev u v first x.word
               (omega (arith, columns_fit first first-near)) e;
           pen = (pen-one ev u (pen_at k left) v _ e).1;
         }

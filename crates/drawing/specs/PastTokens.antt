@@ -1,6 +1,6 @@
 -- How a pass goes on from a token that is drawn: from a place, or it ends (rule 8).
 -- Assumes nothing.
-use Rattle.std.specs.Prelude.{ℕ, ◌≡◌, Bool, true, false, List}
+use Rattle.std.specs.Prelude.{ℕ, ◌≡◌, List, None, Option, Some}
 use Rattle.meaning.specs.Line.{unmeasured}
 use Rattle.meaning.specs.declared.settings.Settings.{Settings}
 use Rattle.meaning.specs.declared.cursor.Place.{Place}
@@ -20,7 +20,7 @@ pub record Stops (s : Settings) (p : Place) (t : List ℕ) (at : ℕ) (x : Lexem
   pub end : Ended
   pub is : step_from s p t at x unmeasured ≡ Stop end
 
--- Whether it goes on, and from which place.
-abbrev pub Went : Settings → Place → List ℕ → (at : ℕ) → Lexeme → Bool → Place → Type 0
-Went s p t at x true q = Goes s p t at x q
-Went s p t at x false q = Stops s p t at x
+-- From which place it goes on, or that it ends.
+abbrev pub Went : Settings → Place → List ℕ → (at : ℕ) → Lexeme → Option Place → Type 0
+Went s p t at x (Some q) = Goes s p t at x q
+Went s p t at x None = Stops s p t at x

@@ -31,20 +31,19 @@ pub fn draw_part(
     ensures events_after { events.new ≡ put_events events.old k (events_from s (plain_start s x) text.now at 0 0 x) }
     ensures value { result ≡ k + length (drawn_from s (plain_start s x) text.now at 0 0) }
 {
-    let glyph = s.glyph;
     let pen = Pen {
         next: k,
         x: Pixels(x),
     };
     if gluing == 0 {
-        let width = most * glyph.0;
+        let width = most * s.glyph.0;
         let last = put_one(events, pen, EventKind::Printed, at, next, 0, width);
         return last.next;
     }
     let spaces = Spaces {
-        width: glyph,
+        width: s.glyph,
         extra: Pixels(0),
     };
-    let last = draw_word(text, at, most, glyph.0, spaces, pen, events);
+    let last = draw_word(text, at, most, s.glyph.0, spaces, pen, events);
     last.next
 }

@@ -8,6 +8,7 @@ ghost use Rattle.drawing.specs.Drawn.{drawn_from};
 ghost use Rattle.drawing.specs.DrawingOn.{PenReady};
 ghost use Rattle.drawing.specs.LoneLines.{LoneLine};
 
+use crate::inked::Inked;
 use ink::pen::{Pen, put_one};
 use meaning::cursor::Place;
 use meaning::line::EventKind;
@@ -43,17 +44,17 @@ pub fn is_lone(text: &[u8], s: Settings, p: Place, at: usize, rest: Resumed) -> 
 }
 
 // Its "-".
-pub fn draw_lone(
-    text: &[u8],
-    s: Settings,
-    p: Place,
-    at: usize,
-    rest: Resumed,
-    pen: Pen,
-    events: &mut [u32],
-) -> Pen
-    requires { PenReady s p text.now at rest pen × LoneLine s p text.now at rest }
-    ensures { sheet events.new result ≡ drawn_on (sheet events.old pen) (drawn_from s p text.now at rest.chars.0 rest.count.0) }
+pub fn draw_lone(text: &[u8], s: Settings, g: Inked, rest: Resumed, events: &mut [u32]) -> Pen
+    requires { PenReady s g.place text.now g.at rest g.pen × LoneLine s g.place text.now g.at rest }
+    ensures { sheet events.new result ≡ drawn_on (sheet events.old g.pen) (drawn_from s g.place text.now g.at rest.chars.0 rest.count.0) }
 {
-    put_one(events, pen, EventKind::Printed, at, at + 2, 0, s.glyph.0)
+    put_one(
+        events,
+        g.pen,
+        EventKind::Printed,
+        g.at,
+        g.at + 2,
+        0,
+        s.glyph.0,
+    )
 }

@@ -16,6 +16,7 @@ use meaning::settings::Settings;
 use parser::marks::{MarkChar, mark_at};
 use steps::foreseen::Look;
 use steps::step::Resumed;
+use strides::going::is_free;
 use strides::marks::{next_joined, two_zeros};
 
 // The first of two zero width spaces.
@@ -41,6 +42,7 @@ fn draw_zeros(
 {
     let mut at = from;
     let mut pen = start;
+    // No `for`: how many there are is what the text tells.
     while two_zeros(text, at) {
         pen = draw_zero(text, s, p, at, pen, events);
         at += 3;
@@ -70,8 +72,7 @@ fn draw_marks(
                 return draw_zeros(text, s, p, at, pen, events);
             }
             Some(joined) => {
-                let spaces = p.spaces;
-                pen = draw_scanned(text, at + 2, joined.word, s.glyph.0, spaces, pen, events);
+                pen = draw_scanned(text, at + 2, joined.word, s.glyph.0, p.spaces, pen, events);
                 at = joined.word.end.0 as usize;
                 p = joined.place;
             }
@@ -83,28 +84,20 @@ fn draw_marks(
 pub fn draw_past(
     text: &[u8],
     s: Settings,
-    p: Place,
-    at: usize,
+    g: Inked,
     rest: Resumed,
-    pen: Pen,
     seen: Option<Look>,
     events: &mut [u32],
 ) -> Inked
-    requires { PenReady s p text.now at rest pen × ForeseesFrom s p text.now at rest seen }
-    ensures strode { Strode s text.now rest events.old p at pen events.new result }
+    requires { PenReady s g.place text.now g.at rest g.pen × ForeseesFrom s g.place text.now g.at rest seen }
+    ensures strode { Strode s text.now rest events.old g.place g.at g.pen events.new result }
     ensures foresees_from { ForeseesFrom s result.place text.now result.at rest seen }
 {
-    if let Some(_) = seen {
-        return inked_at(p, at, pen);
+    if g.place.empty || !is_free(rest, seen) {
+        return inked_at(g.place, g.at, g.pen);
     }
-    if p.empty {
-        return inked_at(p, at, pen);
+    if let None | Some(MarkChar::Tab) = mark_at(text, g.at) {
+        return inked_at(g.place, g.at, g.pen);
     }
-    if let None | Some(MarkChar::Tab) = mark_at(text, at) {
-        return inked_at(p, at, pen);
-    }
-    if rest.chars.0 != 0 {
-        return inked_at(p, at, pen);
-    }
-    draw_marks(text, s, p, at, pen, events)
+    draw_marks(text, s, g.place, g.at, g.pen, events)
 }

@@ -22,11 +22,10 @@ use steps::foreseen::Look;
 use steps::step::Stepped;
 use steps::words::word_place;
 
-// Whether the pass goes on, the place from which it does, and the pen.
+// The place from which the pass goes on, or none where it ends, and the pen.
 #[derive(Clone, Copy)]
 pub struct Past {
-    pub goes: bool,
-    pub place: Place,
+    pub place: Option<Place>,
     pub pen: Pen,
 }
 
@@ -42,21 +41,19 @@ fn past_word(
 ) -> Past
     requires { Ready s p text.now at x unmeasured × PenRoom pen × (x.kind ≡ Word) }
     ensures pen_after { sheet events.new result.pen ≡ drawn_on (sheet events.old pen) (tok_drawn s p text.now at x) }
-    ensures went { Went s p text.now at x result.goes result.place }
+    ensures went { Went s p text.now at x result.place }
 {
     if fits(p.cursor, x.chars.0 * s.glyph.0) {
         let whole = draw_whole(text, s, p, at, x, pen, events);
         let place = word_place(s.glyph, p, x.chars, x.glues);
         return Past {
-            goes: true,
-            place,
+            place: Some(place),
             pen: whole,
         };
     }
     let cut = draw_cut(text, s, p, at, x, pen, events);
     Past {
-        goes: false,
-        place: p,
+        place: None,
         pen: cut,
     }
 }
@@ -74,20 +71,18 @@ fn past_step(
 ) -> Past
     requires { Ready s p text.now at x unmeasured × PenRoom pen × ForeseesAfter s p text.now x ahead × (x.kind ≡ Word → ⊥) }
     ensures pen_after { sheet events.new result.pen ≡ drawn_on (sheet events.old pen) (tok_drawn s p text.now at x) }
-    ensures went { Went s p text.now at x result.goes result.place }
+    ensures went { Went s p text.now at x result.place }
 {
     let none = nothing_measured();
     let stepped = step_token(text, s, p, at, x, none, ahead);
     let drawn = draw_token(text, s, p, at, x, none, stepped, ahead, pen, events);
     match stepped {
         Stepped::Go(q, _, _) => Past {
-            goes: true,
-            place: q,
+            place: Some(q),
             pen: drawn,
         },
         Stepped::Stop(_) => Past {
-            goes: false,
-            place: p,
+            place: None,
             pen: drawn,
         },
     }
@@ -106,7 +101,7 @@ pub fn past_token(
 ) -> Past
     requires { Ready s p text.now at x unmeasured × PenRoom pen × ForeseesAfter s p text.now x ahead }
     ensures pen_after { sheet events.new result.pen ≡ drawn_on (sheet events.old pen) (tok_drawn s p text.now at x) }
-    ensures went { Went s p text.now at x result.goes result.place }
+    ensures went { Went s p text.now at x result.place }
 {
     match x.kind {
         TokenKind::Word => past_word(text, s, p, at, x, pen, events),

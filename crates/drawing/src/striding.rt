@@ -16,6 +16,7 @@ use pairs::pair::pair_at;
 use steps::foreseen::Look;
 use steps::step::Resumed;
 use strides::first::{Begun, first_taken};
+use strides::going::is_free;
 use strides::next::{Next, next_pair, next_stride};
 
 // As many plain words as fit, in a line that is not empty.
@@ -113,42 +114,21 @@ fn draw_words(text: &[u8], s: Settings, p: Place, at: usize, pen: Pen, events: &
     }
 }
 
-// The same of a line that may have a rest to resume first.
-fn draw_on(
-    text: &[u8],
-    s: Settings,
-    p: Place,
-    at: usize,
-    rest: Resumed,
-    pen: Pen,
-    events: &mut [u32],
-) -> Inked
-    requires { PenReady s p text.now at rest pen }
-    ensures { Strode s text.now rest events.old p at pen events.new result }
-{
-    if rest.chars.0 == 0 {
-        return draw_words(text, s, p, at, pen, events);
-    }
-    inked_at(p, at, pen)
-}
-
-// The same where a look may be known, which is kept for the white space that comes next.
+// The same where a rest may be resumed or a look be known: then it stays where it stands.
 pub fn draw_unless(
     text: &[u8],
     s: Settings,
-    p: Place,
-    at: usize,
+    g: Inked,
     rest: Resumed,
-    pen: Pen,
     seen: Option<Look>,
     events: &mut [u32],
 ) -> Inked
-    requires { PenReady s p text.now at rest pen × ForeseesFrom s p text.now at rest seen }
-    ensures strode { Strode s text.now rest events.old p at pen events.new result }
+    requires { PenReady s g.place text.now g.at rest g.pen × ForeseesFrom s g.place text.now g.at rest seen }
+    ensures strode { Strode s text.now rest events.old g.place g.at g.pen events.new result }
     ensures foresees_from { ForeseesFrom s result.place text.now result.at rest seen }
 {
-    if let Some(_) = seen {
-        return inked_at(p, at, pen);
+    if is_free(rest, seen) {
+        return draw_words(text, s, g.place, g.at, g.pen, events);
     }
-    draw_on(text, s, p, at, rest, pen, events)
+    inked_at(g.place, g.at, g.pen)
 }

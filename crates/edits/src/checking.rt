@@ -1,5 +1,7 @@
 // What laying again tests before anything is laid: refusals 1 to 6, in this order.
 // Refusal 1, refusal 2, refusal 3, refusal 4, refusal 5, refusal 6.
+// A table is lent with a count of lines beside it, as C lends it: it may be past the table, which refusal 5 answers; heights says at
+// `height_of` why the pair stays behind that check.
 ghost use Rattle.std.specs.Prelude.{◌≡◌, length, Ok};
 ghost use Rattle.utf8.specs.Decoding.{decode_all};
 ghost use Rattle.meaning.specs.Checks.{check_utf8};

@@ -1,4 +1,5 @@
-// The rest that the first affected line resumes: refusal 5 of it.
+// The rest that the first affected line resumes: refusal 5 of it. That the part is UTF-8 is a clause and no `&str`: that would be checked
+// once more, and all definitions read bytes.
 ghost use Rattle.std.specs.Prelude.{◌≡◌, true, Ok};
 ghost use Rattle.utf8.specs.Decoding.{decode_all};
 ghost use Rattle.utf8.specs.Places.{boundary};

@@ -26,7 +26,7 @@ fn check_end(file: &[u8], at: usize) -> Result<(), Refusal>
     Ok(())
 }
 
-// Lines, and the end.
+// Lines, and the end. How many lines there are is told by their fields alone, and where they end is used behind the loop: it is no `for`.
 fn check_lines(file: &[u8]) -> Result<(), Refusal>
     requires { lines_at ≤ length file.now }
     ensures { result ≡ check_line_fields (length file.now) lines_at (drop lines_at file.now) }

@@ -1,6 +1,7 @@
 // The lines of a file: checked where they stand, and written to a table (refusal 3, refusal 5).
+// How many lines a file has stands in its head: it is read once, and handed on.
 ghost use Rattle.std.specs.Prelude.{◌+◌, ◌*◌, ◌≤◌, ◌≡◌, [], ◌∷◌, length, drop};
-ghost use Rattle.meaning.specs.Checks.{text_limit, first_of, check_length};
+ghost use Rattle.meaning.specs.Checks.{first_of, check_length};
 ghost use Rattle.meaning.specs.Table.{entry_numbers, of_entry, of_all, entry_in, written};
 ghost use Rattle.meaning.specs.WellFormed.{nothing, last_reach, check_lines};
 ghost use Rattle.meaning.specs.LayoutFile.{line_size, line_bytes, lines_at};
@@ -40,7 +41,7 @@ fn last_reach(file: &[u8], lines: usize) -> u32
 
 // The first bad line of a text of so many bytes.
 fn check_each(file: &[u8], lines: usize, bytes: Offset) -> Result<(), Refusal>
-    requires { (lines_at + line_bytes * lines ≤ length file.now) × (bytes.0 ≤ text_limit) }
+    requires { lines_at + line_bytes * lines ≤ length file.now }
     ensures { result ≡ check_lines bytes.0 0 nothing (lines_in lines (drop lines_at file.now)) }
 {
     let mut prior = None;

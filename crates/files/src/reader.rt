@@ -1,5 +1,6 @@
 // A layout read from a file. Nothing is written before all tests are made (refusal 1, refusal 2, refusal 3, refusal 5, refusal 8,
 // refusal 9, refusal 11, refusal 12).
+// The table that a file is read to is lent for more lines than there may be: how many are needed stands beside it.
 ghost use Rattle.std.specs.Prelude.{◌≡◌, [], ◌∷◌, length, Ok};
 ghost use Rattle.meaning.specs.Checks.{first_of, check_room};
 ghost use Rattle.meaning.specs.Table.{entry_numbers, capacity_of, written};

@@ -1,4 +1,6 @@
 // A layout written to a file, field after field (refusal 1, refusal 2, refusal 5, refusal 8).
+// A table is lent with a count of lines beside it, as C lends it: it may be past the table, which refusal 5 answers; heights says at
+// `height_of` why the pair stays behind that check.
 ghost use Rattle.std.specs.Prelude.{◌+◌, ◌*◌, ◌≤◌, ◌≡◌, length, drop};
 ghost use Rattle.meaning.specs.Table.{entry_numbers, of_all, entry_in, entries_in};
 ghost use Rattle.meaning.specs.LayoutFile.{header_bytes, number_bytes, line_bytes, length_at, lines_at, settings_field, length_field, line_field, line_fields, layout_file, file_bytes};

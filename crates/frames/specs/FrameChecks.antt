@@ -1,9 +1,9 @@
 -- The tests of the two calls, in their order, and what each leaves (refusal 1, refusal 2, refusal 3, refusal 4, refusal 5, refusal 8).
 -- Assumes nothing.
-use Rattle.std.specs.Prelude.{ℕ, ◌≤◌, ◌<◌, ◌≡◌, true, false, not, List, [], ◌∷◌, ltb, length, Err, Ok, Result}
+use Rattle.std.specs.Prelude.{ℕ, ◌≤◌, ◌<◌, ◌≡◌, true, false, List, [], ◌∷◌, length, Err, Ok, Result}
 use Rattle.meaning.specs.Refusals.{Checked}
 use Rattle.meaning.specs.declared.answers.NextLine.{NextLine}
-use Rattle.std.proofs.Common.{arith, sym, ap, ◌∙◌, lt-ltb, le-ltb}
+use Rattle.std.proofs.Common.{arith, ap, ◌∙◌, lt-ltb, le-ltb}
 use Rattle.std.proofs.Math.Path.{refl}
 use Rattle.basis.specs.Choice.{pick}
 use Rattle.utf8.specs.Decoding.{decode_all}

@@ -1,27 +1,23 @@
 -- A line laid at a start that is taken is the line that the definition has there (rule 10).
 -- Assumes nothing.
-use Rattle.std.specs.Prelude.{ℕ, ◌+◌, ◌-◌, ◌≤◌, ◌<◌, ◌≡◌, refl, true, false, List, ◌++◌, take, drop, Ok, Result}
+use Rattle.std.specs.Prelude.{ℕ, ◌+◌, ◌-◌, ◌≤◌, ◌≡◌, refl, true, false, List, take, Ok}
 use Rattle.meaning.specs.declared.answers.NextLine.{NextLine}
-use Rattle.meaning.specs.declared.refusals.Refusal.{Refusal}
 use native.Mathlib.Omega.{arith}
 use Rattle.std.proofs.Math.Path.{sym, ap}
 use Rattle.std.proofs.Common.{◌∙◌}
 use Rattle.std.proofs.Math.ListN.{length}
-use Rattle.basis.specs.Choice.{pick, pick_cases, pick_under, by_test}
+use Rattle.basis.specs.Choice.{pick_under, by_test}
 use Rattle.utf8.specs.Encoding.{size}
 use Rattle.utf8.specs.Decoding.{decode_all}
 use Rattle.utf8.specs.Places.{boundary}
 use Rattle.utf8.specs.Boundaries.{boundary-is}
-use Rattle.meaning.specs.Checks.{check_settings, check_utf8, check_text, text_limit}
-use Rattle.meaning.specs.LineIter.{Held, nothing_held}
+use Rattle.meaning.specs.Checks.{check_settings, check_utf8, check_text}
 use Rattle.meaning.specs.Table.{of_entry, written}
-use Rattle.meaning.specs.Line.{lay_line, rest_of, entry_at}
 use Rattle.meaning.specs.Edit.{chars_in}
-use Rattle.meaning.specs.Frames.{is_none, onward, stand_good, held_by, OneLine, one_line}
+use Rattle.meaning.specs.Frames.{is_none, onward, stand_good, held_by, one_line}
 use Rattle.meaning.specs.declared.settings.Settings.{Settings}
 use Rattle.meaning.specs.declared.counts.Offset.{Offset}
 use Rattle.meaning.specs.declared.line.Rest.{Rest}
-use Rattle.meaning.specs.declared.line.Entry.{Entry}
 use Rattle.laws.specs.LinesTake.{chars-within}
 use Rattle.laws.specs.PartChars.{part-size, cut-within}
 use Rattle.laws.specs.Between.{chars-here, boundary-here}

@@ -1,6 +1,6 @@
 -- A start and a rest that are taken: what the tests find, and what a line there resumes (refusal 5, rule 9).
 -- Assumes nothing.
-use Rattle.std.specs.Prelude.{ℕ, ◌+◌, ◌-◌, ◌≤◌, ◌<◌, ◌≡◌, true, false, ◌&&◌, List, leb, length, drop, Ok}
+use Rattle.std.specs.Prelude.{ℕ, ◌-◌, ◌≤◌, ◌<◌, ◌≡◌, true, false, ◌&&◌, List, leb, length, drop, Ok}
 use Rattle.std.proofs.Common.{arith, ◌∙◌, lt-ltb, le-ltb, ltb-true, leb-true, length-drop}
 use Rattle.std.proofs.Math.Dec.{ltb}
 use Rattle.basis.specs.Choice.{pick, and_true}

@@ -7,6 +7,9 @@ ghost use Rattle.meaning.specs.Edit.{chars_in};
 ghost use Rattle.meaning.specs.Frames.{is_none, onward, rest_lies, stand_good};
 ghost use Rattle.frames.specs.Resuming.{resumed_in};
 
+// That the text is UTF-8 each function asks for by itself: a struct that says it would hold the lent bytes, and clauses cannot speak of them
+// as plainly as of `text.now`.
+
 use meaning::counts::Chars;
 use meaning::line::Rest;
 use steps::ending::nothing_left;

@@ -21,6 +21,8 @@ pub fn check_height(s: Settings, table: &[u32], lines: usize) -> Result<(), Refu
     check_table(table, lines)
 }
 
+// C lends a buffer and how many lines of it count, and what was checked, as what is computed, speaks of both: cut to its lines, a slice
+// would have its lines counted once more in every clause, and each caller would cut.
 fn height_of(s: Settings, table: &[u32], lines: usize) -> u32
     requires { check_height s table.now lines ≡ Ok tt }
     ensures { result ≡ height_of s (entries_in lines table.now) }

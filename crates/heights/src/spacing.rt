@@ -1,4 +1,5 @@
 // Rule 11: what the ends of lines add to the height.
+// A table goes with the number of its lines beside it: heights says at `height_of` why.
 ghost use Rattle.std.specs.Prelude.{◌*◌, ◌≤◌, ◌≡◌, length};
 ghost use Rattle.meaning.specs.Table.{entry_numbers, entries_in};
 ghost use Rattle.meaning.specs.Height.{end_adds, added_before};

@@ -1,4 +1,5 @@
 // Rule 11: the ys of lines, one after the other, as an index holds them.
+// A table goes with the number of its lines beside it: heights says at `height_of` why.
 ghost use Rattle.std.specs.Prelude.{◌≤◌, ◌≡◌, length, Ok};
 ghost use Rattle.meaning.specs.Table.{entries_in};
 ghost use Rattle.meaning.specs.YIndex.{index_of, written_from};

@@ -1,4 +1,5 @@
 // The line under a y (rule 11; refusal 5, refusal 10).
+// A table is lent with a count of lines beside it, as C lends it: the count may be past the table, and refusal 5 answers that.
 ghost use Rattle.std.specs.Prelude.{◌≡◌, ◌<◌, length, Ok};
 ghost use Rattle.meaning.specs.YIndex.{check_ys, find_in};
 ghost use Rattle.meaning.specs.Calls.{check_finding, find_answer};

@@ -1,4 +1,5 @@
 // The index made, and made again after an edit (rule 11; refusal 1, refusal 2, refusal 5, refusal 8).
+// A table is lent with a count of lines beside it, as C lends it: the count may be past the table, and refusal 5 answers that.
 ghost use Rattle.std.specs.Prelude.{◌≡◌};
 ghost use Rattle.meaning.specs.YIndex.{kept_before};
 ghost use Rattle.meaning.specs.Calls.{check_indexing, index_answer, index_from, index_after, index_again_after};

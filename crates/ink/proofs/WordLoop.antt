@@ -49,10 +49,10 @@ abbrev pub first_of : (at : ℕ) → Spaces → Pen → Stretch
 first_of at sp pen = record { pen = pen; spaces = sp; from = at; at = at; wide = 0 }
 
 pub going_first : (t : List ℕ) (at n g : ℕ) (sp : Spaces) (pen : Pen) (ev : List ℕ) → WordRoom t at n g sp pen
-    → Going t g (rest_on g ev (first_of at sp pen) (take n (chars_from t at))) ev (first_of at sp pen) n
+    → Going t g (rest_on g ev (first_of at sp pen) (take n (chars_from t at))) ev (first_of at sp pen) (n - 0)
 going_first t at n g sp pen ev h =
     record {
-      draws = refl;
+      draws = let p : n - 0 ≡ n = omega arith in rw p refl;
       spaces = h.spaces;
       order = omega arith;
       inside = h.inside;
@@ -60,7 +60,7 @@ going_first t at n g sp pen ev h =
       narrow = omega (arith, h.narrow, h.many);
     }
 
-module _ (t : List ℕ) (g : ℕ) (goal : Sheet) (ev : List ℕ) (w : Stretch) (left : ℕ) (o : Going t g goal ev w left) (short : length t ≤ 65535) where
+module _ {t : List ℕ} {g : ℕ} {goal : Sheet} {ev : List ℕ} {w : Stretch} {left : ℕ} (o : Going t g goal ev w left) (short : length t ≤ 65535) where
   pub going_fine : FineStretch w
   going_fine =
       record {

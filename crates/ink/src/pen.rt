@@ -7,7 +7,8 @@ use meaning::counts::{Chars, Offset, Pixels};
 use meaning::line::{Event, EventKind};
 use table::events::put_event;
 
-// How many events there are so far, and where the pen stands.
+// How many events there are so far, and where the pen stands. What room it has is no ghost field: each event takes of it, so that no
+// bound which a pen has is the next pen's too.
 #[derive(Clone, Copy)]
 pub struct Pen {
     pub next: usize,

@@ -52,11 +52,10 @@ fn add_char(events: &mut [u32], w: Stretch, c: u32, len: u32, glyph: u32) -> Str
     requires { FineStretch w × (w.at + len ≤ 65535) × (len ≡ bytes c) × (glyph ≤ 64) }
     ensures { Passed events.old events.new w result c len glyph }
 {
-    let spaces = w.spaces;
     let end = w.at + len as usize;
     if is_glue(c) {
-        let closed = close_stretch(events, w.pen, w.from, w.at, w.wide, end, spaces);
-        let after = spaces_after(spaces, 1);
+        let closed = close_stretch(events, w.pen, w.from, w.at, w.wide, end, w.spaces);
+        let after = spaces_after(w.spaces, 1);
         return Stretch {
             pen: closed,
             spaces: after,
@@ -66,11 +65,9 @@ fn add_char(events: &mut [u32], w: Stretch, c: u32, len: u32, glyph: u32) -> Str
         };
     }
     Stretch {
-        pen: w.pen,
-        spaces,
-        from: w.from,
         at: end,
         wide: w.wide + glyph,
+        ..w
     }
 }
 
@@ -102,17 +99,12 @@ pub fn draw_word(
         at,
         wide: 0,
     };
-    let mut left = n;
-    while 0 < left {
+    for _i in 0..n {
         match decode(text, w.at) {
             Decoded::Char { cp, len } => {
                 w = add_char(events, w, cp, len, glyph);
-                left -= 1;
             }
-            Decoded::Bad => {
-                return last_stretch(events, w);
-            }
-            Decoded::End => {
+            Decoded::Bad | Decoded::End => {
                 return last_stretch(events, w);
             }
         }

@@ -29,10 +29,6 @@ use Rattle.stands.specs.declared.row.LaidRow.{LaidRow}
 use Rattle.layout.specs.EventsFrom.{events_of, events_after, line_events, DrawReady, one-drawn, more-drawn, place-room, place-events, place-length}
 use Rattle.layout.specs.DrawTurns.{Drew, line-room}
 use Rattle.layout.specs.DrawGoing.{DrewTo, FewFrom}
-use Rattle.layout.specs.declared.found.Drawn.{Drawn}
-
-abbrev pub drawn_at : (lines events at before : ℕ) → Drawn
-drawn_at lines events at before = record { lines = lines; events = events; stand = Some (plain_stand at before) }
 
 -- All lines from the stand p on are drawn, behind n events in the buffer u: it is v now, and has m events.
 pub record AllDrawn (s : Settings) (t u : List ℕ) (n : ℕ) (p : Stand) (v : List ℕ) (m : ℕ) : Type 0 where
@@ -142,7 +138,7 @@ module _ (s : Settings) (t : List ℕ) (at before most : ℕ) (c : StandReady s 
         omega arith
 
     -- It is drawn from where its entry places it.
-    place_is : plain_start s left ≡ start_place s left (record { width = e.space; extra = e.extra })
+    pub place_is : plain_start s left ≡ start_place s left (record { width = e.space; extra = e.extra })
     unfolding ended_entry plain_spaces
     place_is = rw e-is
 
@@ -175,7 +171,7 @@ module _ (s : Settings) (t : List ℕ) (p : Stand) (c : StandReady s t p) (none 
   abbrev from : Stand
   from = plain_stand p.at.0 p.before.0
 
-  events-here : events_after s t from ≡ events_after s t p
+  pub events-here : events_after s t from ≡ events_after s t p
   unfolding events_after
   events-here = ap all_events (rows-here s t p c none)
 

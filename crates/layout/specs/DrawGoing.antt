@@ -1,27 +1,25 @@
 -- Lines drawn one after the other from a stand on: what is put when those that are left are put stays the same.
 -- Assumes nothing.
-use Rattle.std.specs.Prelude.{ℕ, ◌+◌, ◌≤◌, ◌≡◌, refl, List, length}
+use Rattle.std.specs.Prelude.{ℕ, ◌≤◌, ◌≡◌, List}
 use Rattle.std.proofs.Common.{arith, ◌∙◌}
 use Rattle.meaning.specs.Checks.{text_limit}
 use Rattle.meaning.specs.declared.settings.Settings.{Settings}
-use Rattle.table.specs.Numbers.{put_events}
 use Rattle.rows.specs.Standing.{StandReady}
+use Rattle.rows.specs.Drawers.{Puts, Few, puts_nothing, puts_then, few_left}
 use Rattle.stands.specs.declared.stand.Stand.{Stand}
 use Rattle.layout.specs.EventsFrom.{events_after, few-events}
 use Rattle.layout.specs.DrawTurns.{Drew}
 
 -- From the stand p, with n events before it in the buffer u, to the stand q, with m events in the buffer v.
-pub record DrewTo (s : Settings) (t u : List ℕ) (n : ℕ) (p : Stand) (v : List ℕ) (m : ℕ) (q : Stand) : Type 0 where
-  pub left : m + length (events_after s t q) ≡ n + length (events_after s t p)
-  pub same : length v ≡ length u
-  pub puts : put_events v m (events_after s t q) ≡ put_events u n (events_after s t p)
+abbrev pub DrewTo : Settings → (t u : List ℕ) → (n : ℕ) → Stand → (v : List ℕ) → (m : ℕ) → Stand → Type 0
+DrewTo s t u n p v m q = Puts u n (events_after s t p) v m (events_after s t q)
 
 -- No count of events wraps.
 abbrev pub FewFrom : Settings → List ℕ → (n : ℕ) → Stand → Type 0
-FewFrom s t n p = n + length (events_after s t p) ≤ text_limit
+FewFrom s t n p = Few n (events_after s t p)
 
 pub drew_nowhere : (s : Settings) (t u : List ℕ) (n : ℕ) (p : Stand) → DrewTo s t u n p u n p
-drew_nowhere s t u n p = record { left = refl; same = refl; puts = refl }
+drew_nowhere s t u n p = puts_nothing u n (events_after s t p)
 
 -- What the loop over all lines keeps is kept so.
 pub drew-on : (s : Settings) (t ev₀ u : List ℕ) (n : ℕ) (p : Stand) (v : List ℕ) (m : ℕ) (q : Stand) → StandReady s t q → Drew s t ev₀ u n p
@@ -37,12 +35,12 @@ few-before s t u n p v m q g few = omega (arith, g.left)
 
 -- Few are, then, with those that are left.
 pub few_on : (s : Settings) (t u : List ℕ) (n : ℕ) (p : Stand) (v : List ℕ) (m : ℕ) (q : Stand) → DrewTo s t u n p v m q → FewFrom s t n p → FewFrom s t m q
-few_on s t u n p v m q g few = omega (arith, g.left)
+few_on s t u n p v m q g few = few_left g few
 
 -- From there on to another stand.
 pub drew-then : (s : Settings) (t u : List ℕ) (n : ℕ) (p : Stand) (v : List ℕ) (m : ℕ) (q : Stand) → DrewTo s t u n p v m q → (w : List ℕ) (k : ℕ) (next : Stand)
     → DrewTo s t v m q w k next → DrewTo s t u n p w k next
-drew-then s t u n p v m q g w k next h = record { left = h.left ∙ g.left; same = h.same ∙ g.same; puts = h.puts ∙ g.puts }
+drew-then s t u n p v m q g w k next h = puts_then g h
 
 -- What is kept of one buffer, count and stand is kept of the same.
 pub drew-same : (s : Settings) (t ev₀ u v : List ℕ) (n m : ℕ) (p q : Stand) → u ≡ v → n ≡ m → p ≡ q → Drew s t ev₀ v m q → Drew s t ev₀ u n p

@@ -1,5 +1,6 @@
 // The first line that an edit affects, with all that can be refused of the edit and the table alone.
 // Refusal 3, refusal 5, refusal 6, laying again.
+// A table is lent with a count of lines beside it, as C lends it: the count may be past the table, and refusal 5 answers that.
 ghost use Rattle.std.specs.Prelude.{◌≡◌};
 ghost use Rattle.meaning.specs.Calls.{affected_answer};
 ghost use Rattle.table.specs.EditAlone.{check_place};

@@ -50,7 +50,8 @@ fn all_in_step(table: &[u32], at: usize, lag: u32, most: u32) -> u32
     0
 }
 
-// Blocks of lines in step with a lag are passed, while there are any before the line at `last`.
+// Blocks of lines in step with a lag are passed, while there are any before the line at `last`. The answer is where that ended, which a
+// `for` would not keep.
 fn pass_blocks(table: &[u32], last: usize, from: usize, lag: u32, most: u32) -> usize
     requires { last + entry_numbers ≤ length table.now }
     ensures { StepLines table.now last lag most from result }

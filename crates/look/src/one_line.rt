@@ -1,6 +1,5 @@
 // Whether the numbers of one line are good behind those of the line before it (refusal 5).
-ghost use Rattle.std.specs.Prelude.{◌≡◌, ◌≤◌};
-ghost use Rattle.meaning.specs.Checks.{text_limit};
+ghost use Rattle.std.specs.Prelude.{◌≡◌};
 ghost use Rattle.meaning.specs.WellFormed.{start_good, no_rest, rest_good, count_good};
 ghost use Rattle.look.specs.OneLine.{before_of, start_fits, rest_stands, count_fits, ending_at, line_good};
 
@@ -94,14 +93,14 @@ pub fn ending_good(last: bool, ending: u32) -> bool
     (ending <= 3) & (ending != 2)
 }
 
-// One line of a text of so many bytes, given the line before it and whether it is the last.
+// One line of a text of so many bytes, given the line before it and whether it is the last. 32-bit numbers are added in 64 bits, so
+// that nothing wraps.
 pub fn entry_good(bytes: Offset, prior: Option<LineBefore>, e: Entry, last: bool) -> bool
-    requires { bytes.0 ≤ text_limit }
     ensures { result ≡ line_good bytes.0 (before_of prior) e last }
 {
     let start = start_good(bytes, prior, e);
     let rest = rest_good(bytes, prior, e);
     let ending = ending_good(last, e.ending);
     let count = count_good(prior, e);
-    start & rest & ending & (e.reach.0 <= bytes.0 + 1) & count
+    start & rest & ending & (e.reach.0 as u64 <= bytes.0 as u64 + 1) & count
 }

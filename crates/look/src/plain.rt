@@ -1,4 +1,6 @@
 // Lines as most are, without a rest and not the last, told by few tests and skipped one by one or eight at a time (refusal 5).
+// Table and place are two arguments with a clause on both: a struct of them would say `x.entry.table.now` in every clause, and a slice of
+// two lines would be cut once more for each test.
 ghost use Rattle.std.specs.Prelude.{◌≡◌, ℕ, ◌+◌, ◌-◌, ◌*◌, ◌<◌, ◌≤◌, true, length};
 ghost use Rattle.meaning.specs.Table.{entry_numbers};
 ghost use Rattle.look.specs.Skipping.{block_lines, block_numbers, span, Paired, PlainEnd, Counted, Starts, Follows, PlainLine, PlainLines};
@@ -78,7 +80,8 @@ fn starting(table: &[u32], at: usize, most: u32) -> u32
     0
 }
 
-// 0 if it follows as most do: the characters before it are more than before the line before it, and at most its start; else 1 or 2.
+// 0 if it follows as most do: the characters before it are more than before the line before it, and at most its start; else 1 or 2,
+// told apart for the compiler as in `starting`.
 fn following(table: &[u32], at: usize, most: u32) -> u32
     requires { (entry_numbers ≤ at) × (at + entry_numbers ≤ length table.now) }
     ensures { result ≡ 0 → Follows table.now at most }
@@ -98,7 +101,8 @@ fn following(table: &[u32], at: usize, most: u32) -> u32
 }
 
 // The same, if no more characters than bytes stand before the line before it: one test tells that there are more characters before this
-// one, by no more than its start is higher.
+// one, by no more than its start is higher. What the two share is `starting`: a closure for what differs would take its contract besides,
+// and no line less.
 fn counted_on(table: &[u32], at: usize, most: u32) -> u32
     requires { (entry_numbers ≤ at) × (at + entry_numbers ≤ length table.now) }
     ensures { result ≡ 0 → Counted table.now (at - entry_numbers) → Follows table.now at most × Counted table.now at }
@@ -139,7 +143,7 @@ pub fn all_break(table: &[u32], at: usize) -> bool
     true
 }
 
-// 0 if all lines of a block follow as most do; else 1 or 2.
+// 0 if all lines of a block follow as most do; else 1 or 2, told apart for the compiler as in `starting`.
 fn all_following(table: &[u32], at: usize, most: u32) -> u32
     requires { (entry_numbers ≤ at) × (at + block_numbers ≤ length table.now) }
     ensures { result ≡ 0 → (i : ℕ) → i < block_lines → Follows table.now (at + entry_numbers * i) most }
@@ -189,7 +193,7 @@ fn last_block(table: &[u32], last: usize, at: usize, stop: usize) -> usize
 }
 
 // Blocks of plain lines are skipped, up to one with as many bytes as characters and while there are any before the line at `last`.
-// What their lines end with is asked first: it is there that most of the others differ.
+// What their lines end with is asked first: it is there that most of the others differ. A turn may move the end, so it is no `for`.
 pub fn skip_blocks(table: &[u32], last: usize, from: usize, most: u32) -> usize
     requires { (entry_numbers ≤ from) × (last + entry_numbers ≤ length table.now) }
     ensures { PlainLines table.now last most from result }
@@ -213,7 +217,7 @@ pub fn skip_blocks(table: &[u32], last: usize, from: usize, most: u32) -> usize
     at
 }
 
-// Plain lines are skipped one by one, up to the line at `last`.
+// Plain lines are skipped one by one, up to the line at `last`. The answer is where that ended, which a `for` would not keep.
 pub fn skip_singly(table: &[u32], last: usize, from: usize, most: u32) -> usize
     requires { (entry_numbers ≤ from) × (last + entry_numbers ≤ length table.now) }
     ensures { PlainLines table.now last most from result }

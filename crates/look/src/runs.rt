@@ -7,7 +7,7 @@ use crate::in_step::skip_in_step;
 use crate::plain::{BLOCK, skip_blocks, skip_singly};
 
 // Blocks of plain lines are skipped, in step and not, while there are any before the line at `last`. Those in step come second: they
-// are looked for only behind a block that could be.
+// are looked for only behind a block that could be. A turn passes as many as it finds, so it is no `for`.
 fn skip_runs(table: &[u32], last: usize, from: usize, most: u32) -> usize
     requires { (entry_numbers ≤ from) × (last + entry_numbers ≤ length table.now) }
     ensures { PlainLines table.now last most from result }

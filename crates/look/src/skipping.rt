@@ -1,4 +1,5 @@
 // Good lines that are not the last, skipped by plain numbers (refusal 5).
+// A table goes with the number of its lines beside it: heights says at `height_of` why.
 ghost use Rattle.std.specs.Prelude.{◌≡◌, ◌+◌, ◌-◌, ◌*◌, ◌/◌, ◌≤◌, true, length, nat_lt, slice_index};
 ghost use Rattle.basis.specs.Choice.{pick};
 ghost use Rattle.meaning.specs.Table.{entry_numbers};
@@ -48,7 +49,7 @@ fn skipped_to(table: &[u32], j: usize, at: usize, bytes: u32) -> usize
 }
 
 // The first line from line j on that is not good; the last is none, nor is one whose reach is above `most`. Lines as most are go by
-// themselves (`runs.rt`), since the others take longer.
+// themselves (`runs.rt`), since the others take longer. A turn skips as many as it finds, so it is no `for`.
 pub fn skip_good(table: &[u32], lines: usize, j: usize, bytes: u32, most: u32) -> usize
     requires { (1 ≤ j) × (j ≤ lines) × (entry_numbers * lines ≤ length table.now) × (most ≤ bytes + 1) }
     ensures { Skipped table.now lines bytes most j result }

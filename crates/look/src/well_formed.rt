@@ -1,6 +1,7 @@
 // Refusal 5: whether a table is well formed, in one look that finds the first affected line too.
+// A table is lent with a count of lines beside it, as C lends it: it may be past the table, which refusal 5 answers; heights says at
+// `height_of` why the pair stays behind that check.
 ghost use Rattle.std.specs.Prelude.{◌≡◌, ◌*◌, ◌≤◌, length};
-ghost use Rattle.meaning.specs.Checks.{text_limit};
 ghost use Rattle.meaning.specs.Table.{entry_numbers, entries_in};
 ghost use Rattle.meaning.specs.WellFormed.{nothing, last_reach, text_length, check_lines, check_table};
 ghost use Rattle.look.specs.Skipping.{check_from};
@@ -37,7 +38,7 @@ pub fn text_length(table: &[u32], lines: usize) -> Offset
 
 // The first bad line from line j on, which is not the first line.
 fn check_on(table: &[u32], lines: usize, bytes: Offset, j: usize) -> Result<(), Refusal>
-    requires { (1 ≤ j) × (j ≤ lines) × (entry_numbers * lines ≤ length table.now) × (bytes.0 ≤ text_limit) }
+    requires { (1 ≤ j) × (j ≤ lines) × (entry_numbers * lines ≤ length table.now) }
     ensures { result ≡ check_from table.now lines bytes.0 j }
 {
     for k in j..lines {
@@ -58,10 +59,10 @@ fn check_on(table: &[u32], lines: usize, bytes: Offset, j: usize) -> Result<(), 
 // The lines behind the first: good ones with reach <= a are skipped, then the other good ones. What is left is looked at once more,
 // in the plain way, and that answers.
 fn look_behind(table: &[u32], lines: usize, bytes: Offset, a: Offset) -> Result<u64, Refusal>
-    requires { (1 ≤ lines) × (entry_numbers * lines ≤ length table.now) × (bytes.0 ≤ text_limit) }
+    requires { (1 ≤ lines) × (entry_numbers * lines ≤ length table.now) }
     ensures { result ≡ looked_over a.0 (check_from table.now lines bytes.0 1) (entries_in lines table.now) }
 {
-    let most = bytes.0 + 1;
+    let most = bytes.0.saturating_add(1);
     let low = skip_good(table, lines, 1, bytes.0, a.0.min(most));
     let good = skip_good(table, lines, low, bytes.0, most);
     check_on(table, lines, bytes, good)?;
@@ -73,7 +74,7 @@ fn look_behind(table: &[u32], lines: usize, bytes: Offset, a: Offset) -> Result<
 
 // The lines of a text of so many bytes: the first bad one, or the first with reach > a.
 fn look_lines(table: &[u32], lines: usize, bytes: Offset, a: Offset) -> Result<u64, Refusal>
-    requires { (1 ≤ lines) × (entry_numbers * lines ≤ length table.now) × (bytes.0 ≤ text_limit) }
+    requires { (1 ≤ lines) × (entry_numbers * lines ≤ length table.now) }
     ensures { result ≡ looked_over a.0 (check_lines bytes.0 0 nothing (entries_in lines table.now)) (entries_in lines table.now) }
 {
     let e = read_entry(table, 0);

@@ -23,7 +23,7 @@ pub struct NextLine {
     pub rest: Rest,
 }
 
-// A line's y, and whether the line shows.
+// A line's y, and whether the line shows: C gets the y of a line that does not show, too.
 #[derive(Clone, Copy)]
 pub struct LineY {
     pub y: i32,

@@ -26,7 +26,7 @@ pub struct Spaces {
     pub extra: Pixels,
 }
 
-// What a pass carries from token to token. A line is empty until it prints a word.
+// What a pass carries from token to token. A line is empty until it prints a word; cursor and spaces stand in either case.
 #[derive(Clone, Copy)]
 pub struct Place {
     pub cursor: LineCursor,

@@ -1,7 +1,8 @@
 // What a text is laid by (refusal 1, refusal 2).
 use crate::counts::Pixels;
 
-// The thirteen settings, in the scope's order and the wrap setting last.
+// The thirteen settings, in the scope's order and the wrap setting last. Those that choose are numbers, since a caller may lend any: refusal 2
+// answers with an alignment that is none.
 #[derive(Clone, Copy)]
 pub struct Settings {
     // the width of every character

@@ -1,37 +1,30 @@
 -- The blocks of a stream: what is held of a clue between two of them, and a clue that is too long.
 -- Assumes nothing.
-use Prim.Native.Nat.{ℕ, zero, suc, ◌+◌, ◌-◌, ◌*◌, ◌≤◌, ◌<◌}
+use Prim.Native.Nat.{ℕ, zero, suc, ◌+◌, ◌-◌, ◌≤◌, ◌<◌}
 use Rattle.meaning.specs.Refusals.{Checked}
-use Rattle.std.specs.Prelude.{◌≡◌, refl, true, false, List, [], ◌∷◌, ◌++◌, length, get_or, take, drop, replicate, Err, Ok, Result, Option, None, Some}
+use Rattle.std.specs.Prelude.{◌≡◌, refl, true, false, List, [], ◌∷◌, ◌++◌, length, take, drop, replicate, Err, Ok, Option, None, Some}
 use Rattle.std.proofs.Common.{sym, ◌∙◌, append_assoc, length-drop, length-append, take_all, length-take-le}
-use Rattle.std.proofs.Math.Path.{ap}
+use Rattle.std.proofs.Math.Path.{ap, subst}
 use Rattle.std.proofs.lemmas.Bool.{false≢true}
 use native.Mathlib.Omega.{arith}
-use Rattle.std.proofs.lemmas.List.{length-replicate}
 use Rattle.std.proofs.Math.Seq.{paste}
 use Rattle.std.proofs.lemmas.List.Edits.{take-paste}
 use Rattle.basis.specs.Order.{by_lt}
 use Rattle.meaning.specs.Checks.{text_limit}
 use Rattle.meaning.specs.Month.{most_clues, no_figures, stream_lines}
+use Rattle.meaning.specs.declared.figures.Figures.{Figures}
 use Rattle.meaning.specs.declared.settings.Settings.{Settings}
 use Rattle.meaning.specs.declared.refusals.Refusal.TheVariants.{TextTooLong}
 use Rattle.checks.specs.TextLaws as text
 use Rattle.moves.specs.Fine.{FineSettings}
 use Rattle.clues.specs.Summing.{Of, Narrow, EachOf, added_to, each_more}
-use Rattle.month_figures.specs.Sums.{sum_numbers, sum_at, sums_from, sums_of}
-use Rattle.clues.specs.Adding.{EachReady}
+use Rattle.clues.specs.Adding.{AllReady}
 use Rattle.clues.specs.Gathering.{with_clue, none_yet}
 use Rattle.clues.specs.Feeds.{before_feed, before-most, ended-line}
 use Rattle.clues.specs.Counting.{counting, Counts, same-part}
 use Rattle.clues.specs.declared.stream.Ended.{Ended}
 use Rattle.month.specs.Pending.{too_long, held_in, long_clue, NoFeed, long-long, long_feed, feed_after, line_after, rest-after, any_long, long_same, one-counted}
 use Rattle.month.specs.declared.block.Step.{Step}
-
--- Bytes that came after those up to a place stand within so many.
-abbrev pub Came : {E : Type 0} → (end n : ℕ) → Result (Option ℕ) E → Type 0
-Came end n (Ok (Some k)) = (end < k) × (k ≤ n)
-Came end n (Ok None) = Unit {0}
-Came end n (Err e) = Unit {0}
 
 -- ---- what is left of a block
 
@@ -70,65 +63,68 @@ module _ (b : List ℕ) (at end clues : ℕ) (h : at ≤ end) (f : end ≤ lengt
 -- ---- a clue that is too long
 
 -- One clue more is counted, and the figures are with any text that is too long.
-pub record LongAdded (s : Settings) (ws u : List ℕ) (clues r : ℕ) (u' : List ℕ) : Type 0 where
+pub record LongAdded (s : Settings) (ws : List ℕ) (u : List Figures) (clues r : ℕ) (u' : List Figures) : Type 0 where
   pub counted : r ≡ clues + 1
   pub counts : Counts s ws u' (clues + 1)
-  pub added : (t : List ℕ) → text_limit < length t → sums_of ws u' ≡ with_clue s ws (sums_of ws u) t
+  pub added : (t : List ℕ) → text_limit < length t → u' ≡ with_clue s ws u t
 
 refused_bad : (n : ℕ) → ◌≡◌ {A = Checked} (Err (TextTooLong n)) (Ok tt) → ⊥
 refused_bad n e = let z : ◌≡◌ {A = ℕ} 0 1 = cc in omega arith
 
-module _ (s : Settings) (ws u : List ℕ) (n : ℕ) (c : Counts s ws u n) (t : List ℕ) where
-  pub long-ready : n < most_clues → (k : Checked) → k ≡ Err (TextTooLong 65536) → EachReady s t k ws u
+module _ (s : Settings) (ws : List ℕ) (u : List Figures) (n : ℕ) (c : Counts s ws u n) (t : List ℕ) where
+  pub long-ready : n < most_clues → (k : Checked) → k ≡ Err (TextTooLong 65536) → AllReady s t k ws u
   long-ready h k e =
       record {
-        all =
-            record {
-              settings = c.settings;
-              widths = c.widths;
-              short = λ g. absurd (refused_bad 65536 (sym e ∙ g));
-              count = n;
-              few = h;
-              each = c.each;
-            };
-        room = c.room;
+        settings = c.settings;
+        widths = c.widths;
+        short = λ g. absurd (refused_bad 65536 (sym e ∙ g));
+        count = n;
+        few = h;
+        each = c.each;
       }
 
-  pub long-added : (k : Checked) → k ≡ Err (TextTooLong 65536) → (u' : List ℕ) → length u' ≡ length u → sums_of ws u' ≡ added_to s t k ws (sums_of ws u)
+  pub long-added : (k : Checked) → k ≡ Err (TextTooLong 65536) → (u' : List Figures) → u' ≡ added_to s t k ws u
       → LongAdded s ws u n (n + 1) u'
   unfolding with_clue
-  long-added k k-is u' same e =
+  long-added k k-is u' e =
       let one : n + 1 ≡ suc n = omega arith in
-      let all : sums_of ws u' ≡ added_to s t (Err (TextTooLong 65536)) ws (sums_of ws u) = e ∙ ap (λ (j : Checked). added_to s t j ws (sums_of ws u)) k-is in
+      let all : u' ≡ added_to s t (Err (TextTooLong 65536)) ws u = e ∙ ap (λ (j : Checked). added_to s t j ws u) k-is in
       record {
         counted = refl;
         counts =
             record {
               settings = c.settings;
               widths = c.widths;
-              room = omega (arith, c.room, same);
-              each = rw (all, one) (each_more s t (Err (TextTooLong 65536)) n ws (sums_of ws u) (λ g. absurd (refused_bad 65536 g)) c.each);
+              each = rw (all, one) (each_more s t (Err (TextTooLong 65536)) n ws u (λ g. absurd (refused_bad 65536 g)) c.each);
             };
         added =
             λ x long.
-            all ∙ any_long s t x 65536 (length x) ws (sums_of ws u) ∙ ap (λ (j : Checked). added_to s x j ws (sums_of ws u)) (text.too_long x long);
+            all ∙ any_long s t x 65536 (length x) ws u ∙ ap (λ (j : Checked). added_to s x j ws u) (text.too_long x long);
       }
 
 -- It has ended before a place of the block, or not yet. The figures at the end are the same, whatever bytes follow the block.
-pub record LongEnded (s : Settings) (ws b u : List ℕ) (end clues : ℕ) (r : Ended) (u' : List ℕ) : Type 0 where
+pub record LongGone (s : Settings) (ws b : List ℕ) (u : List Figures) (end clues : ℕ) (r : Ended) (u' : List Figures) : Type 0 where
   pub counts : Counts s ws u' r.clues
   pub few : r.clues ≤ most_clues
   pub within : r.at ≤ end
-  pub still : r.at ≡ 0 → (more : List ℕ)
-      → counting s ws r.clues (sums_of ws u') (long_clue ++ more) ≡ counting s ws clues (sums_of ws u) (long_clue ++ (take end b ++ more))
-  pub ended : (r.at ≡ 0 → ⊥) → (more : List ℕ)
-      → counting s ws r.clues (sums_of ws u') (drop r.at (take end b) ++ more) ≡ counting s ws clues (sums_of ws u) (long_clue ++ (take end b ++ more))
+  pub ended : (more : List ℕ) → counting s ws r.clues u' (drop r.at (take end b) ++ more)
+      ≡ counting s ws clues u (long_clue ++ (take end b ++ more))
 
-module _ (s : Settings) (ws b u : List ℕ) (end clues stop : ℕ) (f : end ≤ length b) (h : clues < most_clues) (stop_is : stop ≡ 0 + before_feed (take end b)) where
+pub record LongStill (s : Settings) (ws b : List ℕ) (u : List Figures) (end clues : ℕ) (u' : List Figures) : Type 0 where
+  pub counts : Counts s ws u' clues
+  pub few : clues ≤ most_clues
+  pub still : (more : List ℕ) → counting s ws clues u' (long_clue ++ more)
+      ≡ counting s ws clues u (long_clue ++ (take end b ++ more))
+
+abbrev pub LongEnded : (s : Settings) (ws b : List ℕ) (u : List Figures) (end clues : ℕ) → Option Ended → (u' : List Figures) → Type 0
+LongEnded s ws b u end clues (Some r) u' = LongGone s ws b u end clues r u'
+LongEnded s ws b u end clues None u' = LongStill s ws b u end clues u'
+
+module _ (s : Settings) (ws b : List ℕ) (u : List Figures) (end clues stop : ℕ) (f : end ≤ length b) (h : clues < most_clues) (stop_is : stop ≡ 0 + before_feed (take end b)) where
   block_length : length (take end b) ≡ end
   block_length = length-take-le end b f
 
-  pub long-still : Counts s ws u clues → end ≤ stop → LongEnded s ws b u end clues (record { at = 0; clues = clues }) u
+  pub long-still : Counts s ws u clues → end ≤ stop → LongStill s ws b u end clues u
   long-still c none =
       let x = take end b in
       let whole = long_clue ++ x in
@@ -139,15 +135,13 @@ module _ (s : Settings) (ws b u : List ℕ) (end clues stop : ℕ) (f : end ≤ 
       record {
         counts = c;
         few = omega arith;
-        within = omega arith;
         still =
-            λ _ more.
-            long_same s ws clues (sums_of ws u) long_clue whole more long-long long_feed long feed
-            ∙ ap (counting s ws clues (sums_of ws u)) (append_assoc long_clue x more);
-        ended = λ d. absurd (d refl);
+            λ more.
+            long_same s ws clues u long_clue whole more long-long long_feed long feed
+            ∙ ap (counting s ws clues u) (append_assoc long_clue x more);
       }
 
-  pub long-ended : (u' : List ℕ) (n : ℕ) → LongAdded s ws u clues n u' → stop < end → LongEnded s ws b u end clues (record { at = stop + 1; clues = n }) u'
+  pub long-ended : (u' : List Figures) (n : ℕ) → LongAdded s ws u clues n u' → stop < end → LongGone s ws b u end clues (record { at = stop + 1; clues = n }) u'
   long-ended u' n a w =
       let x = take end b in
       let k = before_feed x in
@@ -166,34 +160,33 @@ module _ (s : Settings) (ws b u : List ℕ) (end clues stop : ℕ) (f : end ≤ 
         counts = rw a.counted a.counts;
         few = omega (arith, a.counted);
         within = omega arith;
-        still = λ e. absurd (omega arith);
         ended =
-            λ _ more.
-            (λ i. counting s ws (a.counted i) (sums_of ws u') (drop (place i) x ++ more))
-            ∙ one-counted s ws clues (sums_of ws u) (sums_of ws u') t (long_clue ++ (x ++ more)) (drop (suc k) x ++ more) h added (lines more);
+            λ more.
+            (λ i. counting s ws (a.counted i) u' (drop (place i) x ++ more))
+            ∙ one-counted s ws clues u u' t (long_clue ++ (x ++ more)) (drop (suc k) x ++ more) h added (lines more);
       }
 
 -- ---- what a block leaves
 
-pub record Stepped (s : Settings) (ws u' : List ℕ) (room : ℕ) (r : Step) : Type 0 where
+pub record Stepped (s : Settings) (ws : List ℕ) (u' : List Figures) (room : ℕ) (r : Step) : Type 0 where
   pub counts : Counts s ws u' r.clues
   pub few : r.clues ≤ most_clues
   pub inside : held_in r < room
 
-pub stepped : (s : Settings) (ws u : List ℕ) (n room : ℕ) (r : Step) → Counts s ws u n → n ≤ most_clues → r.clues ≡ n → held_in r < room
+pub stepped : (s : Settings) (ws : List ℕ) (u : List Figures) (n room : ℕ) (r : Step) → Counts s ws u n → n ≤ most_clues → r.clues ≡ n → held_in r < room
     → Stepped s ws u room r
 stepped s ws u n room r c f e i = record { counts = rw e c; few = omega (arith, e); inside = i }
 
 -- ---- the end of the input
 
 -- What is held is a clue that is too long, none, or one of the bytes that are held, though it has no line feed.
-pub record LastCounted (s : Settings) (ws b u : List ℕ) (r : Step) (u' : List ℕ) : Type 0 where
-  pub long : too_long r ≡ true → (t : List ℕ) → text_limit < length t → sums_of ws u' ≡ with_clue s ws (sums_of ws u) t
-  pub none : too_long r ≡ false → held_in r ≡ 0 → sums_of ws u' ≡ sums_of ws u
-  pub some : too_long r ≡ false → (held_in r ≡ 0 → ⊥) → sums_of ws u' ≡ with_clue s ws (sums_of ws u) (take (held_in r) b)
+pub record LastCounted (s : Settings) (ws b : List ℕ) (u : List Figures) (r : Step) (u' : List Figures) : Type 0 where
+  pub long : too_long r ≡ true → (t : List ℕ) → text_limit < length t → u' ≡ with_clue s ws u t
+  pub none : too_long r ≡ false → held_in r ≡ 0 → u' ≡ u
+  pub some : too_long r ≡ false → (held_in r ≡ 0 → ⊥) → u' ≡ with_clue s ws u (take (held_in r) b)
 
-module _ (s : Settings) (ws b u : List ℕ) (r : Step) where
-  pub last-long : (u' : List ℕ) → too_long r ≡ true → ((t : List ℕ) → text_limit < length t → sums_of ws u' ≡ with_clue s ws (sums_of ws u) t)
+module _ (s : Settings) (ws b : List ℕ) (u : List Figures) (r : Step) where
+  pub last-long : (u' : List Figures) → too_long r ≡ true → ((t : List ℕ) → text_limit < length t → u' ≡ with_clue s ws u t)
       → LastCounted s ws b u r u'
   last-long u' l h =
       record {
@@ -206,7 +199,7 @@ module _ (s : Settings) (ws b u : List ℕ) (r : Step) where
     pub last_none : held_in r ≡ 0 → LastCounted s ws b u r u
     last_none z = record { long = λ e. absurd (false≢true (sym short ∙ e)); none = λ _ _. refl; some = λ _ d. absurd (d z) }
 
-    pub last_some : (u' : List ℕ) → (held_in r ≡ 0 → ⊥) → sums_of ws u' ≡ with_clue s ws (sums_of ws u) (take (held_in r) b) → LastCounted s ws b u r u'
+    pub last_some : (u' : List Figures) → (held_in r ≡ 0 → ⊥) → u' ≡ with_clue s ws u (take (held_in r) b) → LastCounted s ws b u r u'
     last_some u' d e = record { long = λ l. absurd (false≢true (sym short ∙ l)); none = λ _ z. absurd (d z); some = λ _ _. e }
 
 -- ---- places in a buffer
@@ -216,52 +209,23 @@ pub feed_within : (b : List ℕ) (at end stop : ℕ) → at ≤ end → end ≤ 
 feed_within b at end stop h f e =
     (omega (arith, e), omega (arith, e, before-most (drop at (take end b)), length-drop at (take end b), length-take-le end b f))
 
--- ---- before the first clue, the array holds zeros
+-- ---- before the first clue, the sums are those of no text
 
-zero-at : (n i : ℕ) → ◌≡◌ {A = ℕ} (get_or (replicate n 0) i 0) 0
-zero-at zero i = refl
-zero-at (suc n) zero = refl
-zero-at (suc n) (suc i) = zero-at n i
+none_of : Of 0 no_figures
+none_of = record { texts = refl; lines = omega arith; broken = omega arith; dropped = omega arith; long = omega arith; invalid = omega arith }
 
-zero_of : (n k : ℕ) → Of 0 (sum_at (replicate n 0) k)
-unfolding sum_at
-zero_of n k =
-    record {
-      texts = zero-at n (7 * k);
-      lines = omega (arith, zero-at n (7 * k + 1));
-      broken = omega (arith, zero-at n (7 * k + 2));
-      dropped = omega (arith, zero-at n (7 * k + 3));
-      long = omega (arith, zero-at n (7 * k + 4));
-      invalid = omega (arith, zero-at n (7 * k + 5));
-    }
+none-each : (ws : List ℕ) → EachOf 0 ws (none_yet ws)
+none-each [] = tt
+none-each (w ∷ ws) = (none_of, none-each ws)
 
-zero-each : (ws : List ℕ) (k n : ℕ) → EachOf 0 ws (sums_from ws k (replicate n 0))
-unfolding sums_from
-zero-each [] k n = tt
-zero-each (w ∷ ws) k n = (zero_of n k, zero-each ws (suc k) n)
+-- So many of an array's sums as there are widths.
+pub zero-sums : (ws : List ℕ) (n : ℕ) → length ws ≤ n → take (length ws) (replicate n no_figures) ≡ none_yet ws
+zero-sums [] n h = refl
+zero-sums (w ∷ ws) zero h = absurd (omega arith)
+zero-sums (w ∷ ws) (suc n) h = ap (λ (fs : List Figures). no_figures ∷ fs) (zero-sums ws n (omega arith))
 
-pub zero-counts : (s : Settings) (ws : List ℕ) (n : ℕ) → FineSettings s → Narrow ws → sum_numbers * length ws ≤ n → Counts s ws (replicate n 0) 0
-unfolding sums_of
-zero-counts s ws n f w h =
-    record { settings = f; widths = w; room = omega (arith, length-replicate {A = ℕ} n 0); each = zero-each ws 0 n }
-
-zero-sum : (n k : ℕ) → sum_at (replicate n 0) k ≡ no_figures
-unfolding sum_at
-zero-sum n k =
-    let texts = zero-at n (7 * k) in
-    let lines = zero-at n (7 * k + 1) in
-    let broken = zero-at n (7 * k + 2) in
-    let dropped = zero-at n (7 * k + 3) in
-    let long = zero-at n (7 * k + 4) in
-    let invalid = zero-at n (7 * k + 5) in
-    let most = zero-at n (7 * k + 6) in
-    λ i. record { texts = texts i; lines = lines i; broken = broken i; dropped = dropped i; long = long i; invalid = invalid i; most = most i }
-
-zero-from : (ws : List ℕ) (k n : ℕ) → sums_from ws k (replicate n 0) ≡ none_yet ws
-unfolding sums_from
-zero-from [] k n = refl
-zero-from (w ∷ ws) k n = let here = zero-sum n k in let more = zero-from ws (suc k) n in λ i. here i ∷ more i
-
-pub zero-sums : (ws : List ℕ) (n : ℕ) → sums_of ws (replicate n 0) ≡ none_yet ws
-unfolding sums_of
-zero-sums ws n = zero-from ws 0 n
+pub zero-counts : (s : Settings) (ws : List ℕ) (n : ℕ) (f : Figures) → f ≡ no_figures → FineSettings s → Narrow ws → length ws ≤ n
+    → Counts s ws (take (length ws) (replicate n f)) 0
+zero-counts s ws n f e fine w h =
+    let sums = ap (λ (g : Figures). take (length ws) (replicate n g)) e ∙ zero-sums ws n h in
+    record { settings = fine; widths = w; each = subst (EachOf 0 ws) (sym sums) (none-each ws) }

@@ -19,7 +19,6 @@ use Rattle.meaning.specs.declared.figures.Figures.{Figures}
 use Rattle.meaning.specs.declared.refusals.Refusal.TheVariants.{TextTooLong}
 use Rattle.checks.specs.TextLaws as text
 use Rattle.clues.specs.Summing.{added_to}
-use Rattle.month_figures.specs.Sums.{sums_of}
 use Rattle.clues.specs.Gathering.{with_clue, with_clues}
 use Rattle.clues.specs.Feeds.{before_feed}
 use Rattle.clues.specs.Counting.{counting}
@@ -45,8 +44,8 @@ unfoldable pub block_of : Step → (buffer : List ℕ) → (end : ℕ) → List 
 block_of r b end = pick (too_long r) (take end b) (drop (held_in r) (take end b))
 
 -- The figures at the end, where these are the sums, this is pending, and the stream goes on with these bytes.
-unfoldable pub ending : Settings → (widths sums buffer : List ℕ) → Step → (more : List ℕ) → List Figures
-ending s ws u b r more = counting s ws r.clues (sums_of ws u) (pending r b ++ more)
+unfoldable pub ending : Settings → (widths : List ℕ) (sums : List Figures) (buffer : List ℕ) → Step → (more : List ℕ) → List Figures
+ending s ws u b r more = counting s ws r.clues u (pending r b ++ more)
 
 -- No line feed stands in these bytes.
 abbrev pub NoFeed : List ℕ → Type 0
@@ -164,7 +163,7 @@ module _ (r : Step) (b : List ℕ) where
     block_long end = pick_true (too_long r) (take end b) (drop (held_in r) (take end b)) e
 
 -- The figures at the end, where what is pending is known.
-pub ending_of_lem : (s : Settings) (ws u b : List ℕ) (r : Step) (n : ℕ) (p more : List ℕ) → r.clues ≡ n → pending r b ≡ p
-    → ending s ws u b r more ≡ counting s ws n (sums_of ws u) (p ++ more)
+pub ending_of_lem : (s : Settings) (ws : List ℕ) (u : List Figures) (b : List ℕ) (r : Step) (n : ℕ) (p more : List ℕ) → r.clues ≡ n → pending r b ≡ p
+    → ending s ws u b r more ≡ counting s ws n u (p ++ more)
 unfolding ending
-ending_of_lem s ws u b r n p more e f = λ i. counting s ws (e i) (sums_of ws u) (f i ++ more)
+ending_of_lem s ws u b r n p more e f = λ i. counting s ws (e i) u (f i ++ more)

@@ -7,10 +7,9 @@ use mathlib.Core.List.{List, [], ◌∷◌, ◌++◌, append_assoc, append-nil}
 use Rattle.std.proofs.Math.Seq.{take-nil}
 use Rattle.basis.specs.Choice.{pick, by_test}
 use Rattle.basis.specs.Order.{by_eq}
-use Rattle.meaning.specs.Month.{most_clues, stream_lines, clues_in, month_of}
+use Rattle.meaning.specs.Month.{most_clues, no_figures, stream_lines, clues_in, month_of}
 use Rattle.meaning.specs.declared.settings.Settings.{Settings}
 use Rattle.meaning.specs.declared.figures.Figures.{Figures}
-use Rattle.month_figures.specs.Sums.{sums_of}
 use Rattle.clues.specs.Gathering.{with_clue, with_clues, none_yet, month_is}
 use Rattle.clues.specs.Feeds.{before_feed}
 use Rattle.clues.specs.Counting.{counting}
@@ -23,7 +22,7 @@ use Rattle.month.specs.declared.block.Step.{Step}
 
 -- What there is between two reads.
 pub record State : Type 0 where
-  pub sums : List ℕ
+  pub sums : List Figures
   pub buffer : List ℕ
   pub step : Step
 
@@ -59,9 +58,9 @@ module _ (r : Step) (b b' : List ℕ) (front : take (held_in r) b' ≡ take (hel
   unfolding pending
   front-pending = ap (pick (too_long r) long_clue) front
 
-  front-ending : (s : Settings) (ws u more : List ℕ) → ending s ws u b' r more ≡ ending s ws u b r more
+  front-ending : (s : Settings) (ws : List ℕ) (u : List Figures) (more : List ℕ) → ending s ws u b' r more ≡ ending s ws u b r more
   unfolding ending
-  front-ending s ws u more = ap (λ (p : List ℕ). counting s ws r.clues (sums_of ws u) (p ++ more)) front-pending
+  front-ending s ws u more = ap (λ (p : List ℕ). counting s ws r.clues u (p ++ more)) front-pending
 
 -- Over all turns the figures at the end stay the same.
 pub ran_goes : (s : Settings) (ws : List ℕ) (h : State) (ts : List Turn) → Ran s ws h ts → (more : List ℕ)
@@ -94,27 +93,27 @@ module _ (s : Settings) (ws : List ℕ) where
       let lines : stream_lines (p ++ []) ≡ p ∷ stream_lines [] = begun-line p [] f some ∙ ap (λ (l : List ℕ). l ∷ stream_lines []) (append-nil p) in
       sym (none_left_lem (n + 1) gs) ∙ one-counted s ws n fs gs p (p ++ []) [] few e lines
 
-  module _ (b u : List ℕ) (r : Step) (u' : List ℕ) (l : LastCounted s ws b u r u') (few : r.clues < most_clues) where
-    last-long : too_long r ≡ true → sums_of ws u' ≡ ending s ws u b r []
+  module _ (b : List ℕ) (u : List Figures) (r : Step) (u' : List Figures) (l : LastCounted s ws b u r u') (few : r.clues < most_clues) where
+    last-long : too_long r ≡ true → u' ≡ ending s ws u b r []
     last-long e =
-        one_left r.clues (sums_of ws u) (sums_of ws u') long_clue few (omega (arith, long-long)) long_feed (l.long e long_clue long-long)
+        one_left r.clues u u' long_clue few (omega (arith, long-long)) long_feed (l.long e long_clue long-long)
         ∙ sym (ending_of_lem s ws u b r r.clues long_clue [] refl (pending-long r b e))
 
-    last-short : held_in r ≤ length b → NoFeed (pending r b) → too_long r ≡ false → sums_of ws u' ≡ ending s ws u b r []
+    last-short : held_in r ≤ length b → NoFeed (pending r b) → too_long r ≡ false → u' ≡ ending s ws u b r []
     last-short inside f e =
         let is = pending-short r b e in
         let p = take (held_in r) b in
-        let figures : sums_of ws u' ≡ counting s ws r.clues (sums_of ws u) (p ++ []) =
+        let figures : u' ≡ counting s ws r.clues u (p ++ []) =
         by_eq (held_in r) 0
         (λ z.
-        l.none e z ∙ sym (none_left_lem r.clues (sums_of ws u)) ∙ ap (λ (k : ℕ). counting s ws r.clues (sums_of ws u) (take k b ++ [])) (sym z))
+        l.none e z ∙ sym (none_left_lem r.clues u) ∙ ap (λ (k : ℕ). counting s ws r.clues u (take k b ++ [])) (sym z))
         (λ d.
-        one_left r.clues (sums_of ws u) (sums_of ws u') p few (omega (arith, length-take-le (held_in r) b inside, d)) (subst NoFeed is f) (l.some e d))
+        one_left r.clues u u' p few (omega (arith, length-take-le (held_in r) b inside, d)) (subst NoFeed is f) (l.some e d))
         in
         figures ∙ sym (ending_of_lem s ws u b r r.clues p [] refl is)
 
     -- `count_last` leaves the figures at the end.
-    pub last-is : held_in r ≤ length b → NoFeed (pending r b) → sums_of ws u' ≡ ending s ws u b r []
+    pub last-is : held_in r ≤ length b → NoFeed (pending r b) → u' ≡ ending s ws u b r []
     last-is inside f = by_test (too_long r) last-long (last-short inside f)
 
 -- ---- from the start
@@ -124,11 +123,12 @@ pub record Begun (ws : List ℕ) (h : State) : Type 0 where
   pub clues : h.step.clues ≡ 0
   pub held : held_in h.step ≡ 0
   pub long : too_long h.step ≡ false
-  pub sums : sums_of ws h.sums ≡ none_yet ws
+  pub sums : h.sums ≡ none_yet ws
 
--- So it is with an array of zeros.
-pub begun_zeros : (ws : List ℕ) (n : ℕ) (b : List ℕ) → Begun ws (record { sums = replicate n 0; buffer = b; step = record { clues = 0; held = Some 0 } })
-begun_zeros ws n b = record { clues = refl; held = refl; long = refl; sums = zero-sums ws n }
+-- So it is with so many of an array of zeros as there are widths.
+pub begun_zeros : (ws : List ℕ) (n : ℕ) (b : List ℕ) → length ws ≤ n
+    → Begun ws (record { sums = take (length ws) (replicate n no_figures); buffer = b; step = record { clues = 0; held = Some 0 } })
+begun_zeros ws n b h = record { clues = refl; held = refl; long = refl; sums = zero-sums ws n h }
 
 module _ (s : Settings) (ws : List ℕ) (h : State) (begun : Begun ws h) where
   begun-pending : pending h.step h.buffer ≡ []
@@ -148,7 +148,7 @@ module _ (s : Settings) (ws : List ℕ) (h : State) (begun : Begun ws h) where
 
     -- The stream has ended: the last read left the buffer b, and what is held was counted. The sums are the month of all bytes that were read.
     pub whole-counted : last.step.clues < most_clues → (b : List ℕ) → take (held_in last.step) b ≡ take (held_in last.step) last.buffer → held_in last.step ≤ length b
-        → (u' : List ℕ) → LastCounted s ws b last.sums last.step u' → sums_of ws u' ≡ month_of s ws (clues_in (bytes_of h ts))
+        → (u' : List Figures) → LastCounted s ws b last.sums last.step u' → u' ≡ month_of s ws (clues_in (bytes_of h ts))
     unfolding before_feed
     whole-counted few b front inside u' l =
         let feedless = ran_feedless s ws h ts (λ _. subst NoFeed (sym begun-pending) refl) ran few in
@@ -160,9 +160,9 @@ module _ (s : Settings) (ws : List ℕ) (h : State) (begun : Begun ws h) where
         ∙ begun-ending (bytes_of h ts)
 
     -- Reading has stopped at as many clues as a month may have. The sums are the month of what was read and of whatever follows.
-    pub stopped_counted : most_clues ≤ last.step.clues → (more : List ℕ) → sums_of ws last.sums ≡ month_of s ws (clues_in (bytes_of h ts ++ more))
+    pub stopped_counted : most_clues ≤ last.step.clues → (more : List ℕ) → last.sums ≡ month_of s ws (clues_in (bytes_of h ts ++ more))
     stopped_counted full more =
-        sym (full-same s ws last.step.clues (sums_of ws last.sums) (pending last.step last.buffer ++ more) full)
+        sym (full-same s ws last.step.clues last.sums (pending last.step last.buffer ++ more) full)
         ∙ sym (ending_of_lem s ws last.sums last.buffer last.step last.step.clues (pending last.step last.buffer) more refl refl)
         ∙ ran_goes s ws h ts ran more
         ∙ begun-ending (bytes_of h ts ++ more)

@@ -1,7 +1,7 @@
 -- The widths of a file: one decimal number of 1 to 4 digits, at most 4,096, for each line (refusal 13).
 -- Assumes nothing.
 use Rattle.std.specs.Prelude.{ℕ, suc, ◌≤◌, ◌<◌, ◌≡◌, List, [], ◌∷◌, ltb, length, take, None, Option, Some, Result, Ok, Err}
-use Rattle.std.proofs.Common.{sym, subst, ◌∙◌, arith, lt-ltb, le-ltb, ltb-true}
+use Rattle.std.proofs.Common.{sym, subst, arith, lt-ltb, le-ltb, ltb-true}
 use Rattle.basis.specs.Choice.{pick, pick_cases}
 use Rattle.meaning.specs.Columns.{widest_box}
 use Rattle.meaning.specs.Month.{stream_lines}

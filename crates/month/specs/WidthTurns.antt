@@ -10,8 +10,7 @@ use Rattle.std.proofs.Math.Seq.{take-suc-set}
 use Rattle.basis.specs.Choice.{pick}
 use Rattle.meaning.specs.Month.{stream_lines}
 use Rattle.clues.specs.Feeds.{before_feed, line-off}
-use Rattle.month.specs.WidthFile.{width_of, widths_from, widths_in, listed, listed_in, Held}
-use Rattle.month.specs.declared.width_lines.WidthsError.{WidthsError}
+use Rattle.month.specs.WidthFile.{width_of, widths_from, widths_in, listed, listed_in}
 use Rattle.month.specs.declared.width_lines.WidthsError.TheVariants.{Bad}
 
 -- k lines are widths, which stand at the front of u, and the others start at a place.

@@ -12,6 +12,7 @@ use clues::each::add_text;
 use clues::feeds::find_feed;
 use clues::stream::{Ended, add_clue, count_ended};
 use console::front::to_front;
+use meaning::figures::Figures;
 use meaning::refusals::Refusal;
 use meaning::settings::Settings;
 
@@ -39,7 +40,7 @@ fn keep(buffer: &mut [u8], at: usize, end: usize, clues: u64) -> Step
 }
 
 // A clue that is too long, whatever its bytes are.
-fn add_long(text: &[u8], s: Settings, widths: &[u32], sums: &mut [u64], clues: u64) -> u64
+fn add_long(text: &[u8], s: Settings, widths: &[u32], sums: &mut [Figures], clues: u64) -> u64
     requires counts { Counts s widths.now sums.old clues }
     requires clues_lt_most_clues { clues < most_clues }
     ensures { LongAdded s widths.now sums.old clues result sums.new }
@@ -49,15 +50,15 @@ fn add_long(text: &[u8], s: Settings, widths: &[u32], sums: &mut [u64], clues: u
     clues + 1
 }
 
-// The clue that is too long ends at the block's first line feed. Where there is none, the place that is answered is 0.
+// The clue that is too long ends at the block's first line feed, if there is one.
 fn end_long(
     buffer: &[u8],
     end: usize,
     s: Settings,
     widths: &[u32],
-    sums: &mut [u64],
+    sums: &mut [Figures],
     clues: u64,
-) -> Ended
+) -> Option<Ended>
     requires end_in_bounds { end ≤ length buffer.now }
     requires counts { Counts s widths.now sums.old clues }
     requires clues_lt_most_clues { clues < most_clues }
@@ -65,13 +66,13 @@ fn end_long(
 {
     let stop = find_feed(buffer, 0, end);
     if end <= stop {
-        return Ended { at: 0, clues };
+        return None;
     }
     let n = add_long(buffer, s, widths, sums, clues);
-    Ended {
+    Some(Ended {
         at: stop + 1,
         clues: n,
-    }
+    })
 }
 
 // The clues that end in the buffer from a place up to another; what is left of it is kept.
@@ -81,7 +82,7 @@ fn count_from(
     end: usize,
     s: Settings,
     widths: &[u32],
-    sums: &mut [u64],
+    sums: &mut [Figures],
     clues: u64,
 ) -> Step
     requires from_le_end { from ≤ end }
@@ -103,7 +104,7 @@ pub fn count_block(
     step: Step,
     s: Settings,
     widths: &[u32],
-    sums: &mut [u64],
+    sums: &mut [Figures],
 ) -> Step
     requires end_in_bounds { end ≤ length buffer.old }
     requires text_limit_in_bounds { text_limit < length buffer.old }
@@ -113,37 +114,29 @@ pub fn count_block(
     ensures stepped { Stepped s widths.now sums.new (length buffer.new) result }
     ensures went_on { WentOn s widths.now buffer.old sums.old end step sums.new buffer.new result }
 {
-    let clues = step.clues;
     if step.held.is_some() {
-        return count_from(buffer, 0, end, s, widths, sums, clues);
+        return count_from(buffer, 0, end, s, widths, sums, step.clues);
     }
-    let first = end_long(buffer, end, s, widths, sums, clues);
-    let from = first.at;
-    let n = first.clues;
-    if from == 0 {
-        return Step {
-            clues: n,
-            held: None,
-        };
+    match end_long(buffer, end, s, widths, sums, step.clues) {
+        Some(first) => count_from(buffer, first.at, end, s, widths, sums, first.clues),
+        None => Step { held: None, ..step },
     }
-    count_from(buffer, from, end, s, widths, sums, n)
 }
 
 // The input has ended: what is held is a clue, though it has no line feed.
-pub fn count_last(buffer: &[u8], step: Step, s: Settings, widths: &[u32], sums: &mut [u64])
+pub fn count_last(buffer: &[u8], step: Step, s: Settings, widths: &[u32], sums: &mut [Figures])
     requires held_in_bounds { held_in step ≤ length buffer.now }
     requires counts { Counts s widths.now sums.old step.clues }
     requires clues_lt_most_clues { step.clues < most_clues }
     ensures { LastCounted s widths.now buffer.now sums.old step sums.new }
 {
-    let clues = step.clues;
     match step.held {
         None => {
-            add_long(buffer, s, widths, sums, clues);
+            add_long(buffer, s, widths, sums, step.clues);
         }
         Some(held) => {
             if held != 0 {
-                add_clue(&buffer[..held], s, widths, sums, clues);
+                add_clue(&buffer[..held], s, widths, sums, step.clues);
             }
         }
     }

@@ -12,7 +12,7 @@ ghost use Rattle.moves.specs.Fine.{FineSettings};
 ghost use Rattle.clues.specs.Summing.{Narrow};
 ghost use Rattle.month.specs.WidthFile.{Read};
 
-use crate::say::{say_bad_width, say_failed, say_month, say_usage};
+use crate::say::{Form, say_bad_width, say_failed, say_month, say_usage};
 use crate::stream::{Count, count_stream};
 use crate::width_lines::{MOST_WIDTHS, WidthsError, parse_widths};
 use console::buffers::buffer;
@@ -20,7 +20,7 @@ use console::input::fill;
 use console::words::{word, word_count};
 use meaning::counts::Pixels;
 use meaning::settings::Settings;
-use month_figures::sums::SUM_NUMBERS;
+use month_figures::adding::no_figures;
 use std::env::Env;
 use std::io::IsTerminal;
 use std::rt::Files;
@@ -53,17 +53,18 @@ fn count_month(
     input: &mut impl io::Read,
     terminal: bool,
     widths: &[u32],
-    people: bool,
+    form: Form,
 ) -> io::Result<()>
     requires widths_len_bound { length widths.now ≤ 64 }
     requires narrow { Narrow widths.now }
 {
-    let mut sums = [0u64; MOST_WIDTHS * SUM_NUMBERS];
-    match count_stream(rt, input, terminal, settings(), widths, &mut sums)? {
-        Count::Whole => say_month(rt, widths, &sums, people),
+    let mut sums = [no_figures(); MOST_WIDTHS];
+    let sums = &mut sums[..widths.len()];
+    match count_stream(rt, input, terminal, settings(), widths, sums)? {
+        Count::Whole => say_month(rt, widths, sums, form),
         Count::Stopped => {
             rt.eprintln("month: reading stopped at 4294967295 clues")?;
-            say_month(rt, widths, &sums, people)
+            say_month(rt, widths, sums, form)
         }
         Count::Failed => rt.eprintln("month: standard input cannot be read"),
     }
@@ -84,11 +85,11 @@ fn run<R: Print + Eprint + Alloc + Files>(
     input: &mut impl io::Read,
     terminal: bool,
     path: &str,
-    people: bool,
+    form: Form,
 ) -> io::Result<()> {
     let mut widths = [0u32; MOST_WIDTHS];
     match widths_of(rt, path, &mut widths) {
-        Ok(n) => count_month(rt, input, terminal, &widths[..n], people),
+        Ok(n) => count_month(rt, input, terminal, &widths[..n], form),
         Err(WidthsError::Bad(line)) => say_bad_width(rt, line),
         Err(WidthsError::Unread(error)) => say_failed(rt, path, error),
     }
@@ -105,9 +106,9 @@ fn asks_for_people(rt: &impl Env) -> bool {
 const MOST_WORDS: usize = 4;
 
 fn main(rt: HostRuntime) -> io::Result<()> {
-    let people = match word_count(&rt, MOST_WORDS) {
-        2 => false,
-        3 if asks_for_people(&rt) => true,
+    let form = match word_count(&rt, MOST_WORDS) {
+        2 => Form::Lines,
+        3 if asks_for_people(&rt) => Form::Table,
         _ => {
             return say_usage(&rt);
         }
@@ -119,11 +120,5 @@ fn main(rt: HostRuntime) -> io::Result<()> {
     let Ok(path) = str::from_utf8(&path[..n]) else {
         return rt.eprintln("month: the file's name is not UTF-8");
     };
-    run(
-        &rt,
-        &mut rt.stdin(),
-        rt.stderr().is_terminal(),
-        path,
-        people,
-    )
+    run(&rt, &mut rt.stdin(), rt.stderr().is_terminal(), path, form)
 }

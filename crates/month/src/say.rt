@@ -1,10 +1,13 @@
 // What the program prints: figures for each width, a table for people, refusal 13, and how it is used.
-ghost use Rattle.std.specs.Prelude.{◌*◌, ◌≤◌, length};
-ghost use Rattle.month_figures.specs.Sums.{sum_numbers};
-
 use meaning::figures::Figures;
-use month_figures::sums::read_sum;
 use std::io;
+
+// How a month is printed: as a line of words and numbers for each width, or as a table for people.
+#[derive(Clone, Copy)]
+pub enum Form {
+    Lines,
+    Table,
+}
 
 pub fn say_usage(rt: &impl Eprint) -> io::Result<()> {
     rt.eprintln("usage: month WIDTHS [people] < CLUES")
@@ -50,21 +53,19 @@ fn say_headings(rt: &impl Print) -> io::Result<()> {
     )
 }
 
-fn say_one(rt: &impl Print, width: u32, f: Figures, people: bool) -> io::Result<()> {
-    if people {
-        return say_row(rt, width, f);
+fn say_one(rt: &impl Print, width: u32, f: Figures, form: Form) -> io::Result<()> {
+    match form {
+        Form::Lines => say_figures(rt, width, f),
+        Form::Table => say_row(rt, width, f),
     }
-    say_figures(rt, width, f)
 }
 
-pub fn say_month(rt: &impl Print, widths: &[u32], sums: &[u64], people: bool) -> io::Result<()>
-    requires { sum_numbers * length widths.now ≤ length sums.now }
-{
-    if people {
+pub fn say_month(rt: &impl Print, widths: &[u32], sums: &[Figures], form: Form) -> io::Result<()> {
+    if let Form::Table = form {
         say_headings(rt)?;
     }
-    for (k, width) in widths.iter().enumerate() {
-        say_one(rt, *width, read_sum(sums, k), people)?;
+    for (width, f) in widths.iter().zip(sums) {
+        say_one(rt, *width, *f, form)?;
     }
     Ok(())
 }

@@ -1,33 +1,21 @@
 // The input, block by block, and how far it is read.
-ghost use Rattle.std.specs.Prelude.{◌≤◌, ◌<◌, ◌≡◌, length, take};
 ghost use Rattle.clues.specs.Counting.{Counts};
-ghost use Rattle.month.specs.Blocks.{Came};
 
 use crate::block::{Step, count_block, count_last};
 use clues::stream::MOST_CLUES;
 use console::buffers::large_buffer;
+use console::input::read_more;
+use meaning::figures::Figures;
 use meaning::settings::Settings;
 use std::io;
 
-// All clues are counted; as many as a month may have; or the input could not be read.
+// All clues are counted; as many as a month may have; or the input could not be read. Three outcomes, and the last is said by the program: an
+// `Err` is what writing answers.
 #[derive(Clone, Copy)]
 pub enum Count {
     Whole,
     Stopped,
     Failed,
-}
-
-// Reads once, into the buffer from a place on, and answers where the bytes end that came, if any did. What stands before it stays.
-fn read_more(input: &mut impl io::Read, buffer: &mut [u8], end: usize) -> io::Result<Option<usize>>
-    requires { end < length buffer.old }
-    ensures came { Came end (length buffer.new) result }
-    ensures buffer_unchanged { take end buffer.new ≡ take end buffer.old }
-{
-    let more = input.read(&mut buffer[end..])?;
-    if more == 0 {
-        return Ok(None);
-    }
-    Ok(Some(end + more))
 }
 
 // How often progress is shown, in clues.
@@ -61,7 +49,7 @@ pub fn count_stream(
     terminal: bool,
     s: Settings,
     widths: &[u32],
-    sums: &mut [u64],
+    sums: &mut [Figures],
 ) -> io::Result<Count>
     requires { Counts s widths.now sums.old 0 }
 {
@@ -70,20 +58,20 @@ pub fn count_stream(
         clues: 0,
         held: Some(0),
     };
-    for reads in 0..MANY {
-        let clues = step.clues;
+    for _ in 0..MANY {
         match read_more(input, &mut buffer, step.held.unwrap_or(0)) {
             Ok(Some(end)) => {
-                step = count_block(&mut buffer, end, step, s, widths, sums);
-                show(rt, terminal, clues, step.clues)?;
-                if MOST_CLUES <= step.clues {
-                    end_show(rt, terminal, clues)?;
+                let next = count_block(&mut buffer, end, step, s, widths, sums);
+                show(rt, terminal, step.clues, next.clues)?;
+                if MOST_CLUES <= next.clues {
+                    end_show(rt, terminal, step.clues)?;
                     return Ok(Count::Stopped);
                 }
+                step = next;
             }
             Ok(None) => {
                 count_last(&buffer, step, s, widths, sums);
-                end_show(rt, terminal, clues)?;
+                end_show(rt, terminal, step.clues)?;
                 return Ok(Count::Whole);
             }
             Err(_) => {

@@ -13,7 +13,7 @@ pub const MOST_WIDTHS: usize = 64;
 // The most digits of a width.
 const DIGITS: usize = 4;
 
-// Why the file gives no widths: its first bad line, counted from 0; or it cannot be read.
+// Why the file gives no widths, an error with two causes that are said apart: its first bad line, counted from 0; or it cannot be read.
 #[derive(Clone, Copy)]
 pub enum WidthsError {
     Bad(usize),
@@ -35,13 +35,14 @@ pub fn parse_width(line: &[u8]) -> Option<u32>
     decimal_in(line, WIDEST_BOX)
 }
 
-// All widths of a file, at the array's front, and how many they are. `split` would give one line more behind the last line feed.
+// All widths of a file, at the array's front, and how many they are.
 pub fn parse_widths(file: &[u8], widths: &mut [u32]) -> Result<usize, WidthsError>
     ensures value { result ≡ widths_in (length widths.old) file.now }
     ensures held { Held file.now result widths.new }
 {
     let mut k: usize = 0;
     let mut at: usize = 0;
+    // no iterator: `split` would give one line more behind the last line feed, and `split_inclusive` would leave each line its own
     while at < file.len() {
         if widths.len() <= k {
             return Err(WidthsError::Bad(k));

@@ -1,3 +1,2 @@
 pub mod Tallies
 pub mod Rooms
-pub mod Sums

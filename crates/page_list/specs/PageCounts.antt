@@ -2,18 +2,26 @@
 -- Assumes nothing.
 use Prim.Native.Nat.{ℕ, suc, ◌+◌, ◌-◌, ◌*◌, ◌/◌, ◌≤◌, ◌<◌}
 use Rattle.std.specs.Prelude.{◌≡◌}
-use Rattle.std.proofs.Math.Nat.{suc-mul, add-div_right, div-mul-le_self}
+use Rattle.std.specs.Int.{div_ceil}
+use Rattle.std.proofs.Math.Nat.{suc-mul, div-mul-le_self}
+use Rattle.std.proofs.lemmas.Grind.{div_ceil_times}
 use Rattle.std.proofs.Common.{le-div_iff_mul-le}
 use native.Mathlib.Omega.{arith}
 use Rattle.basis.specs.Order.{by_le}
 use Rattle.laws.specs.PageLaws.{page_count}
 
 module _ (h : ℕ) (some : 1 ≤ h) where
-  pub count-is : (n : ℕ) → 1 ≤ n → (n - 1) / h + 1 ≡ page_count h n
+  -- A quotient that is rounded up is one of a sum that is rounded down.
+  pub count-is : (n : ℕ) → div_ceil n h ≡ page_count h n
   unfolding page_count
-  count-is n m =
-      let e : n + (h - 1) ≡ n - 1 + h = omega arith in
-      rw (e, add-div_right (n - 1) some) (omega arith)
+  count-is n =
+      let q = div_ceil n h in
+      let t = div_ceil_times n h some in
+      let low : q ≤ (n + (h - 1)) / h = (le-div_iff_mul-le some).1 (omega (arith, t.1)) in
+      let high : (n + (h - 1)) / h ≤ q =
+      by_le ((n + (h - 1)) / h) q (λ p. p)
+      (λ p. absurd (omega (arith, (le-div_iff_mul-le {k = h} {x = suc q} {y = n + (h - 1)} some).0 p, suc-mul q h, t.0))) in
+      omega (arith, low, high)
 
   -- More lines take no fewer pages.
   pub count-grows : (n m : ℕ) → n ≤ m → page_count h n ≤ page_count h m

@@ -2,10 +2,11 @@
 ghost use Rattle.std.specs.Prelude.{◌≤◌, ◌≡◌};
 ghost use Rattle.laws.specs.PageLaws.{page_count};
 
-// Pages of h lines each, the last one filled or not.
+// Pages of h lines each, the last one filled or not. C passes h as any number, and definitions take it so: of a type that is never 0 each
+// clause would say the number in it.
 pub fn page_count(lines: usize, h: u32) -> usize
-    requires { (1 ≤ lines) × (1 ≤ h) }
+    requires { 1 ≤ h }
     ensures { result ≡ page_count h lines }
 {
-    (lines - 1) / h as usize + 1
+    lines.div_ceil(h as usize)
 }

@@ -1,4 +1,5 @@
 // The pages of a table's lines, written one after the other to a list (rule 10).
+// A table goes with the number of its lines beside it: heights says at `height_of` why.
 ghost use Rattle.std.specs.Prelude.{◌+◌, ◌*◌, ◌≤◌, ◌<◌, ◌≡◌, length};
 ghost use Rattle.meaning.specs.Table.{entry_numbers, entries_in, of_all};
 ghost use Rattle.meaning.specs.Pages.{end_before, pages_of, page_numbers, of_page, written_past};

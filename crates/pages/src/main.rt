@@ -6,17 +6,15 @@
 mod shown;
 mod words;
 
-ghost use Rattle.std.specs.Prelude.{◌+◌, ◌*◌, ◌≤◌, ◌≡◌, length};
-ghost use Rattle.meaning.specs.Pages.{page_numbers};
+ghost use Rattle.std.specs.Prelude.{◌≡◌, length};
 
 use crate::shown::show_pages;
-use crate::words::{Asked, read_words};
+use crate::words::{Asked, Form, read_words};
 use console::buffers::large_buffer;
 use console::input::fill;
 use console::sample::sample_settings;
-use console::saying::{refuse, say_unread};
+use console::saying::{refuse, say_rows, say_unread};
 use meaning::answers::Paged;
-use meaning::refusals::Refusal;
 use meaning::sizes::{ENTRY_NUMBERS, PAGE_NUMBERS};
 use paging::listed::lay_pages;
 use std::io;
@@ -32,34 +30,11 @@ fn say_usage(rt: &impl Eprint) -> io::Result<()> {
     rt.eprintln("H is a number from 1 to 4294967295. TEXT is UTF-8 of at most 65,535 bytes.")
 }
 
-// A page's three numbers, as a line of text.
-fn say_page(rt: &impl Print, page: &[u32]) -> io::Result<()>
-    requires { page_numbers ≤ length page.now }
+// Room for a row of numbers for each line or page of any text. That the array has its length is all that is said of it.
+fn no_rows<const N: usize>() -> [[u32; N]; LINES]
+    ensures { 65536 ≡ length result }
 {
-    println!(rt; "{} {} {}", page[0], page[1], page[2])
-}
-
-fn say_pages(rt: &impl Print, pages: &[u32], n: usize) -> io::Result<()>
-    requires { page_numbers * n ≤ length pages.now }
-{
-    println!(rt; "pages {n}")?;
-    for page in pages[..PAGE_NUMBERS * n].chunks_exact(PAGE_NUMBERS) {
-        say_page(rt, page)?;
-    }
-    Ok(())
-}
-
-// Room for the lines of any text, and for its pages. That the arrays have their lengths is all that is said of them.
-fn no_lines() -> [u32; LINES * ENTRY_NUMBERS]
-    ensures { 720896 ≡ length result }
-{
-    [0; LINES * ENTRY_NUMBERS]
-}
-
-fn no_pages() -> [u32; LINES * PAGE_NUMBERS]
-    ensures { 196608 ≡ length result }
-{
-    [0; LINES * PAGE_NUMBERS]
+    [[0; N]; LINES]
 }
 
 // The pages of a text that was read from this input, as numbers or as text.
@@ -68,17 +43,15 @@ fn list(
     input: &mut impl io::Read,
     asked: Asked,
     text: &[u8],
-) -> io::Result<()>
-    requires { length text.now ≤ 65536 }
-{
-    let mut table = no_lines();
-    let mut pages = no_pages();
+) -> io::Result<()> {
+    let mut table = no_rows::<ENTRY_NUMBERS>();
+    let mut pages = no_rows::<PAGE_NUMBERS>();
     let Paged { lines, pages: n } = match lay_pages(
         sample_settings(),
         text,
         asked.lines,
-        &mut table,
-        &mut pages,
+        table.as_flattened_mut(),
+        pages.as_flattened_mut(),
     ) {
         Ok(paged) => paged,
         Err(refusal) => return refuse(rt, input, "pages", refusal, text.len()),
@@ -87,10 +60,11 @@ fn list(
     if (LINES as u64) < lines || (LINES as u64) < n {
         return Ok(());
     }
-    if asked.as_text {
-        return show_pages(rt, text, &table, lines as usize, &pages, n as usize);
+    let pages = &pages[..n as usize];
+    match asked.form {
+        Form::Numbers => say_rows(rt, "pages", pages),
+        Form::Text => show_pages(rt, text, &table[..lines as usize], pages),
     }
-    say_pages(rt, &pages, n as usize)
 }
 
 fn run(rt: &(impl Print + Eprint), input: &mut impl io::Read, asked: Asked) -> io::Result<()> {

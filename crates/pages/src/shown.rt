@@ -1,7 +1,5 @@
 // The text of each page, line by line, between rules with the page's number.
-ghost use Rattle.std.specs.Prelude.{◌*◌, ◌≤◌, length};
-ghost use Rattle.meaning.specs.Table.{entry_numbers};
-ghost use Rattle.meaning.specs.Pages.{page_numbers};
+ghost use Rattle.std.specs.Prelude.{◌<◌};
 
 use meaning::sizes::{ENTRY_NUMBERS, PAGE_NUMBERS};
 use std::io;
@@ -25,64 +23,45 @@ fn show_stretch(rt: &impl Print, text: &[u8], from: usize, to: usize) -> io::Res
     rt.write_all(b"\n")
 }
 
-// Line k, which ends where the next one starts, and the last where the text ends.
-fn show_line(rt: &impl Print, text: &[u8], table: &[u32], lines: usize, k: usize) -> io::Result<()>
-    requires { entry_numbers * lines ≤ length table.now }
+// The first number of a row: where a line starts, or the first line of a page. Behind the last row it is what all of them come to.
+fn first_number<const N: usize>(rows: &[[u32; N]], i: usize, all: usize) -> usize
+    requires { 0 < N }
 {
-    if lines <= k {
-        return Ok(());
+    match rows.get(i) {
+        Some(row) => row[0] as usize,
+        None => all,
     }
-    let from = table[ENTRY_NUMBERS * k] as usize;
-    let next = k + 1;
-    if next < lines {
-        return show_stretch(rt, text, from, table[ENTRY_NUMBERS * next] as usize);
-    }
-    show_stretch(rt, text, from, text.len())
 }
 
-// The lines from one on and before another.
+// The lines from one on and before another. Each ends where the next one starts, and the last where the text ends.
 fn show_lines(
     rt: &impl Print,
     text: &[u8],
-    table: &[u32],
-    lines: usize,
+    lines: &[[u32; ENTRY_NUMBERS]],
     from: usize,
     to: usize,
-) -> io::Result<()>
-    requires { entry_numbers * lines ≤ length table.now }
-{
-    for k in from..to {
-        show_line(rt, text, table, lines, k)?;
+) -> io::Result<()> {
+    for k in from..to.min(lines.len()) {
+        let start = first_number(lines, k, text.len());
+        let end = first_number(lines, k + 1, text.len());
+        show_stretch(rt, text, start, end)?;
     }
     Ok(())
-}
-
-// The first line of page i, and behind the last page how many lines there are.
-fn first_line(pages: &[u32], n: usize, lines: usize, i: usize) -> usize
-    requires { page_numbers * n ≤ length pages.now }
-{
-    if i < n {
-        return pages[PAGE_NUMBERS * i] as usize;
-    }
-    lines
 }
 
 pub fn show_pages(
     rt: &impl Print,
     text: &[u8],
-    table: &[u32],
-    lines: usize,
-    pages: &[u32],
-    n: usize,
-) -> io::Result<()>
-    requires { (entry_numbers * lines ≤ length table.now) × (page_numbers * n ≤ length pages.now) }
-{
+    lines: &[[u32; ENTRY_NUMBERS]],
+    pages: &[[u32; PAGE_NUMBERS]],
+) -> io::Result<()> {
+    let n = pages.len();
     for i in 0..n {
         let next = i + 1;
         println!(rt; "---- page {next} of {n} ----")?;
-        let from = first_line(pages, n, lines, i);
-        let to = first_line(pages, n, lines, next);
-        show_lines(rt, text, table, lines, from, to)?;
+        let from = first_number(pages, i, lines.len());
+        let to = first_number(pages, next, lines.len());
+        show_lines(rt, text, lines, from, to)?;
     }
     rt.println("----")
 }

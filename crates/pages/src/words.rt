@@ -1,13 +1,20 @@
-// The words of the command line: how many lines a page has, and whether its text is to be printed.
+// The words of the command line: how many lines a page has, and how the pages are to be printed.
 use console::digits::decimal_in;
 use console::words::{word, word_count};
 use std::env::Env;
 
-// So many lines to a page, and whether their text is to be printed or a list of numbers.
+// How pages are printed: as a list of numbers, or by their text.
+#[derive(Clone, Copy)]
+pub enum Form {
+    Numbers,
+    Text,
+}
+
+// So many lines to a page, and how the pages are to be printed.
 #[derive(Clone, Copy)]
 pub struct Asked {
     pub lines: u32,
-    pub as_text: bool,
+    pub form: Form,
 }
 
 // More words than the program knows.
@@ -29,15 +36,10 @@ fn first_number(rt: &impl Env) -> Option<u32> {
 // What the words ask for, the program's name among them, if they say it.
 pub fn read_words(rt: &impl Env) -> Option<Asked> {
     let lines = first_number(rt)?;
-    match word_count(rt, MOST_WORDS) {
-        2 => Some(Asked {
-            lines,
-            as_text: false,
-        }),
-        3 if second_is_text(rt) => Some(Asked {
-            lines,
-            as_text: true,
-        }),
-        _ => None,
-    }
+    let form = match word_count(rt, MOST_WORDS) {
+        2 => Form::Numbers,
+        3 if second_is_text(rt) => Form::Text,
+        _ => return None,
+    };
+    Some(Asked { lines, form })
 }

@@ -1,5 +1,6 @@
 // The tests of the calls that list pages, in their order. None of them writes anything.
 // Refusal 1, refusal 2, refusal 3, refusal 4, refusal 5, refusal 8.
+// A table is lent with a count of lines beside it, as C lends it: the count may be past the table, and refusal 5 answers that.
 ghost use Rattle.std.specs.Prelude.{◌≤◌, ◌≡◌, length};
 ghost use Rattle.meaning.specs.Checks.{check_room};
 ghost use Rattle.meaning.specs.Table.{capacity_of};

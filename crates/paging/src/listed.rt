@@ -1,5 +1,6 @@
 // Pages listed: of a text that is laid, and again of its table after an edit. Public calls.
 // Rule 10, refusal 1, refusal 2, refusal 3, refusal 4, refusal 5, refusal 8.
+// A table is lent with a count of lines beside it, as C lends it: the count may be past the table, and refusal 5 answers that.
 ghost use Rattle.std.specs.Prelude.{◌≤◌, ◌≡◌};
 ghost use Rattle.meaning.specs.Pages.{kept_pages};
 ghost use Rattle.meaning.specs.PageCalls.{paging_answer, paging_table, paging_list, paging_again_answer, paging_again_list};

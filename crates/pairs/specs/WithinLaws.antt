@@ -8,11 +8,11 @@ use Rattle.basis.specs.Choice.{pick_cases}
 use Rattle.meaning.specs.Tokens.{Tok, newLine, carriageReturn, tab, softHyphen, space, word, tokens, kind_of, count_of}
 use Rattle.meaning.specs.declared.tokens.TokenKind.TheVariants.{Word}
 use Rattle.parser.specs.Lexing.{chars_from, lexeme_at, lexed_at}
-use Rattle.parser.specs.Scanning.{scanned_at, word_of}
+use Rattle.parser.specs.Scanning.{kept_of, scanned_at, word_of}
 use Rattle.parser.specs.Letters.{Letter, GoesOn, Ends}
 use Rattle.pairs.specs.Pairs.{PairAt}
 use Rattle.pairs.specs.PlainWords.{PlainWord, Stride}
-use Rattle.pairs.specs.Within.{FirstWord, kept_of, kept_within}
+use Rattle.pairs.specs.Within.{FirstWord, kept_within}
 use Rattle.parser.specs.LexerLaws.{letter-lexed}
 use Rattle.parser.specs.NextLaws.{next}
 use Rattle.pairs.specs.PlainLaws.{plain-read, plain-pair}

@@ -1,4 +1,5 @@
 // A space and a word read together, the words that a line begins with, and lines of plain words (rule 2).
+// That a text is short is a clause, and not a type: see parser.
 #![tactic(auto)]
 
 pub mod pair;

@@ -29,6 +29,7 @@ fn last_space(text: &[u8], from: usize, limit: usize) -> usize
     requires { (from ≤ limit) × (limit < length text.now) }
     ensures { LastSpace text.now from limit result }
 {
+    // By hand: with `rposition` a line of plain words takes a twelfth more instructions, with a `for` a fifth.
     let mut at = limit;
     while from < at {
         if text[at] == 0x20 {

@@ -1,5 +1,5 @@
 // Stretches of ASCII letters with single spaces between them, looked at many bytes at a time (rule 2).
-ghost use Rattle.std.specs.Prelude.{◌+◌, ◌≤◌, ◌<◌, min, ◌≡◌, true, length};
+ghost use Rattle.std.specs.Prelude.{◌+◌, ◌≤◌, ◌<◌, ◌≡◌, true, length};
 ghost use Rattle.pairs.specs.Stretches.{smooth, Smooth};
 
 // A letter, or a space that stands behind none.
@@ -15,18 +15,10 @@ fn all_smooth(text: &[u8], from: usize, to: usize) -> bool
     ensures { result ≡ true → Smooth text.now from to }
 {
     let mut all = true;
-    let mut i = from;
-    while i < to {
+    for i in from..to {
         all = all & is_smooth(text[i - 1], text[i]);
-        i += 1;
     }
     all
-}
-
-fn nearer(a: usize, b: usize) -> usize
-    ensures { result ≡ min a b }
-{
-    if a < b { a } else { b }
 }
 
 // The same of a stretch that is no shorter than a block: block after block, the last one up to its end.
@@ -35,6 +27,7 @@ fn smooth_by(text: &[u8], from: usize, to: usize, block: usize) -> bool
     ensures { result ≡ true → Smooth text.now from to }
 {
     let last = to - block;
+    // No `for`: the last block begins where it still ends with the stretch, and not where the one before it ended.
     let mut at = from;
     loop {
         if !all_smooth(text, at, at + block) {
@@ -43,7 +36,7 @@ fn smooth_by(text: &[u8], from: usize, to: usize, block: usize) -> bool
         if at == last {
             return true;
         }
-        at = nearer(at + block, last);
+        at = last.min(at + block);
     }
 }
 

@@ -18,8 +18,7 @@ fn limit_at(text: &[u8], from: usize, most: u32) -> usize
     requires { from ≤ 65535 }
     ensures { result ≡ min (from + most) (length text.now) }
 {
-    let to = from + most as usize;
-    if to <= text.len() { to } else { text.len() }
+    text.len().min(from + most as usize)
 }
 
 // The end of the plain word at a position, if it has no more characters than that. No more bytes are read.
@@ -45,13 +44,7 @@ pub fn kept_within(x: Lexeme, most: u32) -> Option<Scanned>
     if most < x.chars.0 {
         return None;
     }
-    let weight = x.glues;
-    Some(Scanned {
-        end: x.end,
-        chars: x.chars,
-        weight,
-        reach: x.reach,
-    })
+    Some(Scanned::from(x))
 }
 
 // Letters and what glues are skipped, but no more characters than that.

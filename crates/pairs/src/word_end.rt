@@ -7,6 +7,7 @@ pub fn word_end(text: &[u8], from: usize) -> usize
     requires { (length text.now ≤ 65535) × Stretching text.now from }
     ensures { NextPlain text.now from result }
 {
+    // By hand: a space is known to come, so that the text's end is not looked for, as `position` would.
     let mut at = from + 1;
     while text[at] != 0x20 {
         at += 1;

@@ -29,6 +29,10 @@ scan_from goes weigh at n w (c ∷ cs) =
     let more = scan_from goes weigh (at + bytes c) (n + 1) (w + weigh c) cs in
     pick (goes c) more (scanned_at at n w (bytes c))
 
+-- A word that is read, as a scan gives it.
+abbrev pub kept_of : Lexeme → Scanned
+kept_of x = record { end = x.end; chars = x.chars; weight = x.glues; reach = x.reach }
+
 -- The token of one character that ends at an offset, and of what was scanned as a word and as a space run.
 unfoldable pub alone_at : TokenKind → (end : ℕ) → Lexeme
 alone_at kind end =

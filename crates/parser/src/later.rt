@@ -32,6 +32,7 @@ pub fn token_after(text: &[u8], from: usize, x: Lexeme, at: usize) -> Option<Lex
     if x.end.0 as usize <= at {
         return token_at(text, at);
     }
+    // No `for`: a turn passes a character, and the text says how many bytes that has.
     let mut pos = from;
     let mut chars: u32 = 0;
     let mut glues: u32 = 0;

@@ -57,6 +57,7 @@ fn skip_wide(text: &[u8], from: usize) -> Letters
     requires { (length text.now ≤ 65535) × (from ≤ length text.now) }
     ensures { GoesOn text.now from result.end result.chars 0 }
 {
+    // No `for`: how many there are is what the text tells.
     let mut end = from;
     let mut chars: u32 = 0;
     while broad_at(text, end) {

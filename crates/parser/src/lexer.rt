@@ -10,7 +10,7 @@ use crate::ascii::{plain_at, space_at};
 use crate::characters::in_word;
 use crate::glue::glue_of;
 use crate::lexeme::Lexeme;
-use crate::marks::{mark_at, mark_kind, mark_len};
+use crate::marks::{mark_at, mark_len};
 use crate::scan::{Scanned, scan_run, scan_word};
 use meaning::counts::{Chars, Offset};
 use meaning::tokens::TokenKind;
@@ -111,7 +111,7 @@ pub fn token_at(text: &[u8], at: usize) -> Option<Lexeme>
         return Some(word(scan_word(text, at + letter, 0)));
     }
     if let Some(mark) = mark_at(text, at) {
-        return Some(alone(mark_kind(mark), at + mark_len(mark)));
+        return Some(alone(TokenKind::from(mark), at + mark_len(mark)));
     }
     decoded_at(text, at)
 }

@@ -1,4 +1,6 @@
 // Tokens of a text, by offsets into its bytes (the crate's parser/mod.rs).
+// That a text is short is a clause, and not a type: a struct that holds the bytes and the fact would have each `ensures` name them at the
+// call's entry (`text.entry.bytes.now`).
 #![tactic(auto)]
 
 pub mod ascii;

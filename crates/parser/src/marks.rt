@@ -12,7 +12,7 @@ pub enum MarkChar {
     ZeroWidth,
 }
 
-// How many bytes it has.
+// How many bytes it has: a length, which is added to offsets, and no number of its kind.
 pub fn mark_len(mark: MarkChar) -> usize
     ensures { result ≡ mark_len mark }
 {
@@ -24,13 +24,15 @@ pub fn mark_len(mark: MarkChar) -> usize
 }
 
 // The kind of the token that it is.
-pub fn mark_kind(mark: MarkChar) -> TokenKind
-    ensures { result ≡ mark_kind (mark_len mark) }
-{
-    match mark {
-        MarkChar::Tab => TokenKind::Tab,
-        MarkChar::SoftHyphen => TokenKind::Break,
-        MarkChar::ZeroWidth => TokenKind::Whitespace,
+impl From<MarkChar> for TokenKind {
+    ghost from_gives = { λ mark kind. kind ≡ mark_kind (mark_len mark) };
+
+    fn from(mark: MarkChar) -> TokenKind {
+        match mark {
+            MarkChar::Tab => TokenKind::Tab,
+            MarkChar::SoftHyphen => TokenKind::Break,
+            MarkChar::ZeroWidth => TokenKind::Whitespace,
+        }
     }
 }
 

@@ -3,12 +3,13 @@ ghost use Rattle.std.specs.Prelude.{◌≡◌, ◌≤◌, length};
 ghost use Rattle.meaning.specs.Characters.{in_word, in_run};
 ghost use Rattle.meaning.specs.Tokens.{ender};
 ghost use Rattle.parser.specs.Lexing.{chars_from};
-ghost use Rattle.parser.specs.Scanning.{glue_of, space_of, scanned_at, scan_from};
+ghost use Rattle.parser.specs.Scanning.{glue_of, space_of, kept_of, scanned_at, scan_from};
 
 use crate::ascii::{ends_at, plain_at, space_at};
 use crate::characters::{in_run, in_word, space_of};
 use crate::glue::{glue_len, glue_of};
-use crate::letters::skip_letters;
+use crate::letters::{Letters, skip_letters};
+use crate::lexeme::Lexeme;
 use crate::marks::{mark_at, mark_len};
 use meaning::counts::{Chars, Offset};
 use utf8::long::long_len;
@@ -21,6 +22,20 @@ pub struct Scanned {
     pub chars: Chars,
     pub weight: Chars,
     pub reach: Offset,
+}
+
+// A word that is read, as a scan finds it: what weighs glues.
+impl From<Lexeme> for Scanned {
+    ghost from_gives = { λ x scanned. scanned ≡ kept_of x };
+
+    fn from(x: Lexeme) -> Scanned {
+        Scanned {
+            end: x.end,
+            chars: x.chars,
+            weight: x.glues,
+            reach: x.reach,
+        }
+    }
 }
 
 // Ended at an offset by a character of so many bytes.
@@ -55,9 +70,8 @@ pub fn scan_word(text: &[u8], from: usize, first: u32) -> Scanned
     let mut chars: u32 = 1;
     let mut weight = first;
     loop {
-        let letters = skip_letters(text, at);
-        let end = letters.end;
-        let skipped = chars + letters.chars;
+        let Letters { end, chars: more } = skip_letters(text, at);
+        let skipped = chars + more;
         if ends_at(text, end) {
             return scanned_at(end, skipped, weight, 1);
         }

@@ -10,10 +10,9 @@ use Rattle.meaning.specs.declared.tokens.TokenKind.TheVariants.{Word}
 use Rattle.parser.specs.Letters.{Letter}
 use Rattle.parser.specs.Lexing.{chars_from, lexed_at}
 use Rattle.parser.specs.LexerLaws.{letter-lexed}
-use Rattle.parser.specs.Scanning.{glue_of, scan_from, word_of}
+use Rattle.parser.specs.Scanning.{glue_of, kept_of, scan_from, word_of}
 use Rattle.parser.specs.declared.lexeme.Lexeme.{Lexeme}
 use Rattle.parser.specs.declared.scan.Scanned.{Scanned}
-use Rattle.pairs.specs.Within.{kept_of}
 use Rattle.placing.specs.LeftWords.{LongWord}
 use Rattle.placing.specs.LeftWordLaws.{left_word}
 

@@ -8,11 +8,11 @@ ghost use Rattle.placing.specs.Laying.{LineReady};
 ghost use Rattle.steps.specs.Knowing.{KnownFits};
 ghost use Rattle.placing.specs.Quick.{QuickLine};
 
+use crate::known::known_word;
 use crate::quick::Quick;
 use meaning::counts::{Chars, Pixels};
 use meaning::line::LineEnd;
 use meaning::settings::Settings;
-use meaning::tokens::TokenKind;
 use moves::measure::printed_at;
 use parser::lexeme::Lexeme;
 use parser::part::part_of;
@@ -48,14 +48,6 @@ pub fn cut_line(text: &[u8], s: Settings, at: usize, known: Known) -> Option<Qui
     requires { LineReady s text.now at nothing_resumed × KnownFits text.now known }
     ensures { QuickLine s text.now at result }
 {
-    if known.at.0 as usize != at {
-        return None;
-    }
-    let Some(x) = known.first else {
-        return None;
-    };
-    match x.kind {
-        TokenKind::Word => cut_part(text, s, at, x),
-        _ => None,
-    }
+    let x = known_word(known, at)?;
+    cut_part(text, s, at, x)
 }

@@ -30,10 +30,8 @@ fn skip_chars(text: &[u8], from: usize, count: u32) -> usize
     ensures { Between text.now from result count }
 {
     let mut at = from;
-    let mut left = count;
-    while 0 < left {
+    for _passed in 0..count {
         at += lead_len(text[at]);
-        left -= 1;
     }
     at
 }

@@ -3,9 +3,8 @@ ghost use Rattle.std.specs.Prelude.{◌≤◌, ◌<◌, ◌≡◌, length, IfSom
 ghost use Rattle.steps.specs.Knowing.{KnownFits};
 ghost use Rattle.placing.specs.LeftWords.{LongWord};
 
-use meaning::tokens::TokenKind;
+use crate::known::known_word;
 use parser::letters::first_len;
-use parser::lexeme::Lexeme;
 use parser::scan::{Scanned, scan_word};
 use steps::first::Known;
 
@@ -17,14 +16,7 @@ fn may_be_long(text: &[u8], from: usize, most: u32) -> bool
     if text.len() <= limit {
         return false;
     }
-    let mut at = limit;
-    while from < at {
-        if text[at] <= 0x20 {
-            return false;
-        }
-        at -= 1;
-    }
-    true
+    text[from + 1..limit + 1].iter().rev().all(|b| 0x20 < *b)
 }
 
 // A scanned word, if it has more characters than that.
@@ -60,21 +52,6 @@ pub fn long_known(text: &[u8], at: usize, known: Known, most: u32) -> Option<Sca
     if most == 0 {
         return None;
     }
-    if known.at.0 as usize != at {
-        return None;
-    }
-    let Some(x) = known.first else {
-        return None;
-    };
-    let TokenKind::Word = x.kind else {
-        return None;
-    };
-    let weight = x.glues;
-    let word = Scanned {
-        end: x.end,
-        chars: x.chars,
-        weight,
-        reach: x.reach,
-    };
-    if_longer(word, most)
+    let x = known_word(known, at)?;
+    if_longer(Scanned::from(x), most)
 }

@@ -10,16 +10,15 @@ ghost use Rattle.placing.specs.Quick.{plain_place, counted_at, CountedWords, Qui
 
 use crate::alignment::plain_spaces;
 use crate::counting::count_on;
+use crate::known::known_word;
 use meaning::counts::{Chars, Offset, Pixels};
 use meaning::line::LineEnd;
 use meaning::settings::Settings;
-use meaning::tokens::TokenKind;
 use moves::measure::printed_at;
 use moves::place::start_place;
 use pairs::pair::plain_pair;
 use pairs::within::{first_within, kept_within};
 use parser::ascii::feed_at;
-use parser::lexeme::Lexeme;
 use parser::scan::Scanned;
 use steps::ending::ends_before;
 use steps::first::Known;
@@ -60,12 +59,8 @@ fn first_known(text: &[u8], at: usize, most: u32, known: Known) -> Option<Scanne
     requires { (length text.now ≤ 65535) × (most ≤ 4096) × KnownFits text.now known }
     ensures { IfSome result (FirstWord text.now at most) }
 {
-    if known.at.0 as usize == at {
-        if let Some(x) = known.first {
-            if let TokenKind::Word = x.kind {
-                return kept_within(x, most);
-            }
-        }
+    if let Some(x) = known_word(known, at) {
+        return kept_within(x, most);
     }
     first_within(text, at, most)
 }

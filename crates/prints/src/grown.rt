@@ -6,7 +6,8 @@ use meaning::counts::{Chars, Pixels};
 use meaning::line::Measure;
 use steps::step::Stepped;
 
-// Whether the token was taken whole, and the spaces and the width that it added.
+// Whether the token was taken whole, and the spaces and the width that it added: both stand in either case, as a run that is cut adds
+// the spaces that fit.
 #[derive(Clone, Copy)]
 pub struct Grown {
     pub whole: bool,

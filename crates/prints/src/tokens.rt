@@ -93,16 +93,15 @@ fn draw_tab(
     if skips_space(s, p) {
         return pen;
     }
-    let cursor = p.cursor;
-    let width = tab_width(cursor);
+    let width = tab_width(p.cursor);
     let next = x.end.0 as usize;
-    if fits(cursor, width) {
+    if fits(p.cursor, width) {
         let q = moved_on(p, width);
         let look = draws_space(text, s, q, next, seen);
         let kind = tab_kind(look.fits);
         return put_one(events, pen, kind, at, next, 0, width);
     }
-    put_one(events, pen, EventKind::Move, at, next, 0, room(cursor))
+    put_one(events, pen, EventKind::Move, at, next, 0, room(p.cursor))
 }
 
 // What the token x at an offset draws, which is no word (words.rt), after what was measured before it and what its step answered, and

@@ -1,10 +1,9 @@
 -- What the library's calls have written where they refuse nothing.
 -- Assumes nothing.
-use Prim.Native.Nat.{ℕ, ◌+◌, ◌*◌}
-use Rattle.std.specs.Prelude.{Err, Ok, Result, ℕ}
+use Prim.Native.Nat.{ℕ, ◌*◌}
+use Rattle.std.specs.Prelude.{Err, Ok, ℕ}
 use Rattle.meaning.specs.Refusals.{Checked}
 use Rattle.meaning.specs.declared.answers.Drawing.{Drawing}
-use Rattle.meaning.specs.declared.refusals.Refusal.{Refusal}
 use mathlib.Core.Path.{◌≡◌, refl, sym, ap, ◌∙◌}
 use mathlib.Core.Bool.{true}
 use mathlib.Core.List.{List, [], ◌∷◌, ◌++◌, append_assoc}

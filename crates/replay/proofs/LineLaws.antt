@@ -1,19 +1,17 @@
 -- The first line feed from a place on, and what was found of a line.
 -- Assumes nothing.
 use Prim.Native.Nat.{ℕ, suc, ◌+◌, ◌≤◌, ◌<◌}
-use mathlib.Core.Path.{◌≡◌, refl, sym, ap, subst, ◌∙◌}
-use mathlib.Core.Bool.{true}
+use mathlib.Core.Path.{◌≡◌, sym, subst}
 use mathlib.Core.List.{List, [], ◌∷◌}
 use native.Mathlib.Numerals.{add-one}
 use native.Mathlib.Omega.{arith}
-use borrow.Author.Tests.{eq-eqb, ne_eqb, eqb-true}
+use borrow.Author.Tests.{eq-eqb, ne_eqb}
 use lib.Dec.{eqb}
 use lib.ListN.{length, get_or, take, drop, drop_of_length-le, length-drop}
 use lib.Seq.{drop-cons, get_or-take, length-take-le}
 use Rattle.basis.specs.Choice.{pick, pick_cases}
-use Rattle.std.specs.Prelude.{Option, None, Some, Result, Ok, Err, MatchOption}
-use Rattle.replay.specs.Lines.{line_end, Within}
-use Rattle.replay.specs.declared.input.Part.{Part}
+use Rattle.std.specs.Prelude.{Option, None, Some, MatchOption}
+use Rattle.replay.specs.Lines.{line_end}
 
 module _ (s : List ℕ) (end : ℕ) (long : end ≤ length s) where
   part_length : length (take end s) ≡ end

@@ -1,14 +1,14 @@
 -- The numbers of a line, read word by word into an array.
 -- Assumes nothing.
-use Rattle.std.specs.Prelude.{ℕ, ◌+◌, ◌≤◌, ◌<◌, ◌≡◌, refl, true, false, ◌&&◌, List, [], ◌∷◌, ◌++◌, Option, None, Some, Ok, min, eqb, leb, ltb, length, get_or, set, take, drop, unwrap_or}
-use Rattle.std.proofs.Common.{sym, ap, ◌∙◌, arith, add-one, length-set, length-take, drop_of_length-le}
+use Rattle.std.specs.Prelude.{ℕ, ◌+◌, ◌≤◌, ◌<◌, ◌≡◌, refl, true, false, ◌&&◌, List, [], ◌∷◌, ◌++◌, Option, None, Some, eqb, leb, ltb, length, get_or, set, take, drop, unwrap_or}
+use Rattle.std.proofs.Common.{sym, ap, ◌∙◌, arith, add-one, length-set, drop_of_length-le}
 use Rattle.std.proofs.lemmas.Bool.{lt-ltb, le-ltb}
 use Rattle.std.proofs.Math.Seq.{drop-cons, take-suc-set, length-take-le}
 use Rattle.std.specs.List.{slice_split, onto_first}
 use Rattle.std.proofs.lemmas.List.Splits.{slice_split-cons_yes, slice_split-cons_no, length-slice_split}
 use Rattle.basis.specs.Choice.{pick, by_test}
 use Rattle.console.specs.Digits.{is_digit, one_more, decimal_from, decimal_in}
-use Rattle.replay.specs.Numbers.{unbegun, fed_of, feed_on, read_from, line_numbers}
+use Rattle.replay.specs.Numbers.{fed_of, feed_on, read_from, line_numbers}
 
 -- The bytes between any two spaces.
 abbrev pub words : List ℕ → List (List ℕ)

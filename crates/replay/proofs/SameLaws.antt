@@ -5,13 +5,11 @@ use mathlib.Core.Path.{◌≡◌, refl, sym, ap, ◌∙◌}
 use mathlib.Core.Bool.{Bool, true, false, ◌&&◌}
 use mathlib.Core.List.{List, [], ◌∷◌, ◌++◌}
 use native.Mathlib.Nat.{sub-zero}
-use native.Mathlib.Numerals.{add-one}
 use native.Mathlib.Omega.{arith}
-use borrow.Author.Tests.{eq-eqb, ne_eqb}
 use lib.Dec.{eqb}
 use Rattle.std.specs.Cmp.Lexicographic.{pointwise}
-use lib.ListN.{length, get_or, set, take, drop, drop_of_length-le, length-drop, length-append}
-use lib.Seq.{drop-cons, drop-drop, take-suc, take-suc-set, length-take-le}
+use lib.ListN.{length, take, drop, drop_of_length-le, length-drop, length-append}
+use lib.Seq.{drop-drop, length-take-le}
 use Rattle.meaning.specs.Table.{entry_numbers}
 use Rattle.replay.specs.Same.{equal, eights}
 

@@ -9,12 +9,6 @@ unfoldable pub line_end : (i : ℕ) → List ℕ → Option ℕ
 line_end i [] = None
 line_end i (b ∷ s) = let more = line_end (i + 1) s in pick (eqb b 10) (Some i) more
 
--- Bytes that came after those up to a place stand within so many.
-abbrev pub Came : {E : Type 0} → (end n : ℕ) → Result (Option ℕ) E → Type 0
-Came end n (Ok (Some k)) = (end < k) × (k ≤ n)
-Came end n (Ok None) = Unit {0}
-Came end n (Err e) = Unit {0}
-
 -- A line that was found stands within so many bytes, its line feed too.
 abbrev pub Within : {E : Type 0} → ℕ → Result (Option Part) E → Type 0
 Within n (Ok (Some p)) = (p.start ≤ p.stop) × (p.stop < p.end) × (p.end ≤ n)

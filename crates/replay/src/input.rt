@@ -1,8 +1,10 @@
 // The input, line by line, through one buffer. std's `read_until` would take a line of any length, and the heap for it.
-ghost use Rattle.std.specs.Prelude.{◌≤◌, ◌<◌, ◌≡◌, length, take, drop};
-ghost use Rattle.replay.specs.Lines.{line_end, Came, Within};
+ghost use Rattle.std.specs.Prelude.{◌≤◌, ◌≡◌, length, take, drop};
+ghost use Rattle.replay.specs.Lines.{line_end, Within};
 
+use crate::malformed::Malformed;
 use console::front::to_front;
+use console::input::read_more;
 use std::io;
 
 // What was read and not yet taken: the buffer's bytes from `at` up to `end`.
@@ -20,13 +22,19 @@ pub struct Part {
     pub end: usize,
 }
 
-// Why no line came, though the input has not ended between two.
+// Why a recording was not replayed to its end: an error with two causes, each of which is said in its own words.
 #[derive(Clone, Copy)]
 pub enum LineError {
-    // the input ends within a line, or a line is longer than the buffer
+    // the input ends within a line, a line is longer than the buffer, or it is no case
     Broken,
     // the input cannot be read
     Failed,
+}
+
+impl From<Malformed> for LineError {
+    fn from(_: Malformed) -> LineError {
+        LineError::Broken
+    }
 }
 
 impl From<io::Error> for LineError {
@@ -46,18 +54,6 @@ fn find(s: &[u8], from: usize, end: usize) -> Option<usize>
         }
     }
     None
-}
-
-// Reads once, into the buffer from a place on, and answers where the bytes end that came, if any did.
-fn read_more(input: &mut impl io::Read, buffer: &mut [u8], end: usize) -> io::Result<Option<usize>>
-    requires { end < length buffer.old }
-    ensures { Came end (length buffer.new) result }
-{
-    let more = input.read(&mut buffer[end..])?;
-    if more == 0 {
-        return Ok(None);
-    }
-    Ok(Some(end + more))
 }
 
 // The input has ended, with so many bytes after its last line feed.
@@ -80,6 +76,7 @@ fn read_line(
     ensures { Within (length buffer.new) result }
 {
     let mut end = have;
+    // no `for`: a read may give fewer bytes than there is room for, so nothing counts the turns before
     while end < buffer.len() {
         let Some(read) = read_more(input, buffer, end)? else {
             return ended(end);
@@ -106,15 +103,13 @@ pub fn next_line(
     requires end_in_bounds { held.end ≤ length buffer.old }
     ensures { Within (length buffer.new) result }
 {
-    let at = held.at;
-    let end = held.end;
-    if let Some(stop) = find(buffer, at, end) {
+    if let Some(stop) = find(buffer, held.at, held.end) {
         return Ok(Some(Part {
-            start: at,
+            start: held.at,
             stop,
-            end,
+            end: held.end,
         }));
     }
-    let have = to_front(buffer, at, end);
+    let have = to_front(buffer, held.at, held.end);
     read_line(input, buffer, have)
 }

@@ -27,14 +27,12 @@ fn judge_text(numbers: &[u32], text: &[u8], c: Case) -> Verdict
     requires text_value { text.now ≡ part numbers.now 6 c.tokens }
     ensures { Judged numbers.now result }
 {
-    let tokens = c.tokens;
-    let lines = c.lines;
-    let events = c.events;
-    if !tokens_agree(text, &numbers[tokens + 1..lines]) {
+    if !tokens_agree(text, &numbers[c.tokens + 1..c.lines]) {
         return Verdict::Differs;
     }
     let s = settings(numbers);
-    if !layout_agrees(s, text, &numbers[lines + 1..events], &numbers[events + 1..]) {
+    let lines = &numbers[c.lines + 1..c.events];
+    if !layout_agrees(s, text, lines, &numbers[c.events + 1..]) {
         return Verdict::Differs;
     }
     Verdict::Agrees
@@ -44,11 +42,9 @@ fn judge_case(numbers: &[u32], c: Case) -> Result<Verdict, Malformed>
     requires { Parts numbers.now c }
     ensures { IfOk result (Judged numbers.now) }
 {
-    let tokens = c.tokens;
     let mut text = [0u8; BYTES as usize];
-    bytes(&numbers[TEXT..tokens], &mut text)?;
-    let length = tokens - TEXT;
-    Ok(judge_text(numbers, &text[..length], c))
+    bytes(&numbers[TEXT..c.tokens], &mut text)?;
+    Ok(judge_text(numbers, &text[..c.tokens - TEXT], c))
 }
 
 fn judge_numbers(numbers: &[u32]) -> Result<Verdict, Malformed>

@@ -16,43 +16,44 @@ mod say;
 mod shape;
 mod tally;
 
+ghost use Rattle.std.specs.Prelude.{◌^◌, ◌<◌};
+ghost use Rattle.replay.specs.Tally.{Sound};
+
 use crate::input::{Held, LineError, next_line};
 use crate::judge::judge;
-use crate::say::{say_failed, say_malformed, say_replayed};
-use crate::tally::{count, nothing};
+use crate::say::{say_replayed, say_stopped};
+use crate::tally::{Tally, count, nothing};
 use console::buffers::large_buffer;
 use std::io;
 
 // 2 ^ 62. Nothing says that an input ends, and a proved loop has to: this one stops at a line that would take centuries to read.
 const MANY: u64 = 0x4000000000000000;
 
-fn main(rt: HostRuntime) -> io::Result<()> {
-    let mut input = rt.stdin();
+// Counts the cases of a recording, up to its end or to a line that is none.
+fn replay(input: &mut impl io::Read, t: &mut Tally) -> Result<(), LineError>
+    requires { Sound 0 t.old }
+    ensures { t.new.cases < 2 ^ 63 }
+{
     let mut buffer = large_buffer();
     let mut held = Held { at: 0, end: 0 };
-    let mut t = nothing();
     for lines in 0..MANY {
-        match next_line(&mut input, &mut buffer, held) {
-            Ok(Some(part)) => {
-                let Ok(verdict) = judge(&buffer[part.start..part.stop]) else {
-                    return say_malformed(&rt, t);
-                };
-                t = count(t, verdict);
-                held = Held {
-                    at: part.stop + 1,
-                    end: part.end,
-                };
-            }
-            Ok(None) => {
-                return say_replayed(&rt, t);
-            }
-            Err(LineError::Broken) => {
-                return say_malformed(&rt, t);
-            }
-            Err(LineError::Failed) => {
-                return say_failed(&rt, t);
-            }
-        }
+        let Some(part) = next_line(input, &mut buffer, held)? else {
+            return Ok(());
+        };
+        let verdict = judge(&buffer[part.start..part.stop])?;
+        *t = count(*t, verdict);
+        held = Held {
+            at: part.stop + 1,
+            end: part.end,
+        };
     }
-    say_malformed(&rt, t)
+    Err(LineError::Broken)
+}
+
+fn main(rt: HostRuntime) -> io::Result<()> {
+    let mut t = nothing();
+    match replay(&mut rt.stdin(), &mut t) {
+        Ok(()) => say_replayed(&rt, t),
+        Err(error) => say_stopped(&rt, error, t),
+    }
 }

@@ -31,14 +31,8 @@ use Rattle.rows.specs.declared.found.Reached.{Reached}
 abbrev pub plain_stand : (at before : ℕ) → Stand
 plain_stand at before = record { at = record { 0 = at }; before = record { 0 = before }; rest = nothing_resumed; known = nothing_known }
 
-abbrev pub WentPast : Settings → List ℕ → List ℕ → (n : ℕ) → Stand → List ℕ → Passed → Type 0
-WentPast s t u n p v r = Went s t u n p v r.lines (plain_stand r.at.0 r.before.0)
-
-abbrev pub reached_at : (lines at before : ℕ) → Reached
-reached_at lines at before = record { lines = lines; stand = Some (plain_stand at before) }
-
-abbrev pub ReachedFrom : Settings → List ℕ → List ℕ → (n : ℕ) → Stand → List ℕ → Reached → Type 0
-ReachedFrom s t u n p v r = Reaches s t u n p v r.lines r.stand
+abbrev pub reached_at : Passed → Reached
+reached_at p = record { lines = p.lines; events = p.events; stand = Some (plain_stand p.at.0 p.before.0) }
 
 -- ---- one such line
 

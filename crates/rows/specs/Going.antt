@@ -66,6 +66,14 @@ module _ (s : Settings) (t u : List ℕ) (n : ℕ) (p : Stand) where
     pub reaches_on : Reaches s t u n p v m (Some q)
     reaches_on = record { same = g.same; on = λ next e. subst (Went s t u n p v m) (same_Some q next e) g; all = λ e. absurd (none-some q (sym e)) }
 
+    pub reaches_then : (w : List ℕ) (k : ℕ) {next : Option Stand} → Reaches s t v m q w k next → Reaches s t u n p w k next
+    reaches_then w k h =
+        record {
+          same = h.same ∙ g.same;
+          on = λ next e. went_then w k next (h.on next e);
+          all = λ e. (let a = h.all e in record { count = a.count ∙ g.count; put = a.put ∙ g.left });
+        }
+
     pub went-few : RoomFrom s t u n p → m ≤ text_limit
     went-few room = omega (arith, g.count, room.1, some_entries s t 0 q)
 

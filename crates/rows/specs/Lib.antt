@@ -4,6 +4,8 @@ pub mod Writing
 pub mod Turns
 pub mod Going
 pub mod Found
+pub mod Drawers
+pub mod DrawnLines
 pub mod GoodInput
 pub mod Passing
 pub mod CutRests

@@ -1,14 +1,14 @@
 // Lines that are found and not walked, written one after the other (rule 10).
-ghost use Rattle.std.specs.Prelude.{◌≤◌, ◌≡◌};
-ghost use Rattle.rows.specs.Standing.{StandReady};
-ghost use Rattle.rows.specs.Going.{RoomFrom};
-ghost use Rattle.rows.specs.Found.{plain_stand, reached_at, ReachedFrom};
+ghost use Rattle.std.specs.Prelude.{◌≡◌};
+ghost use Rattle.rows.specs.Found.{reached_at};
+ghost use Rattle.rows.specs.Drawers.{CanGo, GoneOn};
+ghost use Rattle.rows.specs.DrawnLines.{CanPass, passed_stand};
 
 use crate::cuts::{write_cuts, write_long};
+use crate::drawer::Drawer;
 use crate::line::is_last;
-use crate::plain::{plain_stand, write_plain};
-use meaning::counts::{Chars, Offset};
-use meaning::settings::Settings;
+use crate::plain::{Passed, plain_stand, write_plain};
+use crate::ragged::Ragged;
 use parser::lexeme::Lexeme;
 use placing::long_word::long_known;
 use placing::plain::ended_entry;
@@ -17,69 +17,69 @@ use stands::stand::Stand;
 use steps::first::Known;
 use table::entries::write_entry;
 
-// How many lines are in the table, and where the next one is to be laid, if any is left.
+// How many lines are in the table, how many events in the buffer, and where the next line is to be laid, if any is left.
 #[derive(Clone, Copy)]
 pub struct Reached {
     pub lines: usize,
+    pub events: usize,
     pub stand: Option<Stand>,
 }
 
-fn reached_at(lines: usize, at: u32, before: u32) -> Reached
-    ensures { result ≡ reached_at lines at before }
+fn reached_at(p: Passed) -> Reached
+    ensures { result ≡ reached_at p }
 {
-    let stand = plain_stand(Offset(at), Chars(before));
+    let stand = plain_stand(p.at, p.before);
     Reached {
-        lines,
+        lines: p.lines,
+        events: p.events,
         stand: Some(stand),
     }
 }
 
-// As many lines as follow one another from an offset on and are told by their bytes: those of plain words as many as there are, then
-// those of a word that is wider than the box, or one of others, and so on.
-fn write_told(
+// As many lines as follow one another and are told by their bytes: those of plain words as many as there are, then those of a word that is
+// wider than the box, or one of others, and so on.
+fn write_told<D: Drawer>(
     text: &[u8],
-    s: Settings,
+    r: Ragged,
     table: &mut [u32],
-    lines: usize,
-    start: Offset,
-    chars: Chars,
+    events: &mut [u32],
+    from: Passed,
 ) -> Reached
-    requires stand_ready { StandReady s text.now (plain_stand start.0 chars.0) × (s.alignment ≤ 2) }
-    requires room_from { RoomFrom s text.now table.old lines (plain_stand start.0 chars.0) }
-    ensures { ReachedFrom s text.now table.old lines (plain_stand start.0 chars.0) table.new result }
+    requires { CanPass (D.to_draw r.settings text.now) r.settings text.now table.old from }
+    ensures { GoneOn (D.to_draw r.settings text.now) r.settings text.now table.old events.old from.lines from.events (passed_stand from) table.new events.new result.lines result.events result.stand }
 {
-    let most = s.width.0 / s.glyph.0;
-    let mut n = lines;
-    let mut at = start.0;
-    let mut before = chars.0;
+    let mut here = from;
     loop {
-        let far = write_plain(text, s, table, n, Offset(at), Chars(before));
-        n = far.lines;
-        at = far.at.0;
-        before = far.before.0;
-        let cut = write_long(text, s, table, n, at, before, most);
-        n = cut.lines;
-        at = cut.at;
-        before = cut.before;
-        if far.at.0 < at {
+        let far = write_plain::<D>(text, r, table, events, here);
+        here = write_long::<D>(text, r, table, events, far);
+        if far.at.0 < here.at.0 {
             continue;
         }
-        let Some(row) = told_row(text, at as usize, most) else {
-            return reached_at(n, at, before);
+        let Some(row) = told_row(text, here.at.0 as usize, r.most) else {
+            return reached_at(here);
         };
-        let next = row.next.0;
         let columns = row.columns.0;
-        let entry = ended_entry(s, Offset(at), columns, row.reach, Chars(before), row.ended);
-        write_entry(table, n, entry);
-        n += 1;
+        let entry = ended_entry(
+            r.settings,
+            here.at,
+            columns,
+            row.reach,
+            here.before,
+            row.ended,
+        );
+        write_entry(table, here.lines, entry);
+        let stand = plain_stand(here.at, here.before);
+        here.events = D::line(text, r.settings, stand, entry, events, here.events);
+        here.lines += 1;
         if is_last(row.ended) {
             return Reached {
-                lines: n,
+                lines: here.lines,
+                events: here.events,
                 stand: None,
             };
         }
-        at = next;
-        before += columns + 1;
+        here.at = row.next;
+        here.before.0 += columns + 1;
     }
 }
 
@@ -88,32 +88,35 @@ pub fn is_known(known: Known) -> bool {
     known.first.is_some()
 }
 
-// The lines that a known word fills, which may be none.
-fn write_known(text: &[u8], s: Settings, table: &mut [u32], lines: usize, stand: Stand) -> Reached
-    requires stand_ready { StandReady s text.now stand × RoomFrom s text.now table.old lines stand × (s.alignment ≤ 2) }
+// As many such lines as follow from a stand on where nothing is resumed. There may be none: where a word is known no other is looked for.
+pub fn write_on<D: Drawer>(
+    text: &[u8],
+    r: Ragged,
+    table: &mut [u32],
+    lines: usize,
+    events: &mut [u32],
+    drawn: usize,
+    stand: Stand,
+) -> Reached
+    requires can { CanGo (D.to_draw r.settings text.now) r.settings text.now table.old lines drawn stand }
     requires chars_value { stand.rest.chars.0 ≡ 0 }
-    ensures { ReachedFrom s text.now table.old lines stand table.new result }
+    ensures { GoneOn (D.to_draw r.settings text.now) r.settings text.now table.old events.old lines drawn stand table.new events.new result.lines result.events result.stand }
 {
-    let most = s.width.0 / s.glyph.0;
-    let at = stand.at.0;
-    let Some(word) = long_known(text, at as usize, stand.known, most) else {
+    let from = Passed {
+        lines,
+        events: drawn,
+        at: stand.at,
+        before: stand.before,
+    };
+    if !is_known(stand.known) {
+        return write_told::<D>(text, r, table, events, from);
+    }
+    let Some(word) = long_known(text, stand.at.0 as usize, stand.known, r.most) else {
         return Reached {
             lines,
+            events: drawn,
             stand: Some(stand),
         };
     };
-    let far = write_cuts(text, s, table, lines, at, stand.before.0, most, word);
-    reached_at(far.lines, far.at, far.before)
-}
-
-// As many such lines as follow from a stand on where nothing is resumed. There may be none.
-pub fn write_on(text: &[u8], s: Settings, table: &mut [u32], lines: usize, stand: Stand) -> Reached
-    requires stand_ready { StandReady s text.now stand × RoomFrom s text.now table.old lines stand × (s.alignment ≤ 2) }
-    requires chars_value { stand.rest.chars.0 ≡ 0 }
-    ensures { ReachedFrom s text.now table.old lines stand table.new result }
-{
-    if is_known(stand.known) {
-        return write_known(text, s, table, lines, stand);
-    }
-    write_told(text, s, table, lines, stand.at, stand.before)
+    reached_at(write_cuts::<D>(text, r, table, events, from, word))
 }

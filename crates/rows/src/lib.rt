@@ -2,11 +2,13 @@
 #![tactic(auto)]
 
 pub mod cuts;
+pub mod drawer;
 pub mod found;
 pub mod hyphened;
 pub mod line;
 pub mod lines;
 pub mod pass;
 pub mod plain;
+pub mod ragged;
 pub mod resumed;
 pub mod stand;

@@ -1,21 +1,23 @@
 // Lines of plain words, found and written one after the other: nothing of them goes through memory but their numbers (rule 10).
-ghost use Rattle.std.specs.Prelude.{◌≤◌, ◌≡◌};
-ghost use Rattle.rows.specs.Standing.{StandReady};
-ghost use Rattle.rows.specs.Going.{RoomFrom};
-ghost use Rattle.rows.specs.Found.{plain_stand, WentPast};
+ghost use Rattle.std.specs.Prelude.{◌≡◌};
+ghost use Rattle.rows.specs.Found.{plain_stand};
+ghost use Rattle.rows.specs.DrawnLines.{CanPass, PassedTo};
 
+use crate::drawer::Drawer;
+use crate::ragged::Ragged;
 use meaning::counts::{Chars, Offset};
-use meaning::settings::Settings;
 use placing::plain::{plain_entry, plain_row};
 use stands::stand::Stand;
 use steps::ending::nothing_left;
 use steps::first::nothing_known;
 use table::entries::write_entry;
 
-// How many lines are in the table, where the next one starts, and the characters before it.
+// How many lines are in the table, how many events in the buffer, where the next line starts, which resumes nothing, and the characters
+// before it.
 #[derive(Clone, Copy)]
 pub struct Passed {
     pub lines: usize,
+    pub events: usize,
     pub at: Offset,
     pub before: Chars,
 }
@@ -34,37 +36,29 @@ pub fn plain_stand(at: Offset, before: Chars) -> Stand
     }
 }
 
-// As many such lines as follow one another from an offset on, behind so many characters and so many lines.
-pub fn write_plain(
+// As many such lines as follow one another.
+pub fn write_plain<D: Drawer>(
     text: &[u8],
-    s: Settings,
+    r: Ragged,
     table: &mut [u32],
-    lines: usize,
-    start: Offset,
-    chars: Chars,
+    events: &mut [u32],
+    from: Passed,
 ) -> Passed
-    requires stand_ready { StandReady s text.now (plain_stand start.0 chars.0) × (s.alignment ≤ 2) }
-    requires room_from { RoomFrom s text.now table.old lines (plain_stand start.0 chars.0) }
-    ensures { WentPast s text.now table.old lines (plain_stand start.0 chars.0) table.new result }
+    requires { CanPass (D.to_draw r.settings text.now) r.settings text.now table.old from }
+    ensures { PassedTo (D.to_draw r.settings text.now) r.settings text.now table.old events.old from table.new events.new result }
 {
-    let most = s.width.0 / s.glyph.0;
-    let mut n = lines;
-    let mut at = start.0;
-    let mut before = chars.0;
+    let mut here = from;
     loop {
-        let Some(line) = plain_row(text, at as usize, most) else {
-            return Passed {
-                lines: n,
-                at: Offset(at),
-                before: Chars(before),
-            };
+        let Some(line) = plain_row(text, here.at.0 as usize, r.most) else {
+            return here;
         };
         let end = line.end.0;
-        let columns = end - at;
-        let entry = plain_entry(s, Offset(at), columns, line.reach, Chars(before));
-        write_entry(table, n, entry);
-        n += 1;
-        at = end + 1;
-        before += columns + 1;
+        let columns = end - here.at.0;
+        let entry = plain_entry(r.settings, here.at, columns, line.reach, here.before);
+        write_entry(table, here.lines, entry);
+        here.events = D::plain(text, r, here, end, entry, events);
+        here.lines += 1;
+        here.at.0 = end + 1;
+        here.before.0 += columns + 1;
     }
 }

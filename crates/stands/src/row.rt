@@ -8,6 +8,7 @@ use steps::step::Resumed;
 #[derive(Clone, Copy)]
 pub struct LaidRow {
     pub entry: Entry,
+    // No `Option` around what follows: one line alone is answered with both, be it the last or not.
     pub last: bool,
     pub next: Offset,
     pub chars: Chars,

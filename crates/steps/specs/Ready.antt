@@ -1,7 +1,7 @@
 -- What the running step of a token takes for granted: the token stands in the text as its lexeme says, and no sum can wrap.
 -- Assumes nothing.
 use Rattle.std.specs.Prelude.{ℕ, ◌+◌, ◌*◌, ◌≤◌, ◌<◌, ◌≡◌, List, ◌++◌, length}
-use Rattle.meaning.specs.Tokens.{Tok, tokens}
+use Rattle.meaning.specs.Tokens.{tokens}
 use Rattle.meaning.specs.LineIter.{step}
 use Rattle.meaning.specs.declared.settings.Settings.{Settings}
 use Rattle.meaning.specs.declared.cursor.Place.{Place}

@@ -14,7 +14,7 @@ use Rattle.meaning.specs.Tokens.{space, chars_of, size_of, tokens}
 use Rattle.meaning.specs.Cursor.{room_of, fits_in, advance}
 use Rattle.meaning.specs.SpaceConfig.{spaces_width, spaces_after}
 use Rattle.meaning.specs.Words.{Drawn, drawn}
-use Rattle.meaning.specs.LineIter.{held_after, skips, draws_space, moved_on, used_up, when, cut_run, on_space, step}
+use Rattle.meaning.specs.LineIter.{held_after, skips, draws_space, moved_on, used_up, cut_run, on_space, step}
 use Rattle.meaning.specs.Line.{noted, measured}
 use Rattle.meaning.specs.declared.tokens.TokenKind.TheVariants.{Whitespace}
 use Rattle.meaning.specs.declared.settings.Settings.{Settings}

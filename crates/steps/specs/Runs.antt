@@ -1,8 +1,7 @@
 -- What the running steps say of a space run: one that fits, and one that is too wide for its line (rule 9).
 -- Assumes nothing.
-use Rattle.std.specs.Prelude.{ℕ, ◌+◌, ◌≤◌, ◌<◌, ◌≡◌, false, List, eqb, length, take, Option}
+use Rattle.std.specs.Prelude.{ℕ, ◌+◌, ◌≤◌, ◌<◌, ◌≡◌, false, List, length, take, Option}
 use Rattle.steps.specs.declared.foreseen.Look.{Look}
-use Rattle.basis.specs.Choice.{pick}
 use Rattle.meaning.specs.Tokens.{tokens}
 use Rattle.meaning.specs.Cursor.{fits_in}
 use Rattle.meaning.specs.SpaceConfig.{spaces_width}

@@ -1,9 +1,9 @@
 -- What the running steps and passes answer, from the definitions of a step and a pass. Offsets are the text's.
 -- Assumes nothing.
-use Rattle.std.specs.Prelude.{ℕ, ◌+◌, ◌-◌, max, ◌≤◌, ◌≡◌, List, eqb, take}
+use Rattle.std.specs.Prelude.{ℕ, ◌+◌, ◌-◌, List, eqb, take}
 use Rattle.basis.specs.Choice.{pick}
 use Rattle.utf8.specs.Encoding.{size}
-use Rattle.meaning.specs.Tokens.{Tok, newLine, carriageReturn, tab, softHyphen, space, word, size_of, tokens}
+use Rattle.meaning.specs.Tokens.{Tok, newLine, carriageReturn, tab, softHyphen, space, word, size_of}
 use Rattle.meaning.specs.Lookahead as meant
 use Rattle.meaning.specs.LineIter.{Held, Step, go, stop, Ran, process}
 use Rattle.meaning.specs.Line.{measured, held_tokens}
@@ -13,7 +13,7 @@ use Rattle.meaning.specs.declared.settings.Settings.{Settings}
 use Rattle.meaning.specs.declared.cursor.Place.{Place}
 use Rattle.meaning.specs.declared.line.Measure.{Measure}
 use Rattle.laws.specs.Spell.{text_of}
-use Rattle.parser.specs.Lexing.{chars_from, lexeme_at}
+use Rattle.parser.specs.Lexing.{chars_from}
 use Rattle.parser.specs.declared.lexeme.Lexeme.{Lexeme}
 use Rattle.steps.specs.declared.foreseen.Look.{Look}
 use Rattle.steps.specs.declared.foreseen.WidthAhead.{WidthAhead}

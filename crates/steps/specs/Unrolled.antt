@@ -1,30 +1,28 @@
 -- The pass that a text gives from an offset on, token by token.
 -- Assumes nothing.
-use Rattle.std.specs.Prelude.{ℕ, zero, ◌+◌, ◌-◌, ◌≤◌, max, ◌≡◌, refl, List, [], ◌∷◌, ◌++◌, eqb, length, take, drop}
-use Rattle.std.proofs.Common.{sym, ap, subst, ◌∙◌, add_assoc, add-zero, arith, eq-eqb, ne_eqb, length-drop, take_at}
+use Rattle.std.specs.Prelude.{ℕ, ◌+◌, ◌≤◌, max, ◌≡◌, refl, List, [], ◌∷◌, ◌++◌, take}
+use Rattle.std.proofs.Common.{add_assoc, add-zero, arith, eq-eqb}
 use Rattle.std.proofs.lemmas.List.{take-append-le}
-use Rattle.basis.specs.Choice.{pick, pick_cases}
+use Rattle.basis.specs.Choice.{pick}
 use Rattle.basis.specs.Order.{by_eq}
 use Rattle.utf8.specs.Encoding.{size}
-use Rattle.utf8.specs.Decoding.{decode_all, valid_prefix}
-use Rattle.utf8.specs.Prefix.{prefix-within}
-use Rattle.meaning.specs.Tokens.{Tok, newLine, carriageReturn, tab, softHyphen, space, word, tokens, chars_of, size_of, ender_of, need_of}
+use Rattle.meaning.specs.Tokens.{Tok, tokens, chars_of, size_of, need_of}
 use Rattle.meaning.specs.Words.{Drawn}
-use Rattle.meaning.specs.LineIter.{Held, nothing_held, Step, go, stop, step, Ran, pass_on, process}
+use Rattle.meaning.specs.LineIter.{Held, Step, go, stop, step, Ran, pass_on, process}
 use Rattle.meaning.specs.Line.{measured, held_tokens}
 use Rattle.meaning.specs.declared.settings.Settings.{Settings}
 use Rattle.meaning.specs.declared.cursor.Place.{Place}
 use Rattle.meaning.specs.declared.line.LineEnd.{LineEnd}
 use Rattle.meaning.specs.declared.line.LineEnd.TheVariants.{EndOfText}
 use Rattle.meaning.specs.declared.line.Measure.{Measure}
-use Rattle.laws.specs.Spell.{text_of, spell, SoundTok, Sound}
-use Rattle.laws.specs.TokenLaws.{chars-text, size-text, tokens_cover}
+use Rattle.laws.specs.Spell.{text_of, spell, SoundTok}
+use Rattle.laws.specs.TokenLaws.{chars-text, tokens_cover}
 use Rattle.laws.specs.Steps.{SoundStep, step-sound}
 use Rattle.steps.specs.Cuts.{HoldsRest, WholeStep, step-whole}
 use Rattle.laws.specs.PassBounds.{whole-text}
 use Rattle.laws.specs.Measuring.{measured_append}
-use Rattle.parser.specs.Lexing.{chars_from, lexeme_at}
-use Rattle.steps.specs.Stepping.{resumed_at, stepped_at, ended_at, ran_from, tok_of}
+use Rattle.parser.specs.Lexing.{chars_from}
+use Rattle.steps.specs.Stepping.{resumed_at, stepped_at, ended_at, ran_from}
 use Rattle.steps.specs.declared.step.Resumed.{Resumed}
 use Rattle.steps.specs.declared.step.Ended.{Ended}
 use Rattle.steps.specs.declared.step.Stepped.{Stepped}

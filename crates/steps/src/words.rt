@@ -85,12 +85,10 @@ pub fn on_word(text: &[u8], s: Settings, p: Place, at: usize, x: Lexeme, m: Meas
     requires { Ready s p text.now at x m × (x.kind ≡ Word) }
     ensures { result ≡ step_from s p text.now at x m }
 {
-    let glyph = s.glyph;
-    let n = x.chars;
-    if fits(p.cursor, n.0 * glyph.0) {
-        let g = x.glues;
-        let after = word_measure(glyph, p.spaces, m, n, g);
-        return Stepped::Go(word_place(glyph, p, n, g), after, Offset(0));
+    if fits(p.cursor, x.chars.0 * s.glyph.0) {
+        let after = word_measure(s.glyph, p.spaces, m, x.chars, x.glues);
+        let place = word_place(s.glyph, p, x.chars, x.glues);
+        return Stepped::Go(place, after, Offset(0));
     }
     if p.empty {
         return cut_word(text, s, p, at, x, m);

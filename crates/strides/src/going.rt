@@ -1,10 +1,12 @@
 // Where a pass stands between two tokens, and what waits there for the next line (rule 8).
-ghost use Rattle.std.specs.Prelude.{◌≡◌, ◌≤◌};
+ghost use Rattle.std.specs.Prelude.{◌≡◌, ◌≤◌, true, None};
 ghost use Rattle.strides.specs.Strides.{waiting_at, going_at, strode_place};
 
 use meaning::counts::{Offset, Pixels};
 use meaning::cursor::{LineCursor, Place, Spaces};
 use meaning::line::Measure;
+use steps::foreseen::Look;
+use steps::step::Resumed;
 
 // A word behind one space that does not fit: where it starts, how far the space was looked at, and how far the word was.
 // A start of 0, which no word behind a space has: nothing waits. It is no enum, which was counted: drawing then takes half a
@@ -22,6 +24,13 @@ pub struct Going {
     pub measure: Measure,
     pub at: Offset,
     pub waits: Waiting,
+}
+
+// Whether nothing is left to resume and no look is known: else a pass stays where it stands, and takes no strides.
+pub fn is_free(rest: Resumed, seen: Option<Look>) -> bool
+    ensures { result ≡ true → (rest.chars.0 ≡ 0) × (seen ≡ None) }
+{
+    seen.is_none() && rest.chars.0 == 0
 }
 
 pub fn nothing_waits() -> Waiting

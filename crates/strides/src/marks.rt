@@ -35,12 +35,10 @@ pub fn next_joined(text: &[u8], s: Settings, p: Place, at: usize) -> Option<Join
     if !hyphen_at(text, word.end.0 as usize) {
         return None;
     }
-    let glyph = s.glyph;
-    if room(p.cursor) < word.chars.0 * glyph.0 + glyph.0 {
+    if room(p.cursor) < word.chars.0 * s.glyph.0 + s.glyph.0 {
         return None;
     }
-    let glues = word.weight;
-    let place = word_place(glyph, p, word.chars, glues);
+    let place = word_place(s.glyph, p, word.chars, word.weight);
     Some(Joined { word, place })
 }
 
@@ -59,6 +57,7 @@ pub fn last_zero(text: &[u8], from: usize) -> usize
     ensures { Idle text.now from result }
 {
     let mut at = from;
+    // No `for`: how many there are is what the text tells.
     while two_zeros(text, at) {
         at += 3;
     }

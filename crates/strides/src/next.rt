@@ -25,7 +25,8 @@ pub struct Taken {
     pub place: Place,
 }
 
-// What comes next where a pass stands in a line that is not empty. Nothing: no such pair stands there, or it is not told.
+// What comes next where a pass stands in a line that is not empty. Nothing: no such pair stands there, or it is not
+// told. Three outcomes, of which two bring what was read, so no `Option` and no `Result`.
 #[derive(Clone, Copy)]
 pub enum Next {
     Nothing,
@@ -38,22 +39,21 @@ fn fitted(s: Settings, p: Place, pair: Pair) -> Next
     requires { FinePlace p × (s.glyph.0 ≤ 64) × (pair.word.chars.0 ≤ 65535) }
     ensures { result ≡ fitted_of s p pair }
 {
-    let word = pair.word;
     let space = spaces_width(p.spaces, 1);
-    let wide = space + word.chars.0 * s.glyph.0;
+    let wide = space + pair.word.chars.0 * s.glyph.0;
     if room(p.cursor) < wide {
         return Next::TooWide(Waiting {
             next: pair.from,
             looked: pair.looked,
-            reach: word.reach,
+            reach: pair.word.reach,
         });
     }
     let left = spaces_after(p.spaces, 1);
-    let more = spaces_after(left, word.weight.0);
+    let more = spaces_after(left, pair.word.weight.0);
     let place = strode(p, p.cursor.position.0 + wide, more.extra.0);
     Next::Fits(Taken {
         from: pair.from,
-        word,
+        word: pair.word,
         space: Pixels(space),
         left,
         place,

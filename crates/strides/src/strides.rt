@@ -9,7 +9,7 @@ ghost use Rattle.strides.specs.Strides.{Goes};
 ghost use Rattle.strides.specs.Next.{taken_measure, MeasureReady};
 
 use crate::first::{Begun, first_taken};
-use crate::going::{Going, nothing_waits, stands_at};
+use crate::going::{Going, is_free, nothing_waits, stands_at};
 use crate::marks::{last_zero, next_joined};
 use crate::next::{Next, Taken, next_pair};
 use meaning::counts::{Chars, Pixels};
@@ -60,10 +60,9 @@ fn marks_on(text: &[u8], s: Settings, p: Place, at: usize, m: Measure) -> Going
             stands_at(p, m, to, nothing_waits())
         }
         Some(joined) => {
-            let word = joined.word;
-            let glues = word.weight;
-            let after = word_measure(s.glyph, p.spaces, m, word.chars, glues);
-            stands_at(joined.place, after, word.end.0 as usize, nothing_waits())
+            let after = word_measure(s.glyph, p.spaces, m, joined.word.chars, joined.word.weight);
+            let to = joined.word.end.0 as usize;
+            stands_at(joined.place, after, to, nothing_waits())
         }
     }
 }
@@ -102,18 +101,7 @@ fn words_on(text: &[u8], s: Settings, p: Place, at: usize, m: Measure) -> Going
     }
 }
 
-// The same of a pass that may have a rest to resume first.
-fn strides_on(text: &[u8], s: Settings, p: Place, at: usize, rest: Resumed, m: Measure) -> Going
-    requires { PassReady s p text.now at rest m }
-    ensures { Goes s p text.now at rest m result }
-{
-    if rest.chars.0 == 0 {
-        return words_on(text, s, p, at, m);
-    }
-    stands_at(p, m, at, nothing_waits())
-}
-
-// The same where a look may be known, which is kept for the white space that comes next.
+// The same where a rest may be resumed, or a look be known, which is kept for the white space that comes next.
 pub fn strides_unless(
     text: &[u8],
     s: Settings,
@@ -127,8 +115,8 @@ pub fn strides_unless(
     ensures goes { Goes s p text.now at rest m result }
     ensures foresees_from { ForeseesFrom s result.place text.now result.at.0 rest seen }
 {
-    if let Some(_) = seen {
-        return stands_at(p, m, at, nothing_waits());
+    if is_free(rest, seen) {
+        return words_on(text, s, p, at, m);
     }
-    strides_on(text, s, p, at, rest, m)
+    stands_at(p, m, at, nothing_waits())
 }

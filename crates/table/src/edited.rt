@@ -9,7 +9,8 @@ use meaning::counts::{Chars, Offset};
 use meaning::edit::Edit;
 
 // How the old lines that follow an edit are moved: by that edit, and where there were `from` characters before the first of
-// them there are now `to`.
+// them there are now `to`. That it wraps nothing is a clause, and no ghost field: definitions make shifts of any numbers (`behind` in
+// `again`), and each would have to bring the proof.
 #[derive(Clone, Copy)]
 pub struct Shift {
     pub edit: Edit,

@@ -42,11 +42,10 @@ pub fn moved_entry(e: Entry, shift: Shift) -> Entry
     requires { MovableShift shift × MovableEntry shift e }
     ensures { result ≡ moved_by shift e }
 {
-    let edit = shift.edit;
     Entry {
-        start: moved_offset(e.start, edit),
-        rest: moved_rest(e.rest, edit),
-        reach: moved_offset(e.reach, edit),
+        start: moved_offset(e.start, shift.edit),
+        rest: moved_rest(e.rest, shift.edit),
+        reach: moved_offset(e.reach, shift.edit),
         before: Chars(shifted_count(e.before.0, shift)),
         ..e
     }
@@ -96,7 +95,8 @@ fn rests_nowhere(table: &[u32], k: usize) -> bool
         & (table[at + THREE_LINES + REST_END] == 0)
 }
 
-// Lines moved where they stand, four at a time, while four follow that have no rest. The answer is how many are moved.
+// Lines moved where they stand, four at a time, while four follow that have no rest. The answer is how many are moved, which a `for`
+// in steps of four would not keep.
 fn move_fours(table: &mut [u32], from: usize, count: usize, shift: Shift) -> usize
     requires { Movable table.old from from count shift }
     ensures { Forward table.old from from count shift table.new result }
@@ -119,7 +119,7 @@ fn move_fours(table: &mut [u32], from: usize, count: usize, shift: Shift) -> usi
     i
 }
 
-// Lines moved where they stand: one by itself where four do not go together.
+// Lines moved where they stand: one by itself where four do not go together. So a turn moves as many as it finds, and no `for` counts.
 fn move_still(table: &mut [u32], from: usize, count: usize, shift: Shift)
     requires { Movable table.old from from count shift }
     ensures { table.new ≡ lines_moved table.old from from count shift }

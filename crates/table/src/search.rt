@@ -1,4 +1,5 @@
 // The search for the first line that an edit affects (laying again).
+// A table goes with the number of its lines beside it: heights says at `height_of` why.
 ghost use Rattle.std.specs.Prelude.{◌+◌, ◌*◌, ◌≤◌, ◌≡◌, length};
 ghost use Rattle.meaning.specs.Edit.{unaffected};
 ghost use Rattle.meaning.specs.Table.{entry_numbers};

@@ -1,2 +1,3 @@
-pub mod WriteLaws
+pub mod ReadingLaws
 pub mod TokenizeLaws
+pub mod WriteLaws

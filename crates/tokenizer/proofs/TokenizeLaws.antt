@@ -1,6 +1,6 @@
 -- What the call that finds all tokens answers, by the check of the text and the room of the buffer.
 -- Assumes nothing.
-use mathlib.Core.Path.{◌≡◌, refl, ap, ◌∙◌}
+use mathlib.Core.Path.{◌≡◌, refl, ◌∙◌}
 use Rattle.std.specs.Prelude.{Err, Ok}
 use mathlib.Core.List.{List, [], ◌∷◌}
 use Prim.Native.Nat.{ℕ, zero, suc, ◌+◌, ◌*◌, ◌/◌, ◌≤◌, ◌<◌}
@@ -22,14 +22,10 @@ use Rattle.meaning.specs.declared.refusals.Refusal.TheVariants.{TooSmall}
 use Rattle.laws.specs.TokenLaws.{length-size}
 use Rattle.laws.specs.TestOrder.{first_alone, first-refused, first_good}
 use Rattle.parser.specs.Lexing.{chars_from}
+use Rattle.tokenizer.proofs.ReadingLaws.{ranged-length}
 use Rattle.tokenizer.specs.Writing.{numbers_from, check_needed, room_answer, room_buffer}
 
 -- ---- how many tokens and numbers there are
-
-ranged-length : (at : ℕ) (ts : List Tok) → length (ranged at ts) ≡ length ts
-unfolding ranged
-ranged-length at [] = refl
-ranged-length at (t ∷ ts) = ap suc (ranged-length (at + size_of t) ts)
 
 numbers-length : (at : ℕ) (ts : List Tok) → length (of_all of_token (ranged at ts)) ≡ token_numbers * length ts
 unfolding ranged of_all of_token

@@ -1,4 +1,5 @@
 // The call that lists the tokens of a text, and a reader of them (rule 3).
+// That a text is short is a clause, and not a type: see parser.
 #![tactic(auto)]
 
 pub mod count;

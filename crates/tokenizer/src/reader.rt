@@ -1,11 +1,14 @@
-// A reader that holds the caller's text, as the crate's parser does, and goes from token to token. Nothing here calls `next` and
-// `token_from`: they stand because the scope names their form.
+// A reader that holds the caller's text, as the crate's parser does, and goes from token to token. Nothing here calls `token_from`:
+// it stands because the scope names its form.
 // Rule 3.
 ghost use Rattle.std.specs.Prelude.{◌≡◌, ◌≤◌, length};
 ghost use Rattle.meaning.specs.Tokens.{tokens};
 ghost use Rattle.parser.specs.Lexing.{chars_from, lexed_at};
-ghost use Rattle.tokenizer.specs.Reading.{end_of, next_of, read_on};
+ghost use Rattle.tokenizer.specs.Reading.{end_of, next_of, read_on, tokens_left};
+ghost use Rattle.std.specs.Iterator.{YieldsFirst, item_count};
 
+use meaning::counts::Offset;
+use meaning::tokens::Token;
 use parser::lexeme::Lexeme;
 use parser::lexer::token_at;
 
@@ -27,10 +30,31 @@ pub fn next<'s, 'a>(reader: &'s mut Reader<'a>) -> Option<Lexeme>
     requires { length reader.old.text.now ≤ 65535 }
     ensures { (result ≡ next_of reader.old) × (reader.new ≡ read_on reader.old) }
 {
-    let at = reader.at;
-    let found = token_at(reader.text, at);
-    reader.at = end_of(found, at);
+    let found = token_at(reader.text, reader.at);
+    reader.at = end_of(found, reader.at);
     found
+}
+
+// The tokens from where the reader stands on, each with its offsets.
+impl<'a> Iterator for Reader<'a> {
+    type Item = Token;
+
+    ghost can_next = { λ r. length r.text.now ≤ 65535 };
+
+    ghost next_gives = { YieldsFirst tokens_left };
+
+    ghost remaining = { item_count tokens_left };
+
+    fn next(&mut self) -> Option<Token> {
+        let start = self.at;
+        let lexeme = next(self)?;
+        Some(Token {
+            kind: lexeme.kind,
+            start: Offset(start as u32),
+            end: lexeme.end,
+            count: lexeme.count,
+        })
+    }
 }
 
 // The token at an offset, by a reader that is put there.

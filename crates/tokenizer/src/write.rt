@@ -27,6 +27,7 @@ pub fn write_tokens(text: &[u8], buffer: &mut [u32]) -> usize
     ensures value { result ≡ length (tokens (chars_from text.now 0)) }
     ensures buffer_after { buffer.new ≡ sets buffer.old 0 (numbers_from text.now 0) }
 {
+    // Not by the reader's iterator: where a token goes, and how many there are, is counted beside it all the same.
     let mut n: usize = 0;
     let mut at: usize = 0;
     while let Some(lexeme) = token_at(text, at) {

@@ -4,6 +4,7 @@ ghost use Rattle.basis.specs.Order.{within};
 ghost use Rattle.utf8.specs.Decoding.{seq_len, char_of, decode_at};
 
 // What stands at a position of a text: a scalar value and how many bytes it takes, bytes that are no sequence, or nothing.
+// No `Option` and no `Result`: bytes that are no sequence refuse a text, and the end of it does not.
 #[derive(Clone, Copy)]
 pub enum Decoded {
     Char { cp: u32, len: u32 },

@@ -81,6 +81,7 @@ fn skip_wide(text: &[u8], from: usize) -> usize
     ensures { Passed text.now from result }
 {
     let mut at = from;
+    // No `for`: how many there are is what the text tells.
     while wide_at(text, at) {
         at += 3;
     }

@@ -1,6 +1,5 @@
 -- `blanks::ahead::look_after` meets its contract (rule 8).
 use Rattle.steps.specs.KindLaws.{white_of}
-use borrow.Enum.Refused.{opened}
 use Rattle.blanks.proofs.ahead.look_after.Goals as goal
 
 pub look_beyond-requires : goal.look_beyond-requires

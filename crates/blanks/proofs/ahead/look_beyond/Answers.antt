@@ -11,18 +11,18 @@ white_width-width-requires c =
 
 pub returns-in-Some : goal.returns-in-Some
 returns-in-Some c =
-    beyond-kept c.requires.0 c.requires.1 c.if-p.false _ c.white_width-width.ensures ((let passed_here : fits_in c.args.p.cursor c.white_width-width.result ≡ true = sym c.fits.ensures ∙ c.if-not-fits.false in passed_here)) _ c.in-Some.is
+    beyond-kept c.requires.0 c.requires.1 c.if-p.false _ c.white_width-width.ensures (sym c.fits.ensures ∙ c.if-not-fits.false) _ c.in-Some.is
 
 pub advanced-next-requires : goal.advanced-next-requires
 advanced-next-requires c =
-    omega (arith, fits-room _ _ ((let passed_here : fits_in c.args.p.cursor c.white_width-width.result ≡ true = sym c.fits.ensures ∙ c.if-not-fits.false in passed_here)), c.requires.0.place.0)
+    omega (arith, fits-room _ _ (sym c.fits.ensures ∙ c.if-not-fits.false), c.requires.0.place.0)
 
 pub next_word_fits-requires : goal.next_word_fits-requires
 next_word_fits-requires c =
-    let f = beyond_fine c.requires.0 c.requires.1 c.if-p.false _ c.white_width-width.ensures ((let passed_here : fits_in c.args.p.cursor c.white_width-width.result ≡ true = sym c.fits.ensures ∙ c.if-not-fits.false in passed_here)) _ _ c.advanced-next.ensures c.spaces_after-left.ensures in
+    let f = beyond_fine c.requires.0 c.requires.1 c.if-p.false _ c.white_width-width.ensures (sym c.fits.ensures ∙ c.if-not-fits.false) _ _ c.advanced-next.ensures c.spaces_after-left.ensures in
     (f.0, f.1, c.requires.0.short, c.requires.0.settings.1, c.requires.0.stands.within)
 
 pub returns : goal.returns
 returns c =
-    beyond-looked c.requires.0 c.requires.1 c.if-p.false _ c.white_width-width.ensures ((let passed_here : fits_in c.args.p.cursor c.white_width-width.result ≡ true = sym c.fits.ensures ∙ c.if-not-fits.false in passed_here)) _ _ _ c.advanced-next.ensures c.spaces_after-left.ensures
+    beyond-looked c.requires.0 c.requires.1 c.if-p.false _ c.white_width-width.ensures (sym c.fits.ensures ∙ c.if-not-fits.false) _ _ _ c.advanced-next.ensures c.spaces_after-left.ensures
     c.next_word_fits.ensures

@@ -1,4 +1,4 @@
-use Rattle.std.proofs.Common.{sym, ◌∙◌, arith, ◌+◌, ◌/◌, ◌-◌}
+use Rattle.std.proofs.Common.{sym, ◌∙◌, arith}
 use Rattle.moves.specs.FineLaws.{times_bound}
 use Rattle.steps.specs.Lexed.{Lexes, lexes, lexes-end}
 use borrow.Enum.Refused.{opened}
@@ -12,22 +12,22 @@ loop-x-init c =
 
 pub overflow_mul-x : goal.overflow_mul-x
 overflow_mul-x c =
-    let l = (let read_here : Lexes c.args.text.now c.loop-x.pos c.in-Some.x = lexes _ _ _ (sym c.token_at-token.ensures ∙ c.in-Some.is) in read_here) in
+    let l = (lexes _ _ _ (sym c.token_at-token.ensures ∙ c.in-Some.is)) in
     record { fits = omega (arith, times_bound c.in-Some.x.chars.0 c.args.glyph l.few c.requires.1, l.within, c.requires.0) }
 
 pub with_width-width-requires : goal.with_width-width-requires
 with_width-width-requires c =
-    let l = (let read_here : Lexes c.args.text.now c.loop-x.pos c.in-Some.x = lexes _ _ _ (sym c.token_at-token.ensures ∙ c.in-Some.is) in read_here) in
+    let l = (lexes _ _ _ (sym c.token_at-token.ensures ∙ c.in-Some.is)) in
     omega (arith, times_bound c.in-Some.x.chars.0 c.args.glyph l.few c.requires.1, l.within, c.requires.0, c.loop-x.invariant.2)
 
 pub loop-x-smaller : goal.loop-x-smaller
 loop-x-smaller c =
-    let l = (let read_here : Lexes c.args.text.now c.loop-x.pos c.in-Some.x = lexes _ _ _ (sym c.token_at-token.ensures ∙ c.in-Some.is) in read_here) in
+    let l = (lexes _ _ _ (sym c.token_at-token.ensures ∙ c.in-Some.is)) in
     omega (arith, l.longer, l.within)
 
 pub loop-x-preserved : goal.loop-x-preserved
 loop-x-preserved c =
-    let l = (let read_here : Lexes c.args.text.now c.loop-x.pos c.in-Some.x = lexes _ _ _ (sym c.token_at-token.ensures ∙ c.in-Some.is) in read_here) in (
+    let l = (lexes _ _ _ (sym c.token_at-token.ensures ∙ c.in-Some.is)) in (
       ahead-word _ _ c.in-Some.x l c.args.glyph c.loop-x.width c.loop-x.reach c.in-Word.is _ _ c.with_width-width.ensures c.max-reach.ensures ∙ c.loop-x.invariant.0,
       l.within,
       rw c.with_width-width.ensures (word-known _ _ c.in-Some.x l c.args.glyph c.loop-x.width c.loop-x.reach c.requires.1 c.loop-x.invariant.2),
@@ -45,10 +45,10 @@ returns-in_default c =
 
 pub returns-in-Break : goal.returns-in-Break
 returns-in-Break c =
-    ahead_break _ _ _ ((let read_here : Lexes c.args.text.now c.loop-x.pos c.in-Some.x = lexes _ _ _ (sym c.token_at-token.ensures ∙ c.in-Some.is) in read_here)) c.args.glyph c.loop-x.width c.loop-x.reach c.in-Break.is _ _ c.with_width-last.ensures c.max-reach.ensures
+    ahead_break _ _ _ (lexes _ _ _ (sym c.token_at-token.ensures ∙ c.in-Some.is)) c.args.glyph c.loop-x.width c.loop-x.reach c.in-Break.is _ _ c.with_width-last.ensures c.max-reach.ensures
     ∙ c.loop-x.invariant.0
 
 pub returns-in_default-kind : goal.returns-in_default-kind
 returns-in_default-kind c =
-    ahead-ends _ _ _ ((let read_here : Lexes c.args.text.now c.loop-x.pos c.in-Some.x = lexes _ _ _ (sym c.token_at-token.ensures ∙ c.in-Some.is) in read_here)) c.args.glyph c.loop-x.width c.loop-x.reach (ends_of c.in-Some.x.kind (opened c.in_default-kind.in_default-kind-own.keys3)) _ c.max-reach.ensures
+    ahead-ends _ _ _ (lexes _ _ _ (sym c.token_at-token.ensures ∙ c.in-Some.is)) c.args.glyph c.loop-x.width c.loop-x.reach (ends_of c.in-Some.x.kind (opened c.in_default-kind.in_default-kind-own.keys3)) _ c.max-reach.ensures
     ∙ c.loop-x.invariant.0

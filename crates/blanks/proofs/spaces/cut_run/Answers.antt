@@ -1,5 +1,5 @@
 -- `blanks::spaces::cut_run` meets its contract (rule 8, rule 9).
-use Rattle.std.proofs.Common.{◌*◌, ◌/◌, ◌≤◌, arith, ◌+◌, ◌-◌}
+use Rattle.std.proofs.Common.{◌*◌, ◌/◌, ◌≤◌, arith}
 use Rattle.steps.specs.RunLaws.{cut-some, cut-single, cut-numbers, cut-fewer, cut-answer}
 use Rattle.blanks.proofs.spaces.cut_run.Goals as goal
 
@@ -13,11 +13,11 @@ nonzero_div-fitting c =
 
 pub overflow_add-fitting : goal.overflow_add-fitting
 overflow_add-fitting c =
-    record { fits = omega (arith, (let numbers_here : let single = c.args.width / c.args.x.count.0 in let fitting = c.room.result / single in (fitting ≤ 4096) × (fitting * single ≤ 4096) = cut-numbers c.requires c.room.result c.room.ensures in numbers_here)) }
+    record { fits = omega (arith, cut-numbers c.requires c.room.result c.room.ensures) }
 
 pub noted_space-measure-requires : goal.noted_space-measure-requires
 noted_space-measure-requires c =
-    omega (arith, (let numbers_here : let single = c.args.width / c.args.x.count.0 in let fitting = c.room.result / single in (fitting ≤ 4096) × (fitting * single ≤ 4096) = cut-numbers c.requires c.room.result c.room.ensures in numbers_here), c.requires.ready)
+    omega (arith, cut-numbers c.requires c.room.result c.room.ensures, c.requires.ready)
 
 pub held_rest-rest-requires : goal.held_rest-rest-requires
 held_rest-rest-requires c =

@@ -9,7 +9,7 @@ use Rattle.blanks.proofs.spaces.on_space.Goals as goal
 
 pub noted_space-requires : goal.noted_space-requires
 noted_space-requires c =
-    omega (arith, (let few_here : c.args.x.count.0 ≤ 65535 = space-few c.requires.0 c.requires.1 in few_here), c.requires.0)
+    omega (arith, (space-few c.requires.0 c.requires.1), c.requires.0)
 
 pub returns-then-skips_space : goal.returns-then-skips_space
 returns-then-skips_space c =
@@ -18,28 +18,28 @@ returns-then-skips_space c =
 
 pub spaces_width-width-requires : goal.spaces_width-width-requires
 spaces_width-width-requires c =
-    omega (arith, (let few_here : c.args.x.count.0 ≤ 65535 = space-few c.requires.0 c.requires.1 in few_here), c.requires.0)
+    omega (arith, (space-few c.requires.0 c.requires.1), c.requires.0)
 
 pub moved_on-requires : goal.moved_on-requires
 moved_on-requires c =
-    omega (arith, ap (λ (q : Place). q.cursor.position.0) c.used_up-used.ensures, fits-room _ _ ((let wide_here : fits_in c.args.p.cursor c.spaces_width-width.result ≡ c.fits.result = sym c.fits.ensures in wide_here) ∙ c.if-fits.true), c.requires.0.place)
+    omega (arith, ap (λ (q : Place). q.cursor.position.0) c.used_up-used.ensures, fits-room _ _ ((sym c.fits.ensures) ∙ c.if-fits.true), c.requires.0.place)
 
 pub whole_run-requires : goal.whole_run-requires
 whole_run-requires c =
-    whole_ready c.requires.0 c.requires.1 _ _ _ c.used_up-used.ensures c.moved_on.ensures ((let wide_here : fits_in c.args.p.cursor c.spaces_width-width.result ≡ c.fits.result = sym c.fits.ensures in wide_here) ∙ c.if-fits.true)
+    whole_ready c.requires.0 c.requires.1 _ _ _ c.used_up-used.ensures c.moved_on.ensures ((sym c.fits.ensures) ∙ c.if-fits.true)
     c.spaces_width-width.ensures c.args.seen c.requires.2
 
 pub returns-then-fits : goal.returns-then-fits
 returns-then-fits c =
     c.whole_run.ensures
-    ∙ space-whole c.requires.0 c.requires.1 _ c.spaces_width-width.ensures ((let kept_here : skips c.args.s c.args.p ≡ false = sym c.skips_space.ensures ∙ c.if-skips_space.false in kept_here)) ((let wide_here : fits_in c.args.p.cursor c.spaces_width-width.result ≡ c.fits.result = sym c.fits.ensures in wide_here) ∙ c.if-fits.true) _ _
+    ∙ space-whole c.requires.0 c.requires.1 _ c.spaces_width-width.ensures (sym c.skips_space.ensures ∙ c.if-skips_space.false) ((sym c.fits.ensures) ∙ c.if-fits.true) _ _
     c.used_up-used.ensures c.moved_on.ensures
 
 pub cut_run-requires : goal.cut_run-requires
 cut_run-requires c =
-    record { ready = c.requires.0; kind = c.requires.1; wide = c.spaces_width-width.ensures; over = (let wide_here : fits_in c.args.p.cursor c.spaces_width-width.result ≡ c.fits.result = sym c.fits.ensures in wide_here) ∙ c.if-fits.false }
+    record { ready = c.requires.0; kind = c.requires.1; wide = c.spaces_width-width.ensures; over = (sym c.fits.ensures) ∙ c.if-fits.false }
 
 pub returns : goal.returns
 returns c =
     c.cut_run.ensures
-    ∙ space-cut c.requires.0 c.requires.1 _ c.spaces_width-width.ensures ((let kept_here : skips c.args.s c.args.p ≡ false = sym c.skips_space.ensures ∙ c.if-skips_space.false in kept_here)) ((let wide_here : fits_in c.args.p.cursor c.spaces_width-width.result ≡ c.fits.result = sym c.fits.ensures in wide_here) ∙ c.if-fits.false)
+    ∙ space-cut c.requires.0 c.requires.1 _ c.spaces_width-width.ensures (sym c.skips_space.ensures ∙ c.if-skips_space.false) ((sym c.fits.ensures) ∙ c.if-fits.false)

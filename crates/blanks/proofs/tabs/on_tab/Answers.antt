@@ -12,12 +12,12 @@ returns-then-skips_space c =
 
 pub moved_on-q-requires : goal.moved_on-q-requires
 moved_on-q-requires c =
-    omega (arith, fits-room _ _ ((let wide_here : fits_in c.args.p.cursor c.tab_width-width.result ≡ c.fits.result = sym c.fits.ensures in wide_here) ∙ c.if-fits.true), c.requires.0.place)
+    omega (arith, fits-room _ _ ((sym c.fits.ensures) ∙ c.if-fits.true), c.requires.0.place)
 
 pub draws_space-look-requires : goal.draws_space-look-requires
 draws_space-look-requires c = (
   c.requires.0.settings,
-  tab-moved c.requires.0 c.requires.1 _ _ c.moved_on-q.ensures ((let wide_here : fits_in c.args.p.cursor c.tab_width-width.result ≡ c.fits.result = sym c.fits.ensures in wide_here) ∙ c.if-fits.true),
+  tab-moved c.requires.0 c.requires.1 _ _ c.moved_on-q.ensures ((sym c.fits.ensures) ∙ c.if-fits.true),
   c.requires.0.short,
   c.requires.0.stands.within,
   tab_foresees c.args.s c.args.p c.requires.0.stands c.requires.1 c.args.seen c.requires.2 _ c.tab_width-width.ensures _ c.moved_on-q.ensures,
@@ -25,11 +25,11 @@ draws_space-look-requires c = (
 
 pub noted_space-requires : goal.noted_space-requires
 noted_space-requires c =
-    omega (arith, fits-room _ _ ((let wide_here : fits_in c.args.p.cursor c.tab_width-width.result ≡ c.fits.result = sym c.fits.ensures in wide_here) ∙ c.if-fits.true), c.requires.0)
+    omega (arith, fits-room _ _ ((sym c.fits.ensures) ∙ c.if-fits.true), c.requires.0)
 
 pub returns-then-fits : goal.returns-then-fits
 returns-then-fits c =
-    tab-fits c.requires.0 c.requires.1 _ c.tab_width-width.ensures ((let kept_here : skips c.args.s c.args.p ≡ false = sym c.skips_space.ensures ∙ c.if-skips_space.false in kept_here)) _ _ _ ((let wide_here : fits_in c.args.p.cursor c.tab_width-width.result ≡ c.fits.result = sym c.fits.ensures in wide_here) ∙ c.if-fits.true)
+    tab-fits c.requires.0 c.requires.1 _ c.tab_width-width.ensures (sym c.skips_space.ensures ∙ c.if-skips_space.false) _ _ _ ((sym c.fits.ensures) ∙ c.if-fits.true)
     c.moved_on-q.ensures c.draws_space-look.ensures c.noted_space.ensures
 
 pub moved_on-edge-requires : goal.moved_on-edge-requires
@@ -44,5 +44,5 @@ noted_space-requires-2 c =
 
 pub returns : goal.returns
 returns c =
-    tab-beyond c.requires.0 c.requires.1 _ c.tab_width-width.ensures ((let kept_here : skips c.args.s c.args.p ≡ false = sym c.skips_space.ensures ∙ c.if-skips_space.false in kept_here)) _ _ _ ((let wide_here : fits_in c.args.p.cursor c.tab_width-width.result ≡ c.fits.result = sym c.fits.ensures in wide_here) ∙ c.if-fits.false)
+    tab-beyond c.requires.0 c.requires.1 _ c.tab_width-width.ensures (sym c.skips_space.ensures ∙ c.if-skips_space.false) _ _ _ ((sym c.fits.ensures) ∙ c.if-fits.false)
     c.room-left.ensures c.moved_on-edge.ensures c.noted_space-2.ensures

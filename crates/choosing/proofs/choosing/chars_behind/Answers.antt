@@ -1,4 +1,4 @@
--- `paging::choosing::chars_behind` meets its contract (rule 10).
+-- `choosing::choosing::chars_behind` meets its contract (rule 10).
 use Rattle.std.proofs.Common.{arith, ◌∙◌}
 use Rattle.laws.specs.PartChars.{cut-within}
 use Rattle.choosing.specs.CharsBehind.{count-behind}

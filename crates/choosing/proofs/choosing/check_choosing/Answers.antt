@@ -1,4 +1,4 @@
--- `paging::choosing::check_choosing` meets its contract (refusal 1, refusal 2, refusal 3, refusal 4).
+-- `choosing::choosing::check_choosing` meets its contract (refusal 1, refusal 2, refusal 3, refusal 4).
 use Rattle.std.proofs.Common.{sym, ◌∙◌}
 use Rattle.choosing.specs.Choosing.{limit-refused, settings-refused, long-refused, short_decides}
 use Rattle.laws.specs.Asked.{asked}

@@ -3,17 +3,9 @@ use Rattle.rows.specs.Standing.{next-ready, further, stays}
 use Rattle.clues.specs.Tallying.{tally_start, tally_low, tally_last, tally_more}
 use Rattle.clues.proofs.tally.laid_figures.Goals as goal
 
-pub at_start-stand-requires : goal.at_start-stand-requires
-at_start-stand-requires c =
-    c.requires.short
-
 pub loop-s-init : goal.loop-s-init
 loop-s-init c =
     tally_start _ _ _ _ c.no_lines-tally.ensures c.requires c.at_start-stand.ensures
-
-pub lay_row-row-requires : goal.lay_row-row-requires
-lay_row-row-requires c =
-    c.loop-s.invariant.counted.ready
 
 pub with_line-tally-requires : goal.with_line-tally-requires
 with_line-tally-requires c =

@@ -3,4 +3,4 @@ use Rattle.columns.specs.FillTurns.{FilledTo}
 use Rattle.columns.proofs.filling.lines_filled.Given as goal
 
 abbrev pub invariant-loop-b : goal.invariant-loop-b
-invariant-loop-b l = FilledTo l.glyph l.tab l.w l.text l.b-index l.f
+invariant-loop-b l = FilledTo l.gauge.glyph l.gauge.tab l.gauge.width l.text l.b-index l.f

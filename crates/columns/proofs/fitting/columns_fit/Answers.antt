@@ -1,8 +1,7 @@
 -- `columns::fitting::columns_fit` meets its contract (refusal 1, refusal 2, refusal 3, refusal 4).
-use Rattle.std.proofs.Common.{ap, ◌≡◌, sym, ◌∙◌}
+use Rattle.std.proofs.Common.{ap, sym, ◌∙◌}
 use Rattle.std.specs.Prelude.{Ok}
-use Rattle.meaning.specs.ColumnCalls.{check_columns}
-use Rattle.columns.specs.ColumnChecks.{good-limit, good-ready, fitting-refused, fitting-done}
+use Rattle.columns.specs.ColumnChecks.{good-ready, fitting-refused, fitting-done}
 use Rattle.laws.specs.Asked.{asked}
 use Rattle.columns.proofs.fitting.columns_fit.Goals as goal
 
@@ -12,7 +11,7 @@ returns-in_err-check_columns c =
 
 pub fits_whole-requires : goal.fits_whole-requires
 fits_whole-requires c =
-    (good-ready _ _ _ ((let passed_here : check_columns c.args.s c.args.h c.args.text.now ≡ Ok tt = sym c.check_columns.ensures ∙ c.in_ok-check_columns.was in passed_here)), good-limit _ _ _ ((let passed_here : check_columns c.args.s c.args.h c.args.text.now ≡ Ok tt = sym c.check_columns.ensures ∙ c.in_ok-check_columns.was in passed_here)))
+    good-ready _ _ _ (sym c.check_columns.ensures ∙ c.in_ok-check_columns.was)
 
 pub returns : goal.returns
 returns c =

@@ -1,40 +1,29 @@
-use Rattle.std.proofs.Common.{arith}
+use Rattle.std.proofs.Common.{◌+◌, ◌-◌, arith}
 use Rattle.rows.specs.Standing.{next-ready}
-use Rattle.columns.specs.FitTurns.{fit_start, fit_dropped, fit_last, fit_full, fit_next}
+use Rattle.columns.specs.FitTurns.{fit_start, fit_dropped, fit_last, fit_next, fit_none}
 use Rattle.columns.proofs.fitting.fits_whole.Goals as goal
 
-pub at_start-stand-requires : goal.at_start-stand-requires
-at_start-stand-requires c =
-    c.requires.0.short
-
-pub loop-s-init : goal.loop-s-init
-loop-s-init c =
-    fit_start _ _ _ _ c.requires.0 c.requires.1 c.at_start-stand.ensures
-
-pub lay_row-row-requires : goal.lay_row-row-requires
-lay_row-row-requires c =
-    c.loop-s.invariant.ready
+pub loop-line-init : goal.loop-line-init
+loop-line-init c =
+    fit_start _ _ _ _ c.requires c.at_start-stand.ensures _ (omega arith)
 
 pub returns-then-row-ne0 : goal.returns-then-row-ne0
 returns-then-row-ne0 c =
-    fit_dropped _ _ _ _ _ c.loop-s.invariant _ c.lay_row-row.ensures (omega (arith, c.if-row-ne0.true))
+    fit_dropped _ _ _ _ _ c.loop-line.invariant _ c.lay_row-row.ensures (omega (arith, c.if-row-ne0.true))
 
 pub returns-then-row : goal.returns-then-row
 returns-then-row c =
-    fit_last _ _ _ _ _ c.loop-s.invariant _ c.lay_row-row.ensures (omega (arith, c.if-row-ne0.false)) c.if-row.true
-
-pub returns-then-left-le1 : goal.returns-then-left-le1
-returns-then-left-le1 c =
-    fit_full _ _ _ _ _ c.loop-s.invariant _ c.lay_row-row.ensures (omega (arith, c.if-row-ne0.false)) c.if-row.false (omega (arith, c.if-left-le1.true))
+    fit_last _ _ _ _ _ c.loop-line.invariant _ c.lay_row-row.ensures (omega (arith, c.if-row-ne0.false)) c.if-row.true (omega (arith, c.loop-line-test.true))
 
 pub next_stand-stand-requires : goal.next_stand-stand-requires
 next_stand-stand-requires c =
-    next-ready _ _ _ c.loop-s.invariant.ready _ c.lay_row-row.ensures
+    next-ready _ _ _ c.loop-line.invariant.ready _ c.lay_row-row.ensures
 
-pub loop-s-smaller : goal.loop-s-smaller
-loop-s-smaller c =
-    omega (arith, c.if-left-le1.false)
+pub loop-line-preserved : goal.loop-line-preserved
+loop-line-preserved c =
+    fit_next _ _ _ _ _ c.loop-line.invariant _ c.lay_row-row.ensures (omega (arith, c.if-row-ne0.false)) _ c.next_stand-stand.ensures c.if-row.false
+    (c.args.h - (c.loop-line._line + 1)) (omega (arith, c.loop-line-test.true))
 
-pub loop-s-preserved : goal.loop-s-preserved
-loop-s-preserved c =
-    fit_next _ _ _ _ _ c.loop-s.invariant _ c.lay_row-row.ensures (omega (arith, c.if-row-ne0.false)) _ c.next_stand-stand.ensures c.if-row.false (omega (arith, c.if-left-le1.false))
+pub returns : goal.returns
+returns c =
+    fit_none _ _ _ _ _ c.loop-line.invariant (omega (arith, c.loop-line-test.false))

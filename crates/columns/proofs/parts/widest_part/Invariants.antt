@@ -3,4 +3,4 @@ use Rattle.columns.specs.PartBytes.{WideTo}
 use Rattle.columns.proofs.parts.widest_part.Given as goal
 
 abbrev pub invariant-loop-b : goal.invariant-loop-b
-invariant-loop-b l = WideTo l.glyph l.tab l.text l.b-index l.at l.widest
+invariant-loop-b l = WideTo l.gauge.glyph l.gauge.tab l.text l.b-index l.at l.widest

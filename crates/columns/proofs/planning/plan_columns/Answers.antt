@@ -1,8 +1,7 @@
 -- `columns::planning::plan_columns` meets its contract (refusal 1, refusal 2, refusal 3, refusal 4).
-use Rattle.std.proofs.Common.{ap, ◌≡◌, sym, ◌∙◌}
+use Rattle.std.proofs.Common.{ap, sym, ◌∙◌}
 use Rattle.std.specs.Prelude.{Ok}
-use Rattle.meaning.specs.ColumnCalls.{check_columns}
-use Rattle.columns.specs.ColumnChecks.{good-limit, good-ready, good-utf8, planning-refused, planning-done}
+use Rattle.columns.specs.ColumnChecks.{good-ready, good-utf8, planning-refused, planning-done}
 use Rattle.laws.specs.Asked.{asked}
 use Rattle.columns.proofs.planning.plan_columns.Goals as goal
 
@@ -12,8 +11,8 @@ returns-in_err-check_columns c =
 
 pub narrowest_width-requires : goal.narrowest_width-requires
 narrowest_width-requires c =
-    (good-ready _ _ _ ((let passed_here : check_columns c.args.s c.args.h c.args.text.now ≡ Ok tt = sym c.check_columns.ensures ∙ c.in_ok-check_columns.was in passed_here)), good-limit _ _ _ ((let passed_here : check_columns c.args.s c.args.h c.args.text.now ≡ Ok tt = sym c.check_columns.ensures ∙ c.in_ok-check_columns.was in passed_here)), good-utf8 _ _ _ ((let passed_here : check_columns c.args.s c.args.h c.args.text.now ≡ Ok tt = sym c.check_columns.ensures ∙ c.in_ok-check_columns.was in passed_here)))
+    (good-ready _ _ _ (sym c.check_columns.ensures ∙ c.in_ok-check_columns.was), good-utf8 _ _ _ (sym c.check_columns.ensures ∙ c.in_ok-check_columns.was))
 
 pub returns : goal.returns
 returns c =
-    ap Ok c.narrowest_width.ensures ∙ planning-done _ _ _ ((let passed_here : check_columns c.args.s c.args.h c.args.text.now ≡ Ok tt = sym c.check_columns.ensures ∙ c.in_ok-check_columns.was in passed_here))
+    ap Ok c.narrowest_width.ensures ∙ planning-done _ _ _ (sym c.check_columns.ensures ∙ c.in_ok-check_columns.was)

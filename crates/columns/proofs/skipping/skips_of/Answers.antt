@@ -8,22 +8,10 @@ pub returns-then-s-gt2 : goal.returns-then-s-gt2
 returns-then-s-gt2 c =
     skips-none _ _ (omega (arith, c.if-s-gt2.true))
 
-pub widest_part-widest-requires : goal.widest_part-widest-requires
-widest_part-widest-requires c =
-    (c.requires.settings.1, c.requires.settings.3, c.requires.short)
-
-pub tab_skips-requires : goal.tab_skips-requires
-tab_skips-requires c =
-    (c.requires.settings, c.widest_part-widest.ensures.1)
-
 pub returns-then-has_tab : goal.returns-then-has_tab
 returns-then-has_tab c =
     skips_tabs _ _ (omega (arith, c.if-s-gt2.false)) _ (sym c.has_tab.ensures ∙ c.if-has_tab.true)
     (c.tab_skips.ensures ∙ ap (tab_skips c.args.s) c.widest_part-widest.ensures.0)
-
-pub asked_room-enough-requires : goal.asked_room-enough-requires
-asked_room-enough-requires c =
-    c.widest_part-widest.ensures.1
 
 pub returns : goal.returns
 returns c =

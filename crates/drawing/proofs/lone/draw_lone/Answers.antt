@@ -4,10 +4,6 @@ use Rattle.ink.specs.Sheet.{sheet, drawn_on}
 use Rattle.drawing.proofs.LoneEvents.{lone-drawn, lone-inside}
 use Rattle.drawing.proofs.lone.draw_lone.Goals as goal
 
-pub overflow_add-at : goal.overflow_add-at
-overflow_add-at c =
-    omega (arith, lone-inside c.requires.0.pass c.requires.1)
-
 pub put_one-requires : goal.put_one-requires
 put_one-requires c =
     let l = lone-inside c.requires.0.pass c.requires.1 in
@@ -15,4 +11,4 @@ put_one-requires c =
 
 pub returns : goal.returns
 returns c =
-    c.put_one.ensures ∙ ap (drawn_on (sheet c.args.events.now c.args.pen)) (sym (lone-drawn c.requires.0.pass c.requires.1))
+    c.put_one.ensures ∙ ap (drawn_on (sheet c.args.events.now c.args.g.pen)) (sym (lone-drawn c.requires.0.pass c.requires.1))

@@ -1,11 +1,6 @@
 -- `drawing::marks::draw_zero` meets its contract (rule 8, rule 13).
-use Rattle.std.proofs.Common.{arith}
 use Rattle.drawing.proofs.MarkEvents.{zero-put, zero-drew}
 use Rattle.drawing.proofs.marks.draw_zero.Goals as goal
-
-pub overflow_add-at : goal.overflow_add-at
-overflow_add-at c =
-    omega (arith, zero-put c.requires.0 c.requires.1 c.requires.2)
 
 pub put_one-requires : goal.put_one-requires
 put_one-requires c =

@@ -8,7 +8,6 @@ use Rattle.drawing.proofs.striding.draw_words.Given as goal
 abbrev pub invariant-loop-s : goal.invariant-loop-s
 invariant-loop-s l = Drew l.s l.text nothing_resumed l.initial.events l.initial.g.place l.initial.g.at l.initial.g.pen l.events l.g.place l.g.at l.g.pen
     × (l.g.place.empty ≡ false)
-    × (length l.events ≡ length l.initial.events)
 
 abbrev pub decreases-loop-s : goal.decreases-loop-s
 decreases-loop-s l = length l.text - l.g.at

@@ -5,10 +5,6 @@ use Rattle.ink.specs.Sheet.{sheet, drawn_on, on_none}
 use Rattle.drawing.proofs.StrideEvents.{waits-thin, waits-cut}
 use Rattle.drawing.proofs.waiting.draw_waiting.Goals as goal
 
-pub space_fits-requires : goal.space_fits-requires
-space_fits-requires c =
-    c.requires.0.pass.place
-
 pub returns-then-not-space_fits : goal.returns-then-not-space_fits
 returns-then-not-space_fits c =
     let sh = sheet c.args.events.now c.args.g.pen in

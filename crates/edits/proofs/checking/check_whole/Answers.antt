@@ -9,11 +9,11 @@ use Rattle.edits.proofs.checking.check_whole.Goals as goal
 
 pub text_length-requires : goal.text_length-requires
 text_length-requires c =
-    table-room _ _ ((let good_here : check_table c.args.lines c.args.table.now ≡ Ok tt = (look_says _ _ _ _ (sym c.in-Ok.is ∙ c.requires)).0 in good_here))
+    table-room _ _ ((look_says _ _ _ _ (sym c.in-Ok.is ∙ c.requires)).0)
 
 pub returns-in-Ok : goal.returns-in-Ok
 returns-in-Ok c =
-    c.whole_of.ensures ∙ whole-some _ _ _ ((let good_here : check_table c.args.lines c.args.table.now ≡ Ok tt = (look_says _ _ _ _ (sym c.in-Ok.is ∙ c.requires)).0 in good_here)) _ c.text_length.ensures
+    c.whole_of.ensures ∙ whole-some _ _ _ ((look_says _ _ _ _ (sym c.in-Ok.is ∙ c.requires)).0) _ c.text_length.ensures
 
 pub returns-in-Err : goal.returns-in-Err
 returns-in-Err c =

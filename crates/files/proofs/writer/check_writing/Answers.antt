@@ -14,16 +14,16 @@ returns-in_err-check_settings c =
 
 pub returns-in_err-check_table : goal.returns-in_err-check_table
 returns-in_err-check_table c =
-    asked _ c.from_residual-in_err-check_table.ensures.1 ∙ table-refused c.args.s c.args.table.now c.args.lines c.args.file.now ((let known_here : check_settings c.args.s ≡ Ok tt = sym c.check_settings.ensures ∙ c.in_ok-check_settings.was in known_here)) _ (sym c.check_table.ensures ∙ c.in_err-check_table.was)
+    asked _ c.from_residual-in_err-check_table.ensures.1 ∙ table-refused c.args.s c.args.table.now c.args.lines c.args.file.now (sym c.check_settings.ensures ∙ c.in_ok-check_settings.was) _ (sym c.check_table.ensures ∙ c.in_err-check_table.was)
 
 pub overflow_mul-lines : goal.overflow_mul-lines
 overflow_mul-lines c =
-    record { fits = omega (arith, (let few_here : c.args.lines ≤ 65536 = table-count _ _ ((let good_here : check_table c.args.lines c.args.table.now ≡ Ok tt = sym c.check_table.ensures ∙ c.in_ok-check_table.was in good_here)) in few_here)) }
+    record { fits = omega (arith, (table-count _ _ (sym c.check_table.ensures ∙ c.in_ok-check_table.was))) }
 
 pub overflow_add-lines : goal.overflow_add-lines
 overflow_add-lines c =
-    record { fits = omega (arith, (let few_here : c.args.lines ≤ 65536 = table-count _ _ ((let good_here : check_table c.args.lines c.args.table.now ≡ Ok tt = sym c.check_table.ensures ∙ c.in_ok-check_table.was in good_here)) in few_here)) }
+    record { fits = omega (arith, (table-count _ _ (sym c.check_table.ensures ∙ c.in_ok-check_table.was))) }
 
 pub returns : goal.returns
 returns c =
-    room_decides c.args.s c.args.table.now c.args.lines c.args.file.now ((let known_here : check_settings c.args.s ≡ Ok tt = sym c.check_settings.ensures ∙ c.in_ok-check_settings.was in known_here)) ((let good_here : check_table c.args.lines c.args.table.now ≡ Ok tt = sym c.check_table.ensures ∙ c.in_ok-check_table.was in good_here)) _ c.check_room.ensures
+    room_decides c.args.s c.args.table.now c.args.lines c.args.file.now (sym c.check_settings.ensures ∙ c.in_ok-check_settings.was) (sym c.check_table.ensures ∙ c.in_ok-check_table.was) _ c.check_room.ensures

@@ -22,10 +22,6 @@ lay_row-row-requires c =
     stand-ready _ _ _ _ _ _ (line-ready c.requires.0 _ c.resumed_in-held.ensures)
     (omega (arith, c.chars_before-before.ensures, few-before c.requires.0, good_length _ c.requires.0.text)) c.at_one-stand.ensures
 
-pub write_entry-requires : goal.write_entry-requires
-write_entry-requires c =
-    omega (arith, c.requires.1)
-
 pub returns : goal.returns
 returns c =
     record { value = answer-laid c.requires.0 _ c.resumed_in-held.ensures _ c.chars_before-before.ensures _ c.at_one-stand.ensures _ c.lay_row-row.ensures _ c.rest_in-after.ensures; after = c.write_entry.ensures ∙ entry-put c.requires.0 _ c.resumed_in-held.ensures _ c.chars_before-before.ensures _ c.at_one-stand.ensures _ c.lay_row-row.ensures _ }

@@ -6,10 +6,6 @@ use Rattle.laws.specs.PartChars.{cut-within}
 use Rattle.laws.specs.Between.{count-between}
 use Rattle.frames.proofs.place.chars_between.Goals as goal
 
-pub slice_bounds-count_chars-start : goal.slice_bounds-count_chars-start
-slice_bounds-count_chars-start c =
-    omega (arith, c.requires.3, cut-within _ c.requires.0 _ c.requires.2)
-
 pub slice_bounds-count_chars-end : goal.slice_bounds-count_chars-end
 slice_bounds-count_chars-end c =
     cut-within _ c.requires.0 _ c.requires.2

@@ -6,10 +6,16 @@ use Rattle.heights.specs.GoodHeight.{height-measures, height-small}
 use Rattle.heights.proofs.Signs.{kept}
 use Rattle.heights.proofs.Upright.{offset_limit, sum_fits, sum_is, first-top, first-sum}
 use Rattle.heights.proofs.height.first_y.Goals as goal
+use Rattle.heights.proofs.height.first_y.Goals.{After-offset_of-offset}
+
+-- The offset is near 0.
+near : (c : After-offset_of-offset) → mag c.offset_of-offset.result ≤ 600000000
+near c =
+    offset_limit c.args.s (height-measures c.args.s c.args.table.now c.args.lines c.requires) c.height_of-high.result c.offset_of-offset.result c.offset_of-offset.ensures (omega (arith, c.height_of-high.ensures, height-small c.args.s c.args.table.now c.args.lines c.requires))
 
 pub returns-then-s-eq0 : goal.returns-then-s-eq0
 returns-then-s-eq0 c =
-    kept c.args.s.top (omega (arith, (let top-near_here : mag c.args.s.top ≤ 4096 = (height-measures c.args.s c.args.table.now c.args.lines c.requires).top in top-near_here))) ∙ first-top c.args.s (entries_in c.args.lines c.args.table.now) (omega arith)
+    kept c.args.s.top (omega (arith, ((height-measures c.args.s c.args.table.now c.args.lines c.requires).top))) ∙ first-top c.args.s (entries_in c.args.lines c.args.table.now) (omega arith)
 
 pub offset_of-offset-requires : goal.offset_of-offset-requires
 offset_of-offset-requires c = (
@@ -19,14 +25,10 @@ offset_of-offset-requires c = (
 
 pub overflow_add-result : goal.overflow_add-result
 overflow_add-result c =
-    sum_fits c.args.s.top c.offset_of-offset.result ((let top-near_here : mag c.args.s.top ≤ 4096 = (height-measures c.args.s c.args.table.now c.args.lines c.requires).top in top-near_here)) ((let offset_near_here : mag c.offset_of-offset.result ≤ 600000000 = offset_limit c.args.s (height-measures c.args.s c.args.table.now c.args.lines c.requires) c.height_of-high.result
-    c.offset_of-offset.result c.offset_of-offset.ensures
-    (omega (arith, c.height_of-high.ensures, height-small c.args.s c.args.table.now c.args.lines c.requires)) in offset_near_here))
+    sum_fits c.args.s.top c.offset_of-offset.result ((height-measures c.args.s c.args.table.now c.args.lines c.requires).top) (near (goal.at.overflow_add-result c).After-offset_of-offset)
 
 pub returns : goal.returns
 returns c =
-    sum_is c.args.s.top c.offset_of-offset.result ((let top-near_here : mag c.args.s.top ≤ 4096 = (height-measures c.args.s c.args.table.now c.args.lines c.requires).top in top-near_here)) ((let offset_near_here : mag c.offset_of-offset.result ≤ 600000000 = offset_limit c.args.s (height-measures c.args.s c.args.table.now c.args.lines c.requires) c.height_of-high.result
-    c.offset_of-offset.result c.offset_of-offset.ensures
-    (omega (arith, c.height_of-high.ensures, height-small c.args.s c.args.table.now c.args.lines c.requires)) in offset_near_here))
+    sum_is c.args.s.top c.offset_of-offset.result ((height-measures c.args.s c.args.table.now c.args.lines c.requires).top) (near (goal.at.returns c).After-offset_of-offset)
     ∙ first-sum c.args.s (entries_in c.args.lines c.args.table.now) c.height_of-high.result c.offset_of-offset.result
     c.offset_of-offset.ensures c.height_of-high.ensures

@@ -6,6 +6,16 @@ use Rattle.meaning.specs.Table.{entries_in}
 use Rattle.heights.specs.GoodHeight.{few-held, left-within, height-is, height-small}
 use Rattle.heights.specs.Heights.{not_counted}
 use Rattle.heights.proofs.height.height_of.Goals as goal
+use Rattle.heights.proofs.height.height_of.Goals.{After-not_counted-left_out}
+
+-- What is left out, and the height that was found.
+left_is : (c : After-not_counted-left_out) → c.not_counted-left_out.result ≡ not_counted c.args.s (text_length (entries_in c.args.lines c.args.table.now)) (entries_in c.args.lines c.args.table.now)
+left_is c =
+    let es = entries_in c.args.lines c.args.table.now in omega (arith, c.not_counted-left_out.ensures, ap (λ (n : ℕ). not_counted c.args.s n es) c.text_length-bytes.ensures)
+
+found : (c : After-not_counted-left_out) → c.args.s.base.0 + (c.added_before-added.result - c.not_counted-left_out.result) ≡ height_of c.args.s (entries_in c.args.lines c.args.table.now)
+found c =
+    omega (arith, c.added_before-added.ensures, (left_is c), height-is c.args.s c.args.table.now c.args.lines c.requires)
 
 pub added_before-added-requires : goal.added_before-added-requires
 added_before-added-requires c =
@@ -24,8 +34,7 @@ overflow_sub-result c =
     omega (
       arith,
       c.added_before-added.ensures,
-      (let left_is_here : c.not_counted-left_out.result ≡ not_counted c.args.s (text_length (entries_in c.args.lines c.args.table.now)) (entries_in c.args.lines c.args.table.now) = let es = entries_in c.args.lines c.args.table.now in
-          omega (arith, c.not_counted-left_out.ensures, ap (λ (n : ℕ). not_counted c.args.s n es) c.text_length-bytes.ensures) in left_is_here),
+      (left_is (goal.at.overflow_sub-result c).After-not_counted-left_out),
       left-within c.args.s c.args.table.now c.args.lines c.requires,
     )
 
@@ -34,23 +43,11 @@ overflow_add-result c =
     record {
       fits = omega (
         arith,
-        (let found_here : c.args.s.base.0 + (c.added_before-added.result - c.not_counted-left_out.result) ≡ height_of c.args.s (entries_in c.args.lines c.args.table.now) = omega (
-          arith,
-          c.added_before-added.ensures,
-          (let left_is_here : c.not_counted-left_out.result ≡ not_counted c.args.s (text_length (entries_in c.args.lines c.args.table.now)) (entries_in c.args.lines c.args.table.now) = let es = entries_in c.args.lines c.args.table.now in
-              omega (arith, c.not_counted-left_out.ensures, ap (λ (n : ℕ). not_counted c.args.s n es) c.text_length-bytes.ensures) in left_is_here),
-          height-is c.args.s c.args.table.now c.args.lines c.requires,
-        ) in found_here),
+        (found (goal.at.overflow_add-result c).After-not_counted-left_out),
         height-small c.args.s c.args.table.now c.args.lines c.requires,
       );
     }
 
 pub returns : goal.returns
 returns c =
-    (let found_here : c.args.s.base.0 + (c.added_before-added.result - c.not_counted-left_out.result) ≡ height_of c.args.s (entries_in c.args.lines c.args.table.now) = omega (
-      arith,
-      c.added_before-added.ensures,
-      (let left_is_here : c.not_counted-left_out.result ≡ not_counted c.args.s (text_length (entries_in c.args.lines c.args.table.now)) (entries_in c.args.lines c.args.table.now) = let es = entries_in c.args.lines c.args.table.now in
-          omega (arith, c.not_counted-left_out.ensures, ap (λ (n : ℕ). not_counted c.args.s n es) c.text_length-bytes.ensures) in left_is_here),
-      height-is c.args.s c.args.table.now c.args.lines c.requires,
-    ) in found_here)
+    (found (goal.at.returns c).After-not_counted-left_out)

@@ -15,10 +15,6 @@ pub returns-then-lines-line : goal.returns-then-lines-line
 returns-then-lines-line c =
     no_line c.args.s c.args.table.now c.args.lines (sym c.check_height.ensures ∙ c.in_ok-check_height.was) c.args.line c.if-lines-line.true
 
-pub y_of-requires : goal.y_of-requires
-y_of-requires c =
-    (sym c.check_height.ensures ∙ c.in_ok-check_height.was, c.if-lines-line.false)
-
 pub shown_at-requires : goal.shown_at-requires
 shown_at-requires c =
     height-measures c.args.s c.args.table.now c.args.lines (sym c.check_height.ensures ∙ c.in_ok-check_height.was)

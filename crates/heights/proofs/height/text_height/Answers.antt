@@ -5,10 +5,6 @@ use Rattle.laws.specs.Asked.{asked}
 use Rattle.heights.specs.GoodHeight.{height-answered, height-refused}
 use Rattle.heights.proofs.height.text_height.Goals as goal
 
-pub height_of-requires : goal.height_of-requires
-height_of-requires c =
-    sym c.check_height.ensures ∙ c.in_ok-check_height.was
-
 pub returns-in_err-check_height : goal.returns-in_err-check_height
 returns-in_err-check_height c =
     asked _ c.from_residual.ensures.1

@@ -4,14 +4,6 @@ use Rattle.look.specs.Skipping.{Counted}
 use Rattle.look.proofs.PlainTurns.{counts_fit, counts-between}
 use Rattle.look.proofs.plain.counted_on.Goals as goal
 
-pub returns-then-told-ne0 : goal.returns-then-told-ne0
-returns-then-told-ne0 c =
-    λ e. absurd (c.if-told-ne0.true e)
-
-pub returns-then-fewer-wrapping_sub_u64 : goal.returns-then-fewer-wrapping_sub_u64
-returns-then-fewer-wrapping_sub_u64 c =
-    λ e. absurd (omega arith)
-
 pub returns : goal.returns
 returns c e h =
     let starts = c.starting-told.ensures c.if-told-ne0.false in

@@ -1,19 +1,7 @@
 -- `table::skipping::line_is_good` meets its contract (refusal 5).
 use Rattle.std.proofs.Common.{◌+◌, Bool, ◌&&◌, leb, get_or, sym, ap, ◌∙◌}
-use Rattle.look.proofs.SkipTurns.{not_good, all-good}
+use Rattle.look.proofs.SkipTurns.{all-good}
 use Rattle.look.proofs.skipping.line_is_good.Goals as goal
-
-pub returns-then-not-start_fits : goal.returns-then-not-start_fits
-returns-then-not-start_fits c =
-    not_good
-
-pub returns-then-not-rest_stands : goal.returns-then-not-rest_stands
-returns-then-not-rest_stands c =
-    not_good
-
-pub returns-then-not-count_fits : goal.returns-then-not-count_fits
-returns-then-not-count_fits c =
-    not_good
 
 pub returns : goal.returns
 returns c e =

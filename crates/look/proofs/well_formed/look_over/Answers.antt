@@ -23,7 +23,7 @@ returns-then-reach-gt-REACH_LIMIT c =
 
 pub look_lines-requires : goal.look_lines-requires
 look_lines-requires c =
-    (reach-some c.args.lines c.args.table.now (omega (arith, c.if-reach-lt1.false, c.last_reach-reach.ensures)), omega arith, omega arith)
+    (reach-some c.args.lines c.args.table.now (omega (arith, c.if-reach-lt1.false, c.last_reach-reach.ensures)), omega arith)
 
 pub returns : goal.returns
 returns c =

@@ -1,10 +1,6 @@
 -- `month::block::keep` meets its contract.
-use Rattle.month.specs.Blocks.{kept-long, kept-held}
+use Rattle.month.specs.Blocks.{kept-held}
 use Rattle.month.proofs.block.keep.Goals as goal
-
-pub returns-then-end-at : goal.returns-then-end-at
-returns-then-end-at c =
-    kept-long _ _ _ _ c.requires.at_le_end c.requires.end_in_bounds c.requires.buffer_nonzero c.if-end-at.true
 
 pub returns : goal.returns
 returns c =

@@ -5,5 +5,5 @@ use Rattle.clues.specs.Counting.{Counts}
 use Rattle.month.specs.Pending.{held_in}
 use Rattle.month.proofs.stream.count_stream.Given as goal
 
-abbrev pub invariant-loop-reads : goal.invariant-loop-reads
-invariant-loop-reads g l = Counts l.s l.widths l.sums l.step.clues × (l.step.clues < most_clues) × (held_in l.step < 65536) × (length l.sums ≡ length l.initial.sums) × (length l.buffer ≡ 65536)
+abbrev pub invariant-loop : goal.invariant-loop
+invariant-loop g l = Counts l.s l.widths l.sums l.step.clues × (l.step.clues < most_clues) × (held_in l.step < 65536) × (length l.buffer ≡ 65536)

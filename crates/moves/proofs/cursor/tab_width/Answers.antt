@@ -13,15 +13,15 @@ returns-then-c-eq0 c =
 
 pub overflow_add-result : goal.overflow_add-result
 overflow_add-result c =
-    record { fits = omega (arith, (let stop_here : (c.args.c.position.0 ≤ (c.args.c.position.0 / c.args.c.tab.0 + 1) * c.args.c.tab.0) × ((c.args.c.position.0 / c.args.c.tab.0 + 1) * c.args.c.tab.0 ≤ c.args.c.position.0 + c.args.c.tab.0) × (c.args.c.position.0 / c.args.c.tab.0 ≤ c.args.c.position.0) = next-stop c.args.c.position.0 c.args.c.tab.0 (omega arith) in stop_here)) }
+    record { fits = omega (arith, (next-stop c.args.c.position.0 c.args.c.tab.0 (omega arith))) }
 
 pub overflow_mul-result : goal.overflow_mul-result
 overflow_mul-result c =
-    record { fits = omega (arith, (let stop_here : (c.args.c.position.0 ≤ (c.args.c.position.0 / c.args.c.tab.0 + 1) * c.args.c.tab.0) × ((c.args.c.position.0 / c.args.c.tab.0 + 1) * c.args.c.tab.0 ≤ c.args.c.position.0 + c.args.c.tab.0) × (c.args.c.position.0 / c.args.c.tab.0 ≤ c.args.c.position.0) = next-stop c.args.c.position.0 c.args.c.tab.0 (omega arith) in stop_here)) }
+    record { fits = omega (arith, (next-stop c.args.c.position.0 c.args.c.tab.0 (omega arith))) }
 
 pub overflow_sub-result : goal.overflow_sub-result
 overflow_sub-result c =
-    ((let stop_here : (c.args.c.position.0 ≤ (c.args.c.position.0 / c.args.c.tab.0 + 1) * c.args.c.tab.0) × ((c.args.c.position.0 / c.args.c.tab.0 + 1) * c.args.c.tab.0 ≤ c.args.c.position.0 + c.args.c.tab.0) × (c.args.c.position.0 / c.args.c.tab.0 ≤ c.args.c.position.0) = next-stop c.args.c.position.0 c.args.c.tab.0 (omega arith) in stop_here)).0
+    (next-stop c.args.c.position.0 c.args.c.tab.0 (omega arith)).0
 
 pub returns : goal.returns
 unfolding tab_width pick

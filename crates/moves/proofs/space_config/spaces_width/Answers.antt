@@ -6,11 +6,11 @@ use Rattle.moves.proofs.space_config.spaces_width.Goals as goal
 
 pub overflow_mul-result : goal.overflow_mul-result
 overflow_mul-result c =
-    record { fits = omega (arith, (let grown_here : c.args.n * c.args.sp.width.0 ≤ 65535 * 4160 = times_bound c.args.n c.args.sp.width.0 c.requires.1 c.requires.0.1 in grown_here)) }
+    record { fits = omega (arith, (times_bound c.args.n c.args.sp.width.0 c.requires.1 c.requires.0.1)) }
 
 pub overflow_add-result : goal.overflow_add-result
 overflow_add-result c =
-    record { fits = omega (arith, (let grown_here : c.args.n * c.args.sp.width.0 ≤ 65535 * 4160 = times_bound c.args.n c.args.sp.width.0 c.requires.1 c.requires.0.1 in grown_here)) }
+    record { fits = omega (arith, (times_bound c.args.n c.args.sp.width.0 c.requires.1 c.requires.0.1)) }
 
 pub returns : goal.returns
 unfolding spaces_width

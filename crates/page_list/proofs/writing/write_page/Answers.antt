@@ -1,20 +1,8 @@
 -- `paging::writing::write_page` meets its contract (rule 10).
-use Rattle.std.proofs.Common.{◌*◌, arith, length-set}
+use Rattle.std.proofs.Common.{◌*◌}
 use Rattle.meaning.specs.Pages.{page_numbers, of_page}
 use Rattle.table.specs.Numbers.{stored-are}
 use Rattle.page_list.proofs.writing.write_page.Goals as goal
-
-pub bounds-pages-at-2 : goal.bounds-pages-at-2
-bounds-pages-at-2 c =
-    simp length-set (omega arith)
-
-pub bounds-pages-at-3 : goal.bounds-pages-at-3
-bounds-pages-at-3 c =
-    simp length-set (omega arith)
-
-pub shape_of-pages : goal.shape_of-pages
-shape_of-pages c =
-    simp length-set
 
 pub returns : goal.returns
 unfolding of_page

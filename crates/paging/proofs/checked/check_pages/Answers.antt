@@ -13,7 +13,7 @@ overflow_add-text c =
 
 pub page_count-requires : goal.page_count-requires
 page_count-requires c =
-    (omega arith, c.requires.1)
+    c.requires.1
 
 pub returns-then-page_count-room : goal.returns-then-page_count-room
 unfolding capacity_of
@@ -26,7 +26,7 @@ count_lines-lines-requires c =
 
 pub page_count-requires-2 : goal.page_count-requires-2
 page_count-requires-2 c =
-    (omega (arith, c.count_lines-lines.ensures, some-lines c.args.s c.args.h c.args.text.now), c.requires.1)
+    c.requires.1
 
 pub returns : goal.returns
 unfolding capacity_of

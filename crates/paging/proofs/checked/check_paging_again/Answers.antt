@@ -4,7 +4,7 @@ use Rattle.meaning.specs.Checks.{check_room}
 use Rattle.meaning.specs.Table.{capacity_of}
 use Rattle.meaning.specs.Pages.{page_numbers}
 use Rattle.checks.specs.LimitLaws.{limit-some}
-use Rattle.paging.specs.ListingAgain.{lines-some, limit-refused, table-refused, room_decides}
+use Rattle.paging.specs.ListingAgain.{limit-refused, table-refused, room_decides}
 use Rattle.laws.specs.Asked.{asked}
 use Rattle.paging.proofs.checked.check_paging_again.Goals as goal
 
@@ -19,7 +19,7 @@ returns-in_err-check_table c =
 
 pub page_count-requires : goal.page_count-requires
 page_count-requires c =
-    (lines-some _ _ (sym c.check_table.ensures ∙ c.in_ok-check_table.was), limit-some _ (sym c.check_limit.ensures ∙ c.in_ok-check_limit.was))
+    limit-some _ (sym c.check_limit.ensures ∙ c.in_ok-check_limit.was)
 
 pub returns : goal.returns
 unfolding capacity_of

@@ -13,16 +13,17 @@ returns-in_err-check_paging_again c =
 
 pub kept_pages-kept-requires : goal.kept_pages-kept-requires
 kept_pages-kept-requires c =
-    again-limit _ _ _ _ ((let tested_here : check_paging_again c.args.table.now c.args.lines c.args.h c.args.pages.now ≡ Ok tt = sym c.check_paging_again.ensures ∙ c.in_ok-check_paging_again.was in tested_here))
+    again-limit _ _ _ _ (sym c.check_paging_again.ensures ∙ c.in_ok-check_paging_again.was)
 
 pub write_pages-requires : goal.write_pages-requires
 write_pages-requires c =
-    again_listable _ _ _ _ ((let tested_here : check_paging_again c.args.table.now c.args.lines c.args.h c.args.pages.now ≡ Ok tt = sym c.check_paging_again.ensures ∙ c.in_ok-check_paging_again.was in tested_here))
+    again_listable _ _ _ _ (sym c.check_paging_again.ensures ∙ c.in_ok-check_paging_again.was)
 
 pub page_count-count-requires : goal.page_count-count-requires
 page_count-count-requires c =
-    let p = again_listable _ _ _ _ ((let tested_here : check_paging_again c.args.table.now c.args.lines c.args.h c.args.pages.now ≡ Ok tt = sym c.check_paging_again.ensures ∙ c.in_ok-check_paging_again.was in tested_here)) in (p.some, p.limit)
+    again-limit _ _ _ _ (sym c.check_paging_again.ensures ∙ c.in_ok-check_paging_again.was)
 
 pub returns : goal.returns
 returns c =
-    record { value = (again-done _ _ _ _ ((let tested_here : check_paging_again c.args.table.now c.args.lines c.args.h c.args.pages.now ≡ Ok tt = sym c.check_paging_again.ensures ∙ c.in_ok-check_paging_again.was in tested_here)) _ _ c.kept_pages-kept.ensures _ c.page_count-count.ensures _ c.write_pages.ensures).0; pages_after = (again-done _ _ _ _ ((let tested_here : check_paging_again c.args.table.now c.args.lines c.args.h c.args.pages.now ≡ Ok tt = sym c.check_paging_again.ensures ∙ c.in_ok-check_paging_again.was in tested_here)) _ _ c.kept_pages-kept.ensures _ c.page_count-count.ensures _ c.write_pages.ensures).1 }
+    let done = again-done _ _ _ _ (sym c.check_paging_again.ensures ∙ c.in_ok-check_paging_again.was) _ _ c.kept_pages-kept.ensures _ c.page_count-count.ensures _ c.write_pages.ensures in
+    record { value = done.0; pages_after = done.1 }

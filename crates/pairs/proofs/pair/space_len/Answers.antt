@@ -6,7 +6,3 @@ use Rattle.pairs.proofs.pair.space_len.Goals as goal
 pub returns-then-space_at : goal.returns-then-space_at
 returns-then-space_at c =
     blank-space _ _ (sym c.space_at.ensures ∙ c.if-space_at.true)
-
-pub returns-then-long_space_at : goal.returns-then-long_space_at
-returns-then-long_space_at c =
-    c.long_space_at.ensures c.if-long_space_at.true

@@ -14,10 +14,3 @@ overflow_add-from-then-plain_at c =
 pub skip_plain-end-requires : goal.skip_plain-end-requires
 skip_plain-end-requires c =
     omega (arith, plain-inside _ _ ((let lettered_here : plain_at c.args.text.now (c.args.at + 1) ≡ true = sym c.plain_at.ensures ∙ c.if-plain_at.true in lettered_here)))
-
-pub returns-then-ends_at : goal.returns-then-ends_at
-returns-then-ends_at c =
-    record {
-      space = (let spaced_here : space_at c.args.text.now c.args.at ≡ true = sym c.space_at.ensures ∙ c.if-space_at.true in spaced_here);
-      word = record { first = (let lettered_here : plain_at c.args.text.now (c.args.at + 1) ≡ true = sym c.plain_at.ensures ∙ c.if-plain_at.true in lettered_here); letters = c.skip_plain-end.ensures.0; ends = sym c.ends_at.ensures ∙ c.if-ends_at.true };
-    }

@@ -1,11 +1,7 @@
 -- `pairs::plain_line::waits_behind` meets its contract (rule 8, rule 10).
 use Rattle.std.proofs.Common.{sym, ◌∙◌, arith}
-use Rattle.pairs.specs.PlainLineLaws.{waits-full, waits-farther}
+use Rattle.pairs.specs.PlainLineLaws.{waits-farther}
 use Rattle.pairs.proofs.plain_line.waits_behind.Goals as goal
-
-pub returns-then-plain_at : goal.returns-then-plain_at
-returns-then-plain_at c =
-    (c.plain_found.ensures.0, waits-full _ _ _ _ c.if-end-limit.true (sym c.plain_at.ensures ∙ c.if-plain_at.true) c.plain_found.ensures.1)
 
 pub returns-then-ends_at : goal.returns-then-ends_at
 returns-then-ends_at c =

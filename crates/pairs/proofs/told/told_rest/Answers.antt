@@ -1,20 +1,8 @@
-use Rattle.std.proofs.Common.{sym, ◌∙◌, ◌≤◌, arith, length}
+use Rattle.std.proofs.Common.{◌≤◌, arith, length}
 use Rattle.parser.specs.Letters.{Letter, Glues}
 use Rattle.parser.specs.LetterLaws.{letter-long, spells-room}
-use Rattle.pairs.specs.Told.{Goes, told_none, told-letters, told-letter, told_more}
+use Rattle.pairs.specs.Told.{Goes, told-letters, told-letter, told_more}
 use Rattle.pairs.proofs.told.told_rest.Goals as goal
-
-pub loop-from-init : goal.loop-from-init
-loop-from-init c =
-    told_none _ _ c.requires.1
-
-pub skip_plain-end-requires : goal.skip_plain-end-requires
-skip_plain-end-requires c =
-    (c.loop-from.invariant.on.inside, omega arith)
-
-pub returns-then-ends_at : goal.returns-then-ends_at
-returns-then-ends_at c =
-    record { goes = (let so_far_here : Goes c.args.text.now c.args.from c.skip_plain-end.result c.loop-from.conts c.loop-from.glues = told-letters _ _ _ _ _ c.loop-from.invariant _ c.skip_plain-end.ensures.0 in so_far_here); ends = sym c.ends_at.ensures ∙ c.if-ends_at.true }
 
 pub overflow_add-at : goal.overflow_add-at
 overflow_add-at c =
@@ -77,14 +65,6 @@ overflow_add-conts-in-loop-from c =
     omega (
       arith,
       spells-room _ _ _ 1 ((let glued_here : Glues c.args.text.now c.skip_plain-end.result c.in_ok-glue.glue = c.in_ok-glue.ensures in glued_here)),
-      (let small_here : (c.loop-from.at ≤ c.skip_plain-end.result) × (c.loop-from.conts ≤ c.skip_plain-end.result) × (c.loop-from.glues ≤ c.skip_plain-end.result) × (c.skip_plain-end.result ≤ length c.args.text.now) × (length c.args.text.now ≤ 65535) = let s = (let so_far_here : Goes c.args.text.now c.args.from c.skip_plain-end.result c.loop-from.conts c.loop-from.glues = told-letters _ _ _ _ _ c.loop-from.invariant _ c.skip_plain-end.ensures.0 in so_far_here) in
-          omega (arith, s.few, s.on.inside, s.on.fewer, s.on.forward, c.skip_plain-end.ensures.0.forward, c.requires.0) in small_here),
-    )
-
-pub overflow_add-glues : goal.overflow_add-glues
-overflow_add-glues c =
-    omega (
-      arith,
       (let small_here : (c.loop-from.at ≤ c.skip_plain-end.result) × (c.loop-from.conts ≤ c.skip_plain-end.result) × (c.loop-from.glues ≤ c.skip_plain-end.result) × (c.skip_plain-end.result ≤ length c.args.text.now) × (length c.args.text.now ≤ 65535) = let s = (let so_far_here : Goes c.args.text.now c.args.from c.skip_plain-end.result c.loop-from.conts c.loop-from.glues = told-letters _ _ _ _ _ c.loop-from.invariant _ c.skip_plain-end.ensures.0 in so_far_here) in
           omega (arith, s.few, s.on.inside, s.on.fewer, s.on.forward, c.skip_plain-end.ensures.0.forward, c.requires.0) in small_here),
     )

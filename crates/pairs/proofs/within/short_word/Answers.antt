@@ -10,25 +10,9 @@ pub overflow_add-next : goal.overflow_add-next
 overflow_add-next c =
     omega (arith, spells-room _ _ _ 0 ((let found_here : Letter c.args.text.now c.args.at c.in_ok-first.first = c.in_ok-first.ensures in found_here)), c.requires)
 
-pub overflow_sub-more : goal.overflow_sub-more
-overflow_sub-more c =
-    omega (arith, c.if-most-eq0.false)
-
 pub skip_upto-rest-requires : goal.skip_upto-rest-requires
 skip_upto-rest-requires c =
     (c.requires, (spells-room _ _ _ 0 ((let found_here : Letter c.args.text.now c.args.at c.in_ok-first.first = c.in_ok-first.ensures in found_here))).2)
-
-pub overflow_add-n : goal.overflow_add-n
-overflow_add-n c =
-    record { fits = omega (arith, c.skip_upto-rest.ensures.0.forward, c.skip_upto-rest.ensures.0.inside, c.requires) }
-
-pub overflow_cast-ender : goal.overflow_cast-ender
-overflow_cast-ender c =
-    omega (arith, ((let ended_here : Ends c.args.text.now c.skip_upto-rest.result.end.0 c.in_ok-ender.ender = MatchOption-at_some _ _ _ c.in_ok-ender.was c.ender_len.ensures in ended_here)).few)
-
-pub scanned_at-requires : goal.scanned_at-requires
-scanned_at-requires c =
-    omega (arith, c.skip_upto-rest.ensures.0.inside, c.requires, ((let ended_here : Ends c.args.text.now c.skip_upto-rest.result.end.0 c.in_ok-ender.ender = MatchOption-at_some _ _ _ c.in_ok-ender.was c.ender_len.ensures in ended_here)).few)
 
 pub returns : goal.returns
 returns c =

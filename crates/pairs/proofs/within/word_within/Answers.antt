@@ -1,5 +1,5 @@
 -- `pairs::within::word_within` meets its contract (rule 2).
-use Rattle.std.proofs.Common.{sym, ◌∙◌, ◌<◌, arith, length}
+use Rattle.std.proofs.Common.{◌<◌, arith, length}
 use Rattle.parser.specs.Ascii.{plain-inside}
 use Rattle.pairs.proofs.within.word_within.Goals as goal
 
@@ -14,9 +14,3 @@ overflow_add-from c =
 pub skip_plain-end-requires : goal.skip_plain-end-requires
 skip_plain-end-requires c =
     omega (arith, (let inside_here : c.args.from < length c.args.text.now = plain-inside _ _ c.requires.1 in inside_here), c.limit_at-limit.ensures, c.if-most-eq0.false)
-
-pub returns-then-ends_at : goal.returns-then-ends_at
-returns-then-ends_at c = (
-  record { first = c.requires.1; letters = c.skip_plain-end.ensures.0; ends = sym c.ends_at.ensures ∙ c.if-ends_at.true },
-  omega (arith, c.skip_plain-end.ensures.1, c.limit_at-limit.ensures),
-)

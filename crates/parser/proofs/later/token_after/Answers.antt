@@ -1,7 +1,4 @@
 use Rattle.std.proofs.Common.{sym, ap, ◌∙◌, ℕ, ◌+◌, arith}
-use Rattle.std.specs.Prelude.{Some}
-use Rattle.meaning.specs.Tokens.{tokens}
-use Rattle.parser.specs.Lexing.{chars_from, lexed_at}
 use Rattle.parser.specs.GlueLaws.{glue-one}
 use Rattle.parser.specs.ScanLaws.{char-room}
 use Rattle.parser.specs.LetterLaws.{spells-room}
@@ -47,12 +44,3 @@ loop-pos-preserved c =
       omega (arith, r, c.loop-pos.invariant.2),
       omega (arith, r, c.loop-pos.invariant.3, c.glue_of-glues.ensures, glue-one c.in-Char.cp),
     )
-
-pub without-requires : goal.without-requires
-without-requires c =
-    let s = c.loop-pos.invariant.0 (omega arith) in (s.some, s.glued)
-
-pub returns-then-pos-at : goal.returns-then-pos-at
-returns-then-pos-at c =
-    ap Some c.without.ensures ∙ sym (c.loop-pos.invariant.0 (omega arith)).stands
-    ∙ ap (λ (i : ℕ). lexed_at i (tokens (chars_from c.args.text.now i))) c.if-pos-at.true

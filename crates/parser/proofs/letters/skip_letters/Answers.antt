@@ -2,7 +2,7 @@ use Rattle.std.proofs.Common.{◌≡◌, subst, List, ℕ, ◌+◌, ◌-◌, ◌
 use Rattle.utf8.specs.Walk.{decode_at-within}
 use Rattle.utf8.specs.Long.{Long}
 use Rattle.parser.specs.Letters.{GoesOn, Lettered}
-use Rattle.parser.specs.LetterLaws.{letter-long, goes_none, goes_on_lem, goes-letter}
+use Rattle.parser.specs.LetterLaws.{letter-long, goes_on_lem, goes-letter}
 use Rattle.parser.proofs.letters.skip_letters.Goals as goal
 
 module _ (t : List ℕ) (from at skipped end : ℕ) (so_far : GoesOn t from at skipped 0) (plain : Lettered t at end) where
@@ -26,14 +26,6 @@ module _ (t : List ℕ) (from at skipped end : ℕ) (so_far : GoesOn t from at s
 
     further : (next more : ℕ) → GoesOn t (end + n) next more 0 → GoesOn t from next (skipped + (end - at) + 1 + more) 0
     further next more wide = goes_on_lem t from (end + n) (skipped + (end - at) + 1) 0 longer next more 0 wide
-
-pub loop-len-init : goal.loop-len-init
-loop-len-init c =
-    (goes_none _ _ (omega arith), omega arith)
-
-pub returns-in_default : goal.returns-in_default
-returns-in_default c =
-    passed _ _ _ _ _ c.loop-len.invariant.0 c.skip_plain-end.ensures.0
 
 pub loop-len-smaller-then-len-eq2 : goal.loop-len-smaller-then-len-eq2
 loop-len-smaller-then-len-eq2 c =

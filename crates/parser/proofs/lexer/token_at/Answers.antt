@@ -59,4 +59,4 @@ alone-requires c =
 
 pub returns-in-Some-mark_at : goal.returns-in-Some-mark_at
 returns-in-Some-mark_at c =
-    ap Some (rw (c.mark_kind.ensures, c.mark_len.ensures) at c.alone.ensures) ∙ mark-lexed _ _ _ c.in-Some-mark_at.ensures
+    ap Some (rw (c.from.ensures, c.mark_len.ensures) at c.alone.ensures) ∙ mark-lexed _ _ _ c.in-Some-mark_at.ensures

@@ -1,4 +1,4 @@
-use Rattle.std.proofs.Common.{refl, sym, ap, ◌∙◌, ℕ, ◌+◌, ◌≤◌, List, arith, rules}
+use Rattle.std.proofs.Common.{sym, ap, ◌∙◌, ℕ, ◌+◌, ◌≤◌, List, arith}
 use Rattle.utf8.specs.Long.{Long}
 use Rattle.meaning.specs.Characters.{in_run}
 use Rattle.parser.specs.Lexing.{chars_from}
@@ -11,19 +11,11 @@ use Rattle.parser.proofs.scan.scan_run.Goals as goal
 long-few : (t : List ℕ) (at n : ℕ) → Long t at n → n ≤ 4
 long-few t at n w = (char-room t at w.char n w.is).1
 
-pub loop-from-init : goal.loop-from-init
-loop-from-init c =
-    (refl, search rules, search rules, search rules)
-
 -- A byte of a word ends the run.
 pub returns-then-plain_at : goal.returns-then-plain_at
 returns-then-plain_at c =
     let h = letter-plain c.args.text.now c.loop-from.at (sym c.plain_at.ensures ∙ c.if-plain_at.true) in
     c.scanned_at.ensures ∙ sym (run-stops c.args.text.now c.loop-from.at 1 0 h _ _) ∙ c.loop-from.invariant.0
-
-pub overflow_add-at : goal.overflow_add-at
-overflow_add-at c =
-    omega (arith, space-inside _ _ (sym c.space_at.ensures ∙ c.if-space_at.true))
 
 pub loop-from-smaller-then-space_at : goal.loop-from-smaller-then-space_at
 loop-from-smaller-then-space_at c =
@@ -60,10 +52,6 @@ returns-then-not-in_run c =
 pub overflow_add-weight-in-Char : goal.overflow_add-weight-in-Char
 overflow_add-weight-in-Char c =
     omega (arith, c.space_of-weight.ensures, space-one c.in-Char.cp)
-
-pub overflow_add-at-in-Char : goal.overflow_add-at-in-Char
-overflow_add-at-in-Char c =
-    omega (arith, char-room _ _ _ _ (sym c.decode.ensures ∙ c.in-Char.is))
 
 pub loop-from-smaller : goal.loop-from-smaller
 loop-from-smaller c =

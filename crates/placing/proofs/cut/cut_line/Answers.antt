@@ -3,8 +3,6 @@ use Rattle.steps.specs.Knowing.{known-stands}
 use Rattle.placing.proofs.cut.cut_line.Goals as goal
 
 pub cut_part-requires : goal.cut_part-requires
-cut_part-requires c = (
-  c.requires.0,
-  known-stands _ _ c.args.known c.in-Some.x c.requires.1 c.if-known-at.false c.in-Some.is c.in-Word.is,
-  c.in-Word.is,
-)
+cut_part-requires c =
+    let x = c.in_ok-x.ensures in
+    (c.requires.0, known-stands _ _ c.args.known c.in_ok-x.x c.requires.1 x.0 x.1 x.2, x.2)

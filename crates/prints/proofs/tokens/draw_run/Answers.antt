@@ -1,5 +1,5 @@
 -- `prints::tokens::draw_run` meets its contract (rule 8, rule 9, rule 13).
-use Rattle.std.proofs.Common.{◌∙◌, arith, ◌+◌, ◌/◌, ◌-◌}
+use Rattle.std.proofs.Common.{◌∙◌, arith}
 use Rattle.ink.specs.Sheet.{sheet}
 use Rattle.prints.proofs.RunEvents.{part-within, run-whole, run_none, run-part}
 use Rattle.prints.proofs.tokens.draw_run.Goals as goal

@@ -24,10 +24,6 @@ draw_print-requires c =
     let e = break_end c.args.text.now c.args.at c.args.x c.requires.0.ready.stands c.in-Break.is in
     (c.requires.0.pen, w, omega (arith, e, c.requires.0.ready.stands.within, c.requires.0.ready.short), omega (arith, e, c.requires.0.ready.stands.within, c.requires.0.ready.short))
 
-pub returns-in-Word : goal.returns-in-Word
-returns-in-Word c =
-    absurd (c.requires.2 c.in-Word.is)
-
 pub returns-in-Whitespace : goal.returns-in-Whitespace
 returns-in-Whitespace c =
     c.draw_run.ensures

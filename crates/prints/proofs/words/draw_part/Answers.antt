@@ -9,33 +9,23 @@ use Rattle.ink.specs.Sheet.{sheet, drawn_on}
 use Rattle.prints.specs.PrintEvents.{part_print}
 use Rattle.prints.proofs.words.draw_part.Goals as goal
 
-pub overflow_mul-n : goal.overflow_mul-n
-overflow_mul-n c =
-    record { fits = omega (arith, (let wide_here : c.args.n * c.args.glyph ≤ 65535 * 64 = times_bound {n = 65535} c.args.n c.args.glyph c.requires.0.many c.requires.0.glyph in wide_here)) }
-
 pub put_one-requires : goal.put_one-requires
 unfolding part_of
 put_one-requires c = (
   omega (arith, c.requires.0.few),
-  omega (arith, c.requires.0.narrow, (let wide_here : c.args.n * c.args.glyph ≤ 65535 * 64 = times_bound {n = 65535} c.args.n c.args.glyph c.requires.0.many c.requires.0.glyph in wide_here)),
+  omega (arith, c.requires.0.narrow, times_bound {n = 65535} c.args.n c.args.glyph c.requires.0.many c.requires.0.glyph),
   omega (arith, c.requires.0.inside, c.requires.0.short),
-  omega (
+  let ends : c.args.part.end.0 ≤ length c.args.text.now = omega (
     arith,
-    (let ends_here : c.args.part.end.0 ≤ length c.args.text.now = let cs = chars_from c.args.text.now c.args.at in
-        omega (arith, ap (λ (q : Part). q.end.0) c.requires.1.0, size-take c.args.n cs, chars-within c.args.text.now c.args.at, c.requires.0.inside) in ends_here),
-    c.requires.0.short,
-  ),
+    ap (λ (q : Part). q.end.0) c.requires.1.0,
+    size-take c.args.n (chars_from c.args.text.now c.args.at),
+    chars-within c.args.text.now c.args.at,
+    c.requires.0.inside,
+  ) in
+      omega (arith, c.requires.0.short),
 )
 
 pub returns-then-part-eq0 : goal.returns-then-part-eq0
 returns-then-part-eq0 c =
     c.put_one.ensures
     ∙ ap (drawn_on (sheet c.args.events.now c.args.pen)) (part_print c.args.glyph c.args.spaces c.args.text.now c.args.at c.args.n c.args.part c.requires.1 c.if-part-eq0.true)
-
-pub draw_word-requires : goal.draw_word-requires
-draw_word-requires c =
-    c.requires.0
-
-pub returns : goal.returns
-returns c =
-    c.draw_word.ensures

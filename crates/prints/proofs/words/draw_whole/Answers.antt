@@ -7,8 +7,8 @@ use Rattle.prints.proofs.words.draw_whole.Goals as goal
 
 pub draw_part-requires : goal.draw_part-requires
 draw_part-requires c =
-    (word_room c.requires.0 ((let word_here : WordAt c.args.text.now c.args.at c.args.x = word-at _ _ _ c.requires.0.stands c.requires.1 in word_here)) _ (omega arith), whole_part c.args.text.now c.args.at c.args.x ((let word_here : WordAt c.args.text.now c.args.at c.args.x = word-at _ _ _ c.requires.0.stands c.requires.1 in word_here)))
+    (word_room c.requires.0 (word-at _ _ _ c.requires.0.stands c.requires.1) _ (omega arith), whole_part c.args.text.now c.args.at c.args.x (word-at _ _ _ c.requires.0.stands c.requires.1))
 
 pub returns : goal.returns
 returns c =
-    c.draw_part.ensures ∙ word-takes (sheet c.args.events.now c.args.pen) c.args.s c.args.p c.args.text.now c.args.at c.args.x ((let word_here : WordAt c.args.text.now c.args.at c.args.x = word-at _ _ _ c.requires.0.stands c.requires.1 in word_here)) c.requires.2
+    c.draw_part.ensures ∙ word-takes (sheet c.args.events.now c.args.pen) c.args.s c.args.p c.args.text.now c.args.at c.args.x (word-at _ _ _ c.requires.0.stands c.requires.1) c.requires.2

@@ -1,57 +1,17 @@
-use Rattle.std.proofs.Common.{◌≤◌, refl, div-le_self, arith}
-use Rattle.meaning.specs.declared.line.LineEnd.TheVariants.{LineBreak}
-use Rattle.rows.specs.Going.{went_nowhere, went-room, went-few}
-use Rattle.rows.specs.Found.{found-fits, found-went}
+use Rattle.std.proofs.Common.{refl, arith}
+use Rattle.rows.specs.Drawers.{can-room, can_on, gone_then}
+use Rattle.rows.specs.DrawnLines.{found-gone}
 use Rattle.rows.proofs.cuts.write_cuts.Goals as goal
 
-pub loop-left-init : goal.loop-left-init
-loop-left-init c =
-    (went_nowhere _ _ _ _ _ c.requires.stand_ready.0, c.requires.room_from.1.left, λ less. absurd (omega arith))
-
-pub cut_row-next-requires : goal.cut_row-next-requires
-cut_row-next-requires c =
-    record { text_len_bound = (c.loop-left.invariant.0.ready.line.short, c.requires.room_from.1.some, omega (arith, c.loop-left-test.true)); left_word = c.loop-left.invariant.1 }
-
-pub plain_entry-entry-requires : goal.plain_entry-entry-requires
-plain_entry-entry-requires c =
-    (found-fits c.args.s _ _ _ LineBreak _ _ _ _ c.cut_row-next.ensures.found_row c.loop-left.invariant.0.ready.line.settings.0 c.requires.stand_ready.2, c.loop-left.invariant.0.ready.line.settings.2)
-
 pub write_entry-requires : goal.write_entry-requires
-write_entry-requires c =
-    went-room _ _ _ _ _ _ _ _ c.loop-left.invariant.0 c.requires.room_from.0
-
-pub overflow_add-n : goal.overflow_add-n
-overflow_add-n c =
-    record { fits = omega (arith, went-few _ _ _ _ _ _ _ _ c.loop-left.invariant.0 c.requires.room_from.0) }
-
-pub overflow_cast-at-in-loop-left : goal.overflow_cast-at-in-loop-left
-overflow_cast-at-in-loop-left c =
-    record { fits = omega (arith, c.cut_row-next.ensures.found_row.inside, c.loop-left.invariant.0.ready.line.short) }
-
-pub overflow_add-before : goal.overflow_add-before
-overflow_add-before c =
-    record { fits = omega (arith, c.cut_row-next.ensures.found_row.few, c.cut_row-next.ensures.found_row.forward, c.cut_row-next.ensures.found_row.inside, c.loop-left.invariant.0.ready.line.short, c.loop-left.invariant.0.ready.few, (let small_here : c.args.most ≤ 4096 = omega (arith, c.requires.stand_ready.2, div-le_self c.args.s.width.0 c.args.s.glyph.0, c.loop-left.invariant.0.ready.line.settings.2) in small_here)) }
-
-pub overflow_sub-left : goal.overflow_sub-left
-overflow_sub-left c =
-    omega (arith, c.loop-left-test.true)
-
-pub loop-left-smaller : goal.loop-left-smaller
-loop-left-smaller c =
-    omega (arith, c.loop-left-test.true, c.requires.room_from.1.some)
+write_entry-requires g c =
+    can-room (can_on c.requires.can c.loop-left.invariant.0)
 
 pub loop-left-preserved : goal.loop-left-preserved
-loop-left-preserved c = (
-  found-went _ _ _ _ _ _ _ _ _ c.loop-left.invariant.0 c.requires.room_from.0 _ c.requires.stand_ready.2 c.requires.stand_ready.1 LineBreak _ _ _ _ c.cut_row-next.ensures.found_row _ c.plain_entry-entry.ensures _
-      c.write_entry.ensures c.write_entry.auto.table refl,
+loop-left-preserved g c = (
+  gone_then c.loop-left.invariant.0
+      (found-gone c.args.r (can_on c.requires.can c.loop-left.invariant.0) c.cut_row-next.ensures.found_row c.plain_entry-entry.ensures c.write_entry.ensures
+      c.write_entry.auto.table c.part.ensures refl),
   c.cut_row-next.ensures.left_word_2,
-  λ _. omega (arith, c.loop-left.invariant.0.forward, c.cut_row-next.ensures.found_row.forward),
+  λ _. omega (arith, c.loop-left.invariant.0.went.forward, c.cut_row-next.ensures.found_row.forward),
 )
-
-pub shape_of-table : goal.shape_of-table
-shape_of-table c =
-    c.loop-left.invariant.0.same
-
-pub returns : goal.returns
-returns c =
-    record { went = c.loop-left.invariant.0; start_lt_at = c.loop-left.invariant.2 (omega (arith, c.loop-left-test.false, c.requires.room_from.1.long)) }

@@ -1,11 +1,10 @@
--- `rows::found::write_told` meets its contract. The invariant: what is still to be written makes what was to be written (rule 10).
+-- `rows::found::write_told` meets its contract. The invariant: what is still to be written, and to be put, stays the same (rule 10).
 use Rattle.std.proofs.Common.{◌-◌, length}
-use Rattle.rows.specs.Going.{Went}
-use Rattle.rows.specs.Found.{plain_stand}
+use Rattle.rows.specs.DrawnLines.{PassedTo}
 use Rattle.rows.proofs.found.write_told.Given as goal
 
-abbrev pub invariant-loop-at : goal.invariant-loop-at
-invariant-loop-at l = Went l.s l.text l.initial.table l.initial.n (plain_stand l.initial.at l.initial.before) l.table l.n (plain_stand l.at l.before)
+abbrev pub invariant-loop-here : goal.invariant-loop-here
+invariant-loop-here g l = PassedTo (g.D.Drawer.to_draw l.r.settings l.text) l.r.settings l.text l.initial.table l.initial.events l.initial.here l.table l.events l.here
 
-abbrev pub decreases-loop-at : goal.decreases-loop-at
-decreases-loop-at l = length l.text - l.at
+abbrev pub decreases-loop-here : goal.decreases-loop-here
+decreases-loop-here g l = length l.text - l.here.at.0

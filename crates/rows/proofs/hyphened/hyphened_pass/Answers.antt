@@ -1,6 +1,5 @@
 -- `rows::hyphened::hyphened_pass` meets its contract (rule 8).
-use Rattle.std.proofs.Common.{subst, arith}
-use Rattle.parser.specs.Marks.{Mark}
+use Rattle.std.proofs.Common.{arith}
 use Rattle.strides.specs.GoesLaws.{rest-none}
 use Rattle.rows.proofs.HyphenLaws.{resumes_none}
 use Rattle.rows.proofs.hyphened.hyphened_pass.Goals as goal

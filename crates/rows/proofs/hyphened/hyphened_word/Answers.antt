@@ -1,5 +1,5 @@
 -- `rows::hyphened::hyphened_word` meets its contract (rule 8).
-use Rattle.std.proofs.Common.{◌+◌, ◌≡◌, sym, ap, subst, ◌∙◌, arith, ◌/◌, ◌-◌}
+use Rattle.std.proofs.Common.{◌+◌, ◌≡◌, sym, ap, ◌∙◌, arith}
 use Rattle.std.specs.Prelude.{Some}
 use Rattle.meaning.specs.Line.{noted, unmeasured}
 use Rattle.meaning.specs.Tokens.{tokens}

@@ -1,4 +1,4 @@
-use Rattle.std.proofs.Common.{max, ◌≡◌, sym, ap, ◌∙◌, arith, ◌+◌, ◌/◌, ◌-◌}
+use Rattle.std.proofs.Common.{max, ◌≡◌, sym, ap, ◌∙◌, arith}
 use Rattle.steps.specs.Stepping.{ran_from}
 use Rattle.steps.specs.Unrolled.{farther, farther-near}
 use Rattle.steps.specs.Pending.{Pending, pending, none-pending}

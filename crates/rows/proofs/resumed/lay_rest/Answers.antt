@@ -1,5 +1,5 @@
 -- `rows::resumed::lay_rest` meets its contract (rule 9, rule 10).
-use Rattle.std.proofs.Common.{◌-◌, ◌/◌, ◌≤◌, sym, subst, div-le_self, arith, ◌+◌}
+use Rattle.std.proofs.Common.{◌-◌, ◌/◌, ◌≤◌, sym, subst, div-le_self, arith}
 use Rattle.meaning.specs.declared.line.Placed.{Placed}
 use Rattle.meaning.specs.declared.line.LineEnd.TheVariants.{LineBreak}
 use Rattle.placing.specs.PlaceLaws.{place_fine}

@@ -6,11 +6,11 @@ use Rattle.steps.proofs.words.word_place.Goals as goal
 
 pub overflow_mul-n : goal.overflow_mul-n
 overflow_mul-n c =
-    record { fits = omega (arith, (let small_here : c.args.p.cursor.position.0 + c.args.n.0 * c.args.glyph.0 ≤ 4096 = fits-small c.args.p (c.args.n.0 * c.args.glyph.0) c.requires.0 c.requires.1 in small_here)) }
+    record { fits = omega (arith, (fits-small c.args.p (c.args.n.0 * c.args.glyph.0) c.requires.0 c.requires.1)) }
 
 pub advanced-cursor-requires : goal.advanced-cursor-requires
 advanced-cursor-requires c =
-    omega (arith, (let small_here : c.args.p.cursor.position.0 + c.args.n.0 * c.args.glyph.0 ≤ 4096 = fits-small c.args.p (c.args.n.0 * c.args.glyph.0) c.requires.0 c.requires.1 in small_here))
+    omega (arith, (fits-small c.args.p (c.args.n.0 * c.args.glyph.0) c.requires.0 c.requires.1))
 
 pub returns : goal.returns
 unfolding word_place

@@ -12,20 +12,20 @@ word_within-requires c =
 
 pub overflow_sub-n : goal.overflow_sub-n
 overflow_sub-n c =
-    omega (arith, ((let found_here : PlainWord c.args.text.now c.args.at c.in-Some.end × (c.in-Some.end - c.args.at ≤ c.room.result / c.args.s.glyph.0) = MatchOption-at_some _ _ _ c.in-Some.is c.word_within.ensures in found_here)).0.letters.forward)
+    omega (arith, (MatchOption-at_some _ _ _ c.in-Some.is c.word_within.ensures).0.letters.forward)
 
 pub overflow_cast-n : goal.overflow_cast-n
 overflow_cast-n c =
-    omega (arith, ((let found_here : PlainWord c.args.text.now c.args.at c.in-Some.end × (c.in-Some.end - c.args.at ≤ c.room.result / c.args.s.glyph.0) = MatchOption-at_some _ _ _ c.in-Some.is c.word_within.ensures in found_here)).0.letters.inside, c.requires.short)
+    omega (arith, (MatchOption-at_some _ _ _ c.in-Some.is c.word_within.ensures).0.letters.inside, c.requires.short)
 
 pub overflow_cast-to : goal.overflow_cast-to
 overflow_cast-to c =
-    omega (arith, ((let found_here : PlainWord c.args.text.now c.args.at c.in-Some.end × (c.in-Some.end - c.args.at ≤ c.room.result / c.args.s.glyph.0) = MatchOption-at_some _ _ _ c.in-Some.is c.word_within.ensures in found_here)).0.letters.inside, c.requires.short)
+    omega (arith, (MatchOption-at_some _ _ _ c.in-Some.is c.word_within.ensures).0.letters.inside, c.requires.short)
 
 pub word_place-place-requires : goal.word_place-place-requires
 word_place-place-requires c =
-    (c.requires.place, (let fitting_here : fits_in c.args.p.cursor ((c.in-Some.end - c.args.at) * c.args.s.glyph.0) ≡ true = most-fits c.args.p.cursor c.room.result c.args.s.glyph.0 c.room.ensures _ ((let found_here : PlainWord c.args.text.now c.args.at c.in-Some.end × (c.in-Some.end - c.args.at ≤ c.room.result / c.args.s.glyph.0) = MatchOption-at_some _ _ _ c.in-Some.is c.word_within.ensures in found_here)).1 in fitting_here))
+    (c.requires.place, (most-fits c.args.p.cursor c.room.result c.args.s.glyph.0 c.room.ensures _ (MatchOption-at_some _ _ _ c.in-Some.is c.word_within.ensures).1))
 
 pub returns-in-Some : goal.returns-in-Some
 returns-in-Some c =
-    record { word = ((let found_here : PlainWord c.args.text.now c.args.at c.in-Some.end × (c.in-Some.end - c.args.at ≤ c.room.result / c.args.s.glyph.0) = MatchOption-at_some _ _ _ c.in-Some.is c.word_within.ensures in found_here)).0; chars = refl; fits = (let fitting_here : fits_in c.args.p.cursor ((c.in-Some.end - c.args.at) * c.args.s.glyph.0) ≡ true = most-fits c.args.p.cursor c.room.result c.args.s.glyph.0 c.room.ensures _ ((let found_here : PlainWord c.args.text.now c.args.at c.in-Some.end × (c.in-Some.end - c.args.at ≤ c.room.result / c.args.s.glyph.0) = MatchOption-at_some _ _ _ c.in-Some.is c.word_within.ensures in found_here)).1 in fitting_here); place = c.word_place-place.ensures }
+    record { word = (MatchOption-at_some _ _ _ c.in-Some.is c.word_within.ensures).0; chars = refl; fits = (most-fits c.args.p.cursor c.room.result c.args.s.glyph.0 c.room.ensures _ (MatchOption-at_some _ _ _ c.in-Some.is c.word_within.ensures).1); place = c.word_place-place.ensures }

@@ -11,12 +11,12 @@ loop-at-init c =
 
 pub overflow_add-at : goal.overflow_add-at
 overflow_add-at c =
-    omega (arith, (let inside_here : c.loop-at.at + 3 ≤ length c.args.text.now = (mark-room _ _ 3 ((let two_here : Zeros c.args.text.now c.loop-at.at = c.two_zeros.ensures c.loop-at-test.true in two_here)).0).2 in inside_here))
+    omega (arith, ((mark-room _ _ 3 (c.two_zeros.ensures c.loop-at-test.true).0).2))
 
 pub loop-at-smaller : goal.loop-at-smaller
 loop-at-smaller c =
-    omega (arith, (let inside_here : c.loop-at.at + 3 ≤ length c.args.text.now = (mark-room _ _ 3 ((let two_here : Zeros c.args.text.now c.loop-at.at = c.two_zeros.ensures c.loop-at-test.true in two_here)).0).2 in inside_here))
+    omega (arith, ((mark-room _ _ 3 (c.two_zeros.ensures c.loop-at-test.true).0).2))
 
 pub loop-at-preserved : goal.loop-at-preserved
 loop-at-preserved c =
-    λ s p m e r. let o = c.loop-at.invariant s p m e r in onward-on o (zeros_onward s p _ m e o.ready ((let two_here : Zeros c.args.text.now c.loop-at.at = c.two_zeros.ensures c.loop-at-test.true in two_here)))
+    λ s p m e r. let o = c.loop-at.invariant s p m e r in onward-on o (zeros_onward s p _ m e o.ready (c.two_zeros.ensures c.loop-at-test.true))

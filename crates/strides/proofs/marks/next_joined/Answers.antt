@@ -1,5 +1,5 @@
 -- `strides::marks::next_joined` meets its contract (rule 8).
-use Rattle.std.proofs.Common.{ℕ, ◌+◌, ◌*◌, ◌≤◌, ◌≡◌, refl, sym, ap, subst, ◌∙◌, true, List, arith, length, le-leb}
+use Rattle.std.proofs.Common.{ℕ, ◌+◌, ◌*◌, ◌≤◌, ◌≡◌, refl, sym, ap, ◌∙◌, true, List, arith, length, le-leb}
 use Rattle.std.specs.Prelude.{Some}
 use Rattle.meaning.specs.Tokens.{tokens}
 use Rattle.meaning.specs.Cursor.{room_of, fits_in}
@@ -23,15 +23,15 @@ few t from w e h = let y = (read-pending t from (word_of w) e).stands in
 
 pub scan_word-word-requires : goal.scan_word-word-requires
 scan_word-word-requires c =
-    omega (arith, plain-inside _ _ ((let plain_here : plain_at c.args.text.now (c.args.at + 2) ≡ true = sym c.plain_at.ensures ∙ c.if-not-plain_at.false in plain_here)), c.requires.0.short)
+    omega (arith, plain-inside _ _ (sym c.plain_at.ensures ∙ c.if-not-plain_at.false), c.requires.0.short)
 
 pub overflow_mul-word : goal.overflow_mul-word
 overflow_mul-word c =
-    record { fits = omega (arith, (let wide_here : c.scan_word-word.result.chars.0 * c.args.s.glyph.0 ≤ 65535 * 64 = times_bound {n = 65535} {m = 64} _ _ (few _ _ _ ((let word_here : lexed_at (c.args.at + 2) (tokens (chars_from c.args.text.now (c.args.at + 2))) ≡ Some (word_of c.scan_word-word.result) = sym (ap (λ (w : Scanned). Some (word_of w)) c.scan_word-word.ensures ∙ letter-lexed _ _ 1 (letter-plain _ _ ((let plain_here : plain_at c.args.text.now (c.args.at + 2) ≡ true = sym c.plain_at.ensures ∙ c.if-not-plain_at.false in plain_here)))) in word_here)) c.requires.0.short) c.requires.0.settings.1 in wide_here)) }
+    record { fits = omega (arith, (times_bound {n = 65535} {m = 64} _ _ (few _ _ _ (sym (ap (λ (w : Scanned). Some (word_of w)) c.scan_word-word.ensures ∙ letter-lexed _ _ 1 (letter-plain _ _ (sym c.plain_at.ensures ∙ c.if-not-plain_at.false)))) c.requires.0.short) c.requires.0.settings.1)) }
 
 pub overflow_add-word : goal.overflow_add-word
 overflow_add-word c =
-    record { fits = omega (arith, (let wide_here : c.scan_word-word.result.chars.0 * c.args.s.glyph.0 ≤ 65535 * 64 = times_bound {n = 65535} {m = 64} _ _ (few _ _ _ ((let word_here : lexed_at (c.args.at + 2) (tokens (chars_from c.args.text.now (c.args.at + 2))) ≡ Some (word_of c.scan_word-word.result) = sym (ap (λ (w : Scanned). Some (word_of w)) c.scan_word-word.ensures ∙ letter-lexed _ _ 1 (letter-plain _ _ ((let plain_here : plain_at c.args.text.now (c.args.at + 2) ≡ true = sym c.plain_at.ensures ∙ c.if-not-plain_at.false in plain_here)))) in word_here)) c.requires.0.short) c.requires.0.settings.1 in wide_here), c.requires.0.settings) }
+    record { fits = omega (arith, (times_bound {n = 65535} {m = 64} _ _ (few _ _ _ (sym (ap (λ (w : Scanned). Some (word_of w)) c.scan_word-word.ensures ∙ letter-lexed _ _ 1 (letter-plain _ _ (sym c.plain_at.ensures ∙ c.if-not-plain_at.false)))) c.requires.0.short) c.requires.0.settings.1), c.requires.0.settings) }
 
 pub word_place-place-requires : goal.word_place-place-requires
 unfolding fits_in
@@ -41,9 +41,9 @@ word_place-place-requires c =
 pub returns : goal.returns
 returns c =
     record {
-      hyphen = (let hyphen_here : Mark c.args.text.now c.args.at 2 = c.hyphen_at.ensures c.if-not-hyphen_at.false in hyphen_here);
-      word = (let word_here : lexed_at (c.args.at + 2) (tokens (chars_from c.args.text.now (c.args.at + 2))) ≡ Some (word_of c.scan_word-word.result) = sym (ap (λ (w : Scanned). Some (word_of w)) c.scan_word-word.ensures ∙ letter-lexed _ _ 1 (letter-plain _ _ ((let plain_here : plain_at c.args.text.now (c.args.at + 2) ≡ true = sym c.plain_at.ensures ∙ c.if-not-plain_at.false in plain_here)))) in word_here);
-      behind = (let behind_here : Mark c.args.text.now c.scan_word-word.result.end.0 2 = c.hyphen_at-2.ensures c.if-not-hyphen_at-2.false in behind_here);
+      hyphen = (c.hyphen_at.ensures c.if-not-hyphen_at.false);
+      word = (sym (ap (λ (w : Scanned). Some (word_of w)) c.scan_word-word.ensures ∙ letter-lexed _ _ 1 (letter-plain _ _ (sym c.plain_at.ensures ∙ c.if-not-plain_at.false))));
+      behind = (c.hyphen_at-2.ensures c.if-not-hyphen_at-2.false);
       empty = c.requires.1;
       fits = (let fits_here : c.scan_word-word.result.chars.0 * c.args.s.glyph.0 + c.args.s.glyph.0 ≤ room_of c.args.p.cursor = omega (arith, c.if-room-word.false, c.room.ensures) in fits_here);
       place = c.word_place-place.ensures;

@@ -9,12 +9,12 @@ use Rattle.strides.proofs.next.fitted.Goals as goal
 
 pub overflow_mul-wide : goal.overflow_mul-wide
 overflow_mul-wide c =
-    record { fits = omega (arith, (let wide_here : c.args.pair.word.chars.0 * c.args.s.glyph.0 ≤ 65535 * 64 = times_bound {n = 65535} c.args.pair.word.chars.0 c.args.s.glyph.0 c.requires.2 c.requires.1 in wide_here)) }
+    record { fits = omega (arith, (times_bound {n = 65535} c.args.pair.word.chars.0 c.args.s.glyph.0 c.requires.2 c.requires.1)) }
 
 pub overflow_add-wide : goal.overflow_add-wide
 unfolding spaces_width
 overflow_add-wide c =
-    record { fits = omega (arith, (let wide_here : c.args.pair.word.chars.0 * c.args.s.glyph.0 ≤ 65535 * 64 = times_bound {n = 65535} c.args.pair.word.chars.0 c.args.s.glyph.0 c.requires.2 c.requires.1 in wide_here), (let thin_here : c.spaces_width-space.result ≤ 4161 = omega (arith, c.spaces_width-space.ensures, c.requires.0) in thin_here)) }
+    record { fits = omega (arith, (times_bound {n = 65535} c.args.pair.word.chars.0 c.args.s.glyph.0 c.requires.2 c.requires.1), (let thin_here : c.spaces_width-space.result ≤ 4161 = omega (arith, c.spaces_width-space.ensures, c.requires.0) in thin_here)) }
 
 pub returns-then-room-wide : goal.returns-then-room-wide
 unfolding waiting_at

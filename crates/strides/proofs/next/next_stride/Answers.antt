@@ -12,8 +12,8 @@ plain_pair-requires c =
 
 pub fitted-requires : goal.fitted-requires
 fitted-requires c =
-    (c.requires.0.place, c.requires.0.settings.1, (pair-numbers c.requires.0 _ ((let found_here : Read c.args.text.now c.args.at c.plain_pair.result = plain-read _ _ _ (MatchOption-at_some _ _ _ c.in-Some.is c.stride_end.ensures) _ c.plain_pair.ensures in found_here))).4)
+    (c.requires.0.place, c.requires.0.settings.1, (pair-numbers c.requires.0 _ (plain-read _ _ _ (MatchOption-at_some _ _ _ c.in-Some.is c.stride_end.ensures) _ c.plain_pair.ensures)).4)
 
 pub returns : goal.returns
 returns c =
-    subst (Decides c.args.s c.args.p c.args.text.now c.args.at) (sym c.fitted.ensures) (fitted_decides c.requires _ ((let found_here : Read c.args.text.now c.args.at c.plain_pair.result = plain-read _ _ _ (MatchOption-at_some _ _ _ c.in-Some.is c.stride_end.ensures) _ c.plain_pair.ensures in found_here)))
+    subst (Decides c.args.s c.args.p c.args.text.now c.args.at) (sym c.fitted.ensures) (fitted_decides c.requires _ (plain-read _ _ _ (MatchOption-at_some _ _ _ c.in-Some.is c.stride_end.ensures) _ c.plain_pair.ensures))

@@ -16,11 +16,11 @@ stands_at-requires c =
 
 pub word_measure-after-requires : goal.word_measure-after-requires
 word_measure-after-requires c =
-    (c.requires.place.1, c.requires.settings.1, (first-numbers c.requires ((let found_here : Beginning c.args.s c.args.p c.args.text.now c.args.at c.in-Some.b = subst (FirstIs c.args.s c.args.p c.args.text.now c.args.at) c.in-Some.is c.first_taken.ensures in found_here))).1, omega arith, omega (arith, c.requires.small, c.requires.inside, c.requires.short), omega (arith, c.requires.small, c.requires.inside, c.requires.short))
+    (c.requires.place.1, c.requires.settings.1, (first-numbers c.requires (subst (FirstIs c.args.s c.args.p c.args.text.now c.args.at) c.in-Some.is c.first_taken.ensures)).1, omega arith, omega (arith, c.requires.small, c.requires.inside, c.requires.short), omega (arith, c.requires.small, c.requires.inside, c.requires.short))
 
 pub stands_at-requires-in-Some : goal.stands_at-requires-in-Some
 stands_at-requires-in-Some c =
-    omega (arith, first-numbers c.requires ((let found_here : Beginning c.args.s c.args.p c.args.text.now c.args.at c.in-Some.b = subst (FirstIs c.args.s c.args.p c.args.text.now c.args.at) c.in-Some.is c.first_taken.ensures in found_here)))
+    omega (arith, first-numbers c.requires (subst (FirstIs c.args.s c.args.p c.args.text.now c.args.at) c.in-Some.is c.first_taken.ensures))
 
 pub returns-in-None : goal.returns-in-None
 returns-in-None c =
@@ -28,4 +28,4 @@ returns-in-None c =
 
 pub returns-in-Some : goal.returns-in-Some
 returns-in-Some c =
-    goes_to _ c.nothing_waits-in-Some.ensures c.stands_at-in-Some.ensures (first-onward c.requires ((let found_here : Beginning c.args.s c.args.p c.args.text.now c.args.at c.in-Some.b = subst (FirstIs c.args.s c.args.p c.args.text.now c.args.at) c.in-Some.is c.first_taken.ensures in found_here)) _ c.word_measure-after.ensures)
+    goes_to _ c.nothing_waits-in-Some.ensures c.stands_at-in-Some.ensures (first-onward c.requires (subst (FirstIs c.args.s c.args.p c.args.text.now c.args.at) c.in-Some.is c.first_taken.ensures) _ c.word_measure-after.ensures)

@@ -14,21 +14,21 @@ next_joined-requires c =
 
 pub stands_at-requires : goal.stands_at-requires
 stands_at-requires c =
-    let r = ((let idle_here : Onward c.args.s c.args.p c.args.text.now c.args.at nothing_resumed c.args.m c.args.p c.last_zero-to.result c.args.m = c.last_zero-to.ensures c.args.s c.args.p c.args.m c.requires.1 c.requires.0 in idle_here)).ready in omega (arith, r.inside, r.short)
+    let r = (c.last_zero-to.ensures c.args.s c.args.p c.args.m c.requires.1 c.requires.0).ready in omega (arith, r.inside, r.short)
 
 pub word_measure-after-requires : goal.word_measure-after-requires
 word_measure-after-requires c =
-    let n = joined_numbers c.requires.0 ((let joining_here : Joining c.args.s c.args.p c.args.text.now c.args.at c.in-Some.joined.word c.in-Some.joined.place = subst (JoinedIs c.args.s c.args.p c.args.text.now c.args.at) c.in-Some.is c.next_joined.ensures in joining_here)) in
+    let n = joined_numbers c.requires.0 (subst (JoinedIs c.args.s c.args.p c.args.text.now c.args.at) c.in-Some.is c.next_joined.ensures) in
     (c.requires.0.place.1, c.requires.0.settings.1, n.3, n.2, omega (arith, c.requires.0.small, c.requires.0.inside, c.requires.0.short), omega (arith, c.requires.0.small, c.requires.0.inside, c.requires.0.short))
 
 pub stands_at-requires-in-Some : goal.stands_at-requires-in-Some
 stands_at-requires-in-Some c =
-    (joined_numbers c.requires.0 ((let joining_here : Joining c.args.s c.args.p c.args.text.now c.args.at c.in-Some.joined.word c.in-Some.joined.place = subst (JoinedIs c.args.s c.args.p c.args.text.now c.args.at) c.in-Some.is c.next_joined.ensures in joining_here))).1
+    (joined_numbers c.requires.0 (subst (JoinedIs c.args.s c.args.p c.args.text.now c.args.at) c.in-Some.is c.next_joined.ensures)).1
 
 pub returns-in-None : goal.returns-in-None
 returns-in-None c =
-    record { goes = goes_to _ c.nothing_waits.ensures c.stands_at.ensures ((let idle_here : Onward c.args.s c.args.p c.args.text.now c.args.at nothing_resumed c.args.m c.args.p c.last_zero-to.result c.args.m = c.last_zero-to.ensures c.args.s c.args.p c.args.m c.requires.1 c.requires.0 in idle_here)); empty_value = goes-full _ _ _ _ c.stands_at.ensures c.requires.1 }
+    record { goes = goes_to _ c.nothing_waits.ensures c.stands_at.ensures (c.last_zero-to.ensures c.args.s c.args.p c.args.m c.requires.1 c.requires.0); empty_value = goes-full _ _ _ _ c.stands_at.ensures c.requires.1 }
 
 pub returns-in-Some : goal.returns-in-Some
 returns-in-Some c =
-    record { goes = goes_to _ c.nothing_waits-in-Some.ensures c.stands_at-in-Some.ensures (joined-onward c.requires.0 ((let joining_here : Joining c.args.s c.args.p c.args.text.now c.args.at c.in-Some.joined.word c.in-Some.joined.place = subst (JoinedIs c.args.s c.args.p c.args.text.now c.args.at) c.in-Some.is c.next_joined.ensures in joining_here)) _ c.word_measure-after.ensures); empty_value = goes-full _ _ _ _ c.stands_at-in-Some.ensures (joined-full c.requires.0 ((let joining_here : Joining c.args.s c.args.p c.args.text.now c.args.at c.in-Some.joined.word c.in-Some.joined.place = subst (JoinedIs c.args.s c.args.p c.args.text.now c.args.at) c.in-Some.is c.next_joined.ensures in joining_here))) }
+    record { goes = goes_to _ c.nothing_waits-in-Some.ensures c.stands_at-in-Some.ensures (joined-onward c.requires.0 (subst (JoinedIs c.args.s c.args.p c.args.text.now c.args.at) c.in-Some.is c.next_joined.ensures) _ c.word_measure-after.ensures); empty_value = goes-full _ _ _ _ c.stands_at-in-Some.ensures (joined-full c.requires.0 (subst (JoinedIs c.args.s c.args.p c.args.text.now c.args.at) c.in-Some.is c.next_joined.ensures)) }

@@ -46,31 +46,31 @@ stands_at-requires c =
 
 pub returns-in-TooWide : goal.returns-in-TooWide
 returns-in-TooWide c =
-    goes_wait _ _ c.stands_at.ensures (onward-on c.first_word-g.ensures.onward c.loop-far.invariant.0.onward) refl ((let waits_here : Waits c.args.s c.loop-far.g.place c.args.text.now c.loop-far.g.at.0 c.in-TooWide.w = subst (Decides c.args.s c.loop-far.g.place c.args.text.now c.loop-far.g.at.0) c.in-TooWide.is c.next_pair.ensures in waits_here))
+    goes_wait _ _ c.stands_at.ensures (onward-on c.first_word-g.ensures.onward c.loop-far.invariant.0.onward) refl (subst (Decides c.args.s c.loop-far.g.place c.args.text.now c.loop-far.g.at.0) c.in-TooWide.is c.next_pair.ensures)
 
 pub measure_taken-after-requires : goal.measure_taken-after-requires
 measure_taken-after-requires c =
-    taken-ready ((let taking_here : Taking c.args.s c.loop-far.g.place c.args.text.now c.loop-far.g.at.0 c.in-Fits.t = subst (Decides c.args.s c.loop-far.g.place c.args.text.now c.loop-far.g.at.0) c.in-Fits.is c.next_pair.ensures in taking_here)) c.loop-far.invariant.0.onward.ready
+    taken-ready (subst (Decides c.args.s c.loop-far.g.place c.args.text.now c.loop-far.g.at.0) c.in-Fits.is c.next_pair.ensures) c.loop-far.invariant.0.onward.ready
 
 pub stands_at-g-requires : goal.stands_at-g-requires
 stands_at-g-requires c =
-    omega (arith, taken-numbers ((let taking_here : Taking c.args.s c.loop-far.g.place c.args.text.now c.loop-far.g.at.0 c.in-Fits.t = subst (Decides c.args.s c.loop-far.g.place c.args.text.now c.loop-far.g.at.0) c.in-Fits.is c.next_pair.ensures in taking_here)) c.loop-far.invariant.0.onward.ready)
+    omega (arith, taken-numbers (subst (Decides c.args.s c.loop-far.g.place c.args.text.now c.loop-far.g.at.0) c.in-Fits.is c.next_pair.ensures) c.loop-far.invariant.0.onward.ready)
 
 pub loop-far-smaller : goal.loop-far-smaller
 loop-far-smaller c =
     omega (
       arith,
       goes_at _ _ _ _ c.stands_at-g.ensures,
-      taken-numbers ((let taking_here : Taking c.args.s c.loop-far.g.place c.args.text.now c.loop-far.g.at.0 c.in-Fits.t = subst (Decides c.args.s c.loop-far.g.place c.args.text.now c.loop-far.g.at.0) c.in-Fits.is c.next_pair.ensures in taking_here)) c.loop-far.invariant.0.onward.ready,
-      ((let gone_here : Goes c.args.s c.loop-far.g.place c.args.text.now c.loop-far.g.at.0 nothing_resumed c.loop-far.g.measure c.stands_at-g.result = goes_to _ c.nothing_waits.ensures c.stands_at-g.ensures
+      taken-numbers (subst (Decides c.args.s c.loop-far.g.place c.args.text.now c.loop-far.g.at.0) c.in-Fits.is c.next_pair.ensures) c.loop-far.invariant.0.onward.ready,
+      (goes_to _ c.nothing_waits.ensures c.stands_at-g.ensures
           (subst (λ (m : Measure). Onward c.args.s c.loop-far.g.place c.args.text.now c.loop-far.g.at.0 nothing_resumed c.loop-far.g.measure c.in-Fits.t.place c.in-Fits.t.word.end.0 m)
-          (sym c.measure_taken-after.ensures) (taken-onward ((let taking_here : Taking c.args.s c.loop-far.g.place c.args.text.now c.loop-far.g.at.0 c.in-Fits.t = subst (Decides c.args.s c.loop-far.g.place c.args.text.now c.loop-far.g.at.0) c.in-Fits.is c.next_pair.ensures in taking_here)) c.loop-far.invariant.0.onward.ready)) in gone_here)).onward.ready.inside,
+          (sym c.measure_taken-after.ensures) (taken-onward (subst (Decides c.args.s c.loop-far.g.place c.args.text.now c.loop-far.g.at.0) c.in-Fits.is c.next_pair.ensures) c.loop-far.invariant.0.onward.ready))).onward.ready.inside,
     )
 
 pub loop-far-preserved : goal.loop-far-preserved
 loop-far-preserved c = (
-  goes_on_lem c.loop-far.invariant.0.onward ((let gone_here : Goes c.args.s c.loop-far.g.place c.args.text.now c.loop-far.g.at.0 nothing_resumed c.loop-far.g.measure c.stands_at-g.result = goes_to _ c.nothing_waits.ensures c.stands_at-g.ensures
+  goes_on_lem c.loop-far.invariant.0.onward (goes_to _ c.nothing_waits.ensures c.stands_at-g.ensures
       (subst (λ (m : Measure). Onward c.args.s c.loop-far.g.place c.args.text.now c.loop-far.g.at.0 nothing_resumed c.loop-far.g.measure c.in-Fits.t.place c.in-Fits.t.word.end.0 m)
-      (sym c.measure_taken-after.ensures) (taken-onward ((let taking_here : Taking c.args.s c.loop-far.g.place c.args.text.now c.loop-far.g.at.0 c.in-Fits.t = subst (Decides c.args.s c.loop-far.g.place c.args.text.now c.loop-far.g.at.0) c.in-Fits.is c.next_pair.ensures in taking_here)) c.loop-far.invariant.0.onward.ready)) in gone_here)),
-  goes-full _ _ _ _ c.stands_at-g.ensures (taken-full ((let taking_here : Taking c.args.s c.loop-far.g.place c.args.text.now c.loop-far.g.at.0 c.in-Fits.t = subst (Decides c.args.s c.loop-far.g.place c.args.text.now c.loop-far.g.at.0) c.in-Fits.is c.next_pair.ensures in taking_here))),
+      (sym c.measure_taken-after.ensures) (taken-onward (subst (Decides c.args.s c.loop-far.g.place c.args.text.now c.loop-far.g.at.0) c.in-Fits.is c.next_pair.ensures) c.loop-far.invariant.0.onward.ready))),
+  goes-full _ _ _ _ c.stands_at-g.ensures (taken-full (subst (Decides c.args.s c.loop-far.g.place c.args.text.now c.loop-far.g.at.0) c.in-Fits.is c.next_pair.ensures)),
 )

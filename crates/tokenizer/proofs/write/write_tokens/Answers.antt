@@ -2,7 +2,7 @@ use Rattle.std.proofs.Common.{refl, sym, ap, ◌∙◌, List, ℕ, ◌+◌, ◌*
 use lib.Seq.{sets}
 use Rattle.meaning.specs.Table.{token_numbers}
 use Rattle.tokenizer.specs.Writing.{numbers_from}
-use Rattle.parser.specs.NextLaws.{Next, next, next-none}
+use Rattle.parser.specs.NextLaws.{next, next-none}
 use Rattle.tokenizer.proofs.WriteLaws.{sets_more, sets-none}
 use Rattle.tokenizer.proofs.write.write_tokens.Goals as goal
 
@@ -12,16 +12,16 @@ loop-lexeme-init c =
 
 pub put_token-requires : goal.put_token-requires
 put_token-requires c =
-    let s = (let step_here : Next c.args.text.now c.loop-lexeme.at c.in-Some.lexeme = next c.args.text.now c.loop-lexeme.at _ (sym c.token_at.ensures ∙ c.in-Some.is) in step_here) in omega (arith, ap length s.more)
+    let s = next c.args.text.now c.loop-lexeme.at c.in-Some.lexeme (sym c.token_at.ensures ∙ c.in-Some.is) in omega (arith, ap length s.more)
 
 pub loop-lexeme-smaller : goal.loop-lexeme-smaller
 loop-lexeme-smaller c =
-    let s = (let step_here : Next c.args.text.now c.loop-lexeme.at c.in-Some.lexeme = next c.args.text.now c.loop-lexeme.at _ (sym c.token_at.ensures ∙ c.in-Some.is) in step_here) in
+    let s = next c.args.text.now c.loop-lexeme.at c.in-Some.lexeme (sym c.token_at.ensures ∙ c.in-Some.is) in
     omega arith
 
 pub loop-lexeme-preserved : goal.loop-lexeme-preserved
 loop-lexeme-preserved c =
-    let s = (let step_here : Next c.args.text.now c.loop-lexeme.at c.in-Some.lexeme = next c.args.text.now c.loop-lexeme.at _ (sym c.token_at.ensures ∙ c.in-Some.is) in step_here) in (
+    let s = next c.args.text.now c.loop-lexeme.at c.in-Some.lexeme (sym c.token_at.ensures ∙ c.in-Some.is) in (
       ap (λ (b : List ℕ). sets b (token_numbers * (c.loop-lexeme.n + 1)) (numbers_from c.args.text.now c.in-Some.lexeme.end.0)) c.put_token.ensures
           ∙ sets_more c.args.text.now c.loop-lexeme.buffer c.loop-lexeme.n c.loop-lexeme.at _ s ∙ c.loop-lexeme.invariant.0,
       omega (arith, ap length s.more),
