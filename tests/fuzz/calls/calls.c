@@ -294,14 +294,20 @@ static uint32_t layout(void)
     return refused;
 }
 
+/* A table of so many lines, and a list of so many entries of so many numbers each. */
+static void wrote_both(size_t numbers)
+{
+    wrote(TABLE, value(), LINE_BYTES);
+    wrote(SECOND, *WIDE_AT(COUNT), 4 * numbers);
+    wrote_one(COUNT);
+}
+
 static uint32_t layout_events(void)
 {
     uint32_t refused = bisquemop_settings_layout_events(&given.s, BYTES_OF(TEXT), NUMBERS_OF(TABLE), NUMBERS_OF(SECOND),
                                                         WIDE_AT(VALUE), WIDE_AT(COUNT));
     if (refused == BISQUEMOP_OK) {
-        wrote(TABLE, value(), LINE_BYTES);
-        wrote(SECOND, *WIDE_AT(COUNT), 4 * (size_t)BISQUEMOP_EVENT_NUMBERS);
-        wrote_one(COUNT);
+        wrote_both(BISQUEMOP_EVENT_NUMBERS);
     }
     return refused;
 }
@@ -469,9 +475,7 @@ static uint32_t pages(void)
     uint32_t refused = bisquemop_settings_pages(&given.s, BYTES_OF(TEXT), given.h, NUMBERS_OF(TABLE),
                                                 NUMBERS_OF(SECOND), WIDE_AT(VALUE), WIDE_AT(COUNT));
     if (refused == BISQUEMOP_OK) {
-        wrote(TABLE, value(), LINE_BYTES);
-        wrote(SECOND, *WIDE_AT(COUNT), 4 * (size_t)BISQUEMOP_PAGE_NUMBERS);
-        wrote_one(COUNT);
+        wrote_both(BISQUEMOP_PAGE_NUMBERS);
     }
     return refused;
 }
