@@ -5141,26 +5141,29 @@ start:
   %r5 = alloca i32, align 4
   %r6 = alloca [68 x i8], align 4
   %r7 = alloca i8, align 1
-  %r8 = alloca [4 x i8], align 4
+  %r8 = alloca i32, align 4
+  %r9 = alloca [4 x i8], align 4
+  %r10 = alloca [4 x i8], align 4
   call void @llvm.memset.p0.i64(ptr %r0, i8 0, i64 8, i1 false)
   call void @llvm.memset.p0.i64(ptr %r4, i8 0, i64 52, i1 false)
   call void @llvm.memset.p0.i64(ptr %r6, i8 0, i64 68, i1 false)
-  call void @llvm.memset.p0.i64(ptr %r8, i8 0, i64 4, i1 false)
-  %r9 = load ptr, ptr %r1, align 8, !noundef !1
-  %r10 = getelementptr i8, ptr %r1, i64 8
-  %r11 = load i64, ptr %r10, align 8, !noundef !1
-  call void @"stands::stand::at_start"(ptr %r4, ptr %r9, i64 %r11)
+  call void @llvm.memset.p0.i64(ptr %r9, i8 0, i64 4, i1 false)
+  call void @llvm.memset.p0.i64(ptr %r10, i8 0, i64 4, i1 false)
+  %r11 = load ptr, ptr %r1, align 8, !noundef !1
+  %r12 = getelementptr i8, ptr %r1, i64 8
+  %r13 = load i64, ptr %r12, align 8, !noundef !1
+  call void @"stands::stand::at_start"(ptr %r4, ptr %r11, i64 %r13)
   store i32 0, ptr %r5, align 4
   br label %loop.2
 
-loop.2:                                           ; preds = %join.8, %start
-  %r12 = load i32, ptr %r5, align 4, !noundef !1
-  %r13 = icmp ult i32 %r12, %a3
-  %r14 = zext i1 %r13 to i8
-  store i8 %r14, ptr %r7, align 1
-  %r15 = load i8, ptr %r7, align 1, !range !2, !noundef !1
-  %r16 = trunc i8 %r15 to i1
-  br i1 %r16, label %then.3, label %else.4
+loop.2:                                           ; preds = %join.12, %start
+  %r14 = load i32, ptr %r5, align 4, !noundef !1
+  %r15 = icmp ult i32 %r14, %a3
+  %r16 = zext i1 %r15 to i8
+  store i8 %r16, ptr %r7, align 1
+  %r17 = load i8, ptr %r7, align 1, !range !2, !noundef !1
+  %r18 = trunc i8 %r17 to i1
+  br i1 %r18, label %then.3, label %else.4
 
 then.3:                                           ; preds = %loop.2
   br label %join.5
@@ -5169,18 +5172,18 @@ else.4:                                           ; preds = %loop.2
   br label %after.1
 
 join.5:                                           ; preds = %then.3
-  %r17 = load ptr, ptr %r1, align 8, !noundef !1
-  %r18 = getelementptr i8, ptr %r1, i64 8
-  %r19 = load i64, ptr %r18, align 8, !noundef !1
-  call void @"rows::stand::lay_row"(ptr %r6, ptr %r17, i64 %r19, ptr %r3, ptr %r4)
-  %r20 = getelementptr i8, ptr %r6, i64 44
-  %r21 = load i8, ptr %r20, align 1, !range !2, !noundef !1
-  %r22 = trunc i8 %r21 to i1
-  %r23 = zext i1 %r22 to i8
-  store i8 %r23, ptr %r7, align 1
-  %r24 = load i8, ptr %r7, align 1, !range !2, !noundef !1
-  %r25 = trunc i8 %r24 to i1
-  br i1 %r25, label %then.6, label %else.7
+  %r19 = load ptr, ptr %r1, align 8, !noundef !1
+  %r20 = getelementptr i8, ptr %r1, i64 8
+  %r21 = load i64, ptr %r20, align 8, !noundef !1
+  call void @"rows::stand::lay_row"(ptr %r6, ptr %r19, i64 %r21, ptr %r3, ptr %r4)
+  %r22 = getelementptr i8, ptr %r6, i64 44
+  %r23 = load i8, ptr %r22, align 1, !range !2, !noundef !1
+  %r24 = trunc i8 %r23 to i1
+  %r25 = zext i1 %r24 to i8
+  store i8 %r25, ptr %r7, align 1
+  %r26 = load i8, ptr %r7, align 1, !range !2, !noundef !1
+  %r27 = trunc i8 %r26 to i1
+  br i1 %r27, label %then.6, label %else.7
 
 then.6:                                           ; preds = %join.5
   store i32 0, ptr %r0, align 1
@@ -5190,25 +5193,48 @@ else.7:                                           ; preds = %join.5
   br label %join.8
 
 join.8:                                           ; preds = %else.7
-  %r26 = load ptr, ptr %r1, align 8, !noundef !1
-  %r27 = getelementptr i8, ptr %r1, i64 8
-  %r28 = load i64, ptr %r27, align 8, !noundef !1
-  call void @"stands::stand::next_stand"(ptr %r4, ptr %r26, i64 %r28, ptr %r4, ptr %r6)
-  %r29 = load i32, ptr %r5, align 4, !noundef !1
-  %r30 = add i32 %r29, 1
-  store i32 %r30, ptr %r5, align 4
+  %r28 = load i32, ptr %r5, align 4, !noundef !1
+  %r29 = add i32 %r28, 1
+  store i32 %r29, ptr %r8, align 4
+  %r30 = load i32, ptr %r8, align 4, !noundef !1
+  %r31 = icmp eq i32 %r30, %a3
+  %r32 = zext i1 %r31 to i8
+  store i8 %r32, ptr %r7, align 1
+  %r33 = load i8, ptr %r7, align 1, !range !2, !noundef !1
+  %r34 = trunc i8 %r33 to i1
+  br i1 %r34, label %then.10, label %else.11
+
+then.10:                                          ; preds = %join.8
+  %r35 = getelementptr i8, ptr %r6, i64 48
+  call void @llvm.memmove.p0.p0.i64(ptr %r9, ptr %r35, i64 4, i1 false)
+  store i32 1, ptr %r0, align 1
+  %r36 = getelementptr i8, ptr %r0, i64 4
+  call void @llvm.memmove.p0.p0.i64(ptr %r36, ptr %r9, i64 4, i1 false)
+  br label %return.9
+
+else.11:                                          ; preds = %join.8
+  br label %join.12
+
+join.12:                                          ; preds = %else.11
+  %r37 = load ptr, ptr %r1, align 8, !noundef !1
+  %r38 = getelementptr i8, ptr %r1, i64 8
+  %r39 = load i64, ptr %r38, align 8, !noundef !1
+  call void @"stands::stand::next_stand"(ptr %r4, ptr %r37, i64 %r39, ptr %r4, ptr %r6)
+  %r40 = load i32, ptr %r5, align 4, !noundef !1
+  %r41 = add i32 %r40, 1
+  store i32 %r41, ptr %r5, align 4
   br label %loop.2
 
 after.1:                                          ; preds = %else.4
-  call void @llvm.memmove.p0.p0.i64(ptr %r8, ptr %r4, i64 4, i1 false)
+  call void @llvm.memmove.p0.p0.i64(ptr %r10, ptr %r4, i64 4, i1 false)
   store i32 1, ptr %r0, align 1
-  %r31 = getelementptr i8, ptr %r0, i64 4
-  call void @llvm.memmove.p0.p0.i64(ptr %r31, ptr %r8, i64 4, i1 false)
+  %r42 = getelementptr i8, ptr %r0, i64 4
+  call void @llvm.memmove.p0.p0.i64(ptr %r42, ptr %r10, i64 4, i1 false)
   br label %return.9
 
-return.9:                                         ; preds = %after.1, %then.6
-  %r32 = load { i8, i32 }, ptr %r0, align 4
-  ret { i8, i32 } %r32
+return.9:                                         ; preds = %after.1, %then.10, %then.6
+  %r43 = load { i8, i32 }, ptr %r0, align 4
+  ret { i8, i32 } %r43
 }
 
 ; Function Attrs: nounwind
@@ -20897,23 +20923,24 @@ start:
   %r5 = alloca i32, align 4
   %r6 = alloca [68 x i8], align 4
   %r7 = alloca i8, align 1
+  %r8 = alloca i32, align 4
   call void @llvm.memset.p0.i64(ptr %r4, i8 0, i64 52, i1 false)
   call void @llvm.memset.p0.i64(ptr %r6, i8 0, i64 68, i1 false)
-  %r8 = load ptr, ptr %r1, align 8, !noundef !1
-  %r9 = getelementptr i8, ptr %r1, i64 8
-  %r10 = load i64, ptr %r9, align 8, !noundef !1
-  call void @"stands::stand::at_start"(ptr %r4, ptr %r8, i64 %r10)
+  %r9 = load ptr, ptr %r1, align 8, !noundef !1
+  %r10 = getelementptr i8, ptr %r1, i64 8
+  %r11 = load i64, ptr %r10, align 8, !noundef !1
+  call void @"stands::stand::at_start"(ptr %r4, ptr %r9, i64 %r11)
   store i32 0, ptr %r5, align 4
   br label %loop.2
 
-loop.2:                                           ; preds = %join.11, %start
-  %r11 = load i32, ptr %r5, align 4, !noundef !1
-  %r12 = icmp ult i32 %r11, %a3
-  %r13 = zext i1 %r12 to i8
-  store i8 %r13, ptr %r7, align 1
-  %r14 = load i8, ptr %r7, align 1, !range !2, !noundef !1
-  %r15 = trunc i8 %r14 to i1
-  br i1 %r15, label %then.3, label %else.4
+loop.2:                                           ; preds = %join.14, %start
+  %r12 = load i32, ptr %r5, align 4, !noundef !1
+  %r13 = icmp ult i32 %r12, %a3
+  %r14 = zext i1 %r13 to i8
+  store i8 %r14, ptr %r7, align 1
+  %r15 = load i8, ptr %r7, align 1, !range !2, !noundef !1
+  %r16 = trunc i8 %r15 to i1
+  br i1 %r16, label %then.3, label %else.4
 
 then.3:                                           ; preds = %loop.2
   br label %join.5
@@ -20922,65 +20949,87 @@ else.4:                                           ; preds = %loop.2
   br label %after.1
 
 join.5:                                           ; preds = %then.3
-  %r16 = load ptr, ptr %r1, align 8, !noundef !1
-  %r17 = getelementptr i8, ptr %r1, i64 8
-  %r18 = load i64, ptr %r17, align 8, !noundef !1
-  call void @"rows::stand::lay_row"(ptr %r6, ptr %r16, i64 %r18, ptr %r3, ptr %r4)
-  %r19 = getelementptr i8, ptr %r6, i64 32
-  %r20 = load i32, ptr %r19, align 4, !noundef !1
-  %r21 = icmp ne i32 %r20, 0
-  %r22 = zext i1 %r21 to i8
-  store i8 %r22, ptr %r7, align 1
-  %r23 = load i8, ptr %r7, align 1, !range !2, !noundef !1
-  %r24 = trunc i8 %r23 to i1
-  br i1 %r24, label %then.6, label %else.7
+  %r17 = load ptr, ptr %r1, align 8, !noundef !1
+  %r18 = getelementptr i8, ptr %r1, i64 8
+  %r19 = load i64, ptr %r18, align 8, !noundef !1
+  call void @"rows::stand::lay_row"(ptr %r6, ptr %r17, i64 %r19, ptr %r3, ptr %r4)
+  %r20 = getelementptr i8, ptr %r6, i64 32
+  %r21 = load i32, ptr %r20, align 4, !noundef !1
+  %r22 = icmp ne i32 %r21, 0
+  %r23 = zext i1 %r22 to i8
+  store i8 %r23, ptr %r7, align 1
+  %r24 = load i8, ptr %r7, align 1, !range !2, !noundef !1
+  %r25 = trunc i8 %r24 to i1
+  br i1 %r25, label %then.6, label %else.7
 
 then.6:                                           ; preds = %join.5
-  %r25 = zext i1 false to i8
-  store i8 %r25, ptr %r0, align 1
-  %r26 = load i8, ptr %r0, align 1, !range !2, !noundef !1
-  %r27 = trunc i8 %r26 to i1
-  ret i1 %r27
+  %r26 = zext i1 false to i8
+  store i8 %r26, ptr %r0, align 1
+  %r27 = load i8, ptr %r0, align 1, !range !2, !noundef !1
+  %r28 = trunc i8 %r27 to i1
+  ret i1 %r28
 
 else.7:                                           ; preds = %join.5
   br label %join.8
 
 join.8:                                           ; preds = %else.7
-  %r28 = getelementptr i8, ptr %r6, i64 44
-  %r29 = load i8, ptr %r28, align 1, !range !2, !noundef !1
-  %r30 = trunc i8 %r29 to i1
-  %r31 = zext i1 %r30 to i8
-  store i8 %r31, ptr %r7, align 1
-  %r32 = load i8, ptr %r7, align 1, !range !2, !noundef !1
-  %r33 = trunc i8 %r32 to i1
-  br i1 %r33, label %then.9, label %else.10
+  %r29 = getelementptr i8, ptr %r6, i64 44
+  %r30 = load i8, ptr %r29, align 1, !range !2, !noundef !1
+  %r31 = trunc i8 %r30 to i1
+  %r32 = zext i1 %r31 to i8
+  store i8 %r32, ptr %r7, align 1
+  %r33 = load i8, ptr %r7, align 1, !range !2, !noundef !1
+  %r34 = trunc i8 %r33 to i1
+  br i1 %r34, label %then.9, label %else.10
 
 then.9:                                           ; preds = %join.8
-  %r34 = zext i1 true to i8
-  store i8 %r34, ptr %r0, align 1
-  %r35 = load i8, ptr %r0, align 1, !range !2, !noundef !1
-  %r36 = trunc i8 %r35 to i1
-  ret i1 %r36
+  %r35 = zext i1 true to i8
+  store i8 %r35, ptr %r0, align 1
+  %r36 = load i8, ptr %r0, align 1, !range !2, !noundef !1
+  %r37 = trunc i8 %r36 to i1
+  ret i1 %r37
 
 else.10:                                          ; preds = %join.8
   br label %join.11
 
 join.11:                                          ; preds = %else.10
-  %r37 = load ptr, ptr %r1, align 8, !noundef !1
-  %r38 = getelementptr i8, ptr %r1, i64 8
-  %r39 = load i64, ptr %r38, align 8, !noundef !1
-  call void @"stands::stand::next_stand"(ptr %r4, ptr %r37, i64 %r39, ptr %r4, ptr %r6)
-  %r40 = load i32, ptr %r5, align 4, !noundef !1
-  %r41 = add i32 %r40, 1
-  store i32 %r41, ptr %r5, align 4
+  %r38 = load i32, ptr %r5, align 4, !noundef !1
+  %r39 = add i32 %r38, 1
+  store i32 %r39, ptr %r8, align 4
+  %r40 = load i32, ptr %r8, align 4, !noundef !1
+  %r41 = icmp eq i32 %r40, %a3
+  %r42 = zext i1 %r41 to i8
+  store i8 %r42, ptr %r7, align 1
+  %r43 = load i8, ptr %r7, align 1, !range !2, !noundef !1
+  %r44 = trunc i8 %r43 to i1
+  br i1 %r44, label %then.12, label %else.13
+
+then.12:                                          ; preds = %join.11
+  %r45 = zext i1 false to i8
+  store i8 %r45, ptr %r0, align 1
+  %r46 = load i8, ptr %r0, align 1, !range !2, !noundef !1
+  %r47 = trunc i8 %r46 to i1
+  ret i1 %r47
+
+else.13:                                          ; preds = %join.11
+  br label %join.14
+
+join.14:                                          ; preds = %else.13
+  %r48 = load ptr, ptr %r1, align 8, !noundef !1
+  %r49 = getelementptr i8, ptr %r1, i64 8
+  %r50 = load i64, ptr %r49, align 8, !noundef !1
+  call void @"stands::stand::next_stand"(ptr %r4, ptr %r48, i64 %r50, ptr %r4, ptr %r6)
+  %r51 = load i32, ptr %r5, align 4, !noundef !1
+  %r52 = add i32 %r51, 1
+  store i32 %r52, ptr %r5, align 4
   br label %loop.2
 
 after.1:                                          ; preds = %else.4
-  %r42 = zext i1 false to i8
-  store i8 %r42, ptr %r0, align 1
-  %r43 = load i8, ptr %r0, align 1, !range !2, !noundef !1
-  %r44 = trunc i8 %r43 to i1
-  ret i1 %r44
+  %r53 = zext i1 false to i8
+  store i8 %r53, ptr %r0, align 1
+  %r54 = load i8, ptr %r0, align 1, !range !2, !noundef !1
+  %r55 = trunc i8 %r54 to i1
+  ret i1 %r55
 }
 
 ; Function Attrs: nounwind

@@ -121,6 +121,13 @@ module _ (s : Settings) (t : List ℕ) (n : ℕ) (p : Stand) (c : Passed s t n p
           left = behind (entries_from s t 0 q) (more_entries s t 0 p c.ready x is x.entry (entry_here s t p c.ready x is) q on h);
         }
 
+    -- A stand on the line behind any other, which need not be laid.
+    abbrev next : Stand
+    next = record { at = x.next; before = record { 0 = p.before.0 + x.chars.0 }; rest = x.rest; known = p.known }
+
+    next-stands : StandsAt t x.next (p.before.0 + x.chars.0) x.rest next
+    next-stands = record { at-is = refl; before-is = refl; rest-is = refl; known = c.ready.known }
+
     -- What is taken where the loop meets the last line.
     pub take_whole : (h : ℕ) → x.last ≡ true → n < h → None ≡ taken s h t
     unfolding within_lines
@@ -136,3 +143,9 @@ take_part s t n p c h m =
     let es = entries_of s t in
     let many : h < length es = omega (arith, ap length c.left, length-drop n es, some_entries s t 0 p) in
     rw (layout_is s t, ← m, c.left, starts-here s t p (size (decode_all t)), m, lt-leb (length es) h many)
+
+-- What is taken where one more is laid, which is the last of them and not of the text.
+pub take_next : (s : Settings) (t : List ℕ) (n : ℕ) (p : Stand) (c : Passed s t n p) (x : LaidRow) (is : x ≡ laid_row s t p) → (h : ℕ)
+    → x.last ≡ false → n + 1 ≡ h → Some x.next ≡ taken s h t
+take_next s t n p c x is h e m =
+    take_part s t (n + 1) (next s t n p c x is) (pass-next s t n p c x is (next s t n p c x is) (next-stands s t n p c x is) e) h m

@@ -2,46 +2,79 @@
 -- Assumes nothing.
 use Prim.Native.Nat.{ℕ, zero, suc, ◌+◌, ◌-◌, ◌≤◌, ◌<◌}
 use Rattle.meaning.specs.Refusals.{Checked}
-use Rattle.std.specs.Prelude.{◌≡◌, refl, List, [], ◌∷◌, ◌++◌}
+use Rattle.std.specs.Prelude.{◌≡◌, refl, List, [], ◌∷◌, ◌++◌, Ok}
 use Rattle.std.proofs.Common.{sym, subst, ◌∙◌, drop-drop, take-take}
 use Rattle.std.proofs.Math.Path.{ap}
 use native.Mathlib.Omega.{arith}
 use Rattle.std.proofs.Math.ListN.{length, take, drop, length-drop}
 use Rattle.std.proofs.Math.Seq.{take-nil}
-use Rattle.meaning.specs.Checks.{check_text}
+use Rattle.meaning.specs.Checks.{text_limit, check_text}
 use Rattle.meaning.specs.Month.{most_clues, stream_lines}
 use Rattle.meaning.specs.declared.settings.Settings.{Settings}
 use Rattle.meaning.specs.declared.figures.Figures.{Figures}
 use Rattle.parser.specs.GoodText.{good_length}
 use Rattle.moves.specs.Fine.{FineSettings}
-use Rattle.clues.specs.Summing.{Narrow, EachOf, added_to, each_more}
-use Rattle.clues.specs.Adding.{AllReady}
-use Rattle.clues.specs.Gathering.{with_clue, with_clues}
+use Rattle.clues.specs.Summing.{Narrow, EachOf, added_to, added-length, sums-added, each_more, each-length}
+use Rattle.month_figures.specs.Sums.{sums_of, sums-all}
+use Rattle.clues.specs.Adding.{EachReady}
+use Rattle.clues.specs.Gathering.{with_clue, with_clues, sums-with_clues}
 use Rattle.clues.specs.Feeds.{before_feed, ended-line, before-most}
 
 -- The figures at the end, where n clues are counted and the stream goes on with these bytes.
 unfoldable pub counting : Settings → (widths : List ℕ) → (n : ℕ) → List Figures → (bytes : List ℕ) → List Figures
 counting s ws n fs bytes = with_clues s ws fs (take (most_clues - n) (stream_lines bytes))
 
--- What counting takes for granted: the sums are, for each width, the figures of n clues.
+-- Where the array has figures for all widths, and maybe more, these go as all of it goes.
+pub sums-go : (s : Settings) (ws : List ℕ) (n m : ℕ) (u v : List Figures) (xs ys : List ℕ) → length ws ≤ length u → length ws ≤ length v
+    → counting s ws m v ys ≡ counting s ws n u xs → counting s ws m (sums_of ws v) ys ≡ counting s ws n (sums_of ws u) xs
+unfolding counting
+sums-go s ws n m u v xs ys h g e =
+    sym (sums-with_clues s ws v (take (most_clues - m) (stream_lines ys)) g) ∙ ap (sums_of ws) e
+    ∙ sums-with_clues s ws u (take (most_clues - n) (stream_lines xs)) h
+
+-- What counting takes for granted: the array holds, for each width, the figures of n clues.
 pub record Counts (s : Settings) (ws : List ℕ) (u : List Figures) (n : ℕ) : Type 0 where
   pub settings : FineSettings s
   pub widths : Narrow ws
-  pub each : EachOf n ws u
+  pub room : length ws ≤ length u
+  pub each : EachOf n ws (sums_of ws u)
 
-module _ (s : Settings) (ws : List ℕ) (u : List Figures) (n : ℕ) (c : Counts s ws u n) (t : List ℕ) where
-  pub clue_ready : (k : Checked) → k ≡ check_text t → n < most_clues → AllReady s t k ws u
-  clue_ready k e h =
-      record { settings = c.settings; widths = c.widths; short = λ g. good_length t (sym e ∙ g); count = n; few = h; each = c.each }
+-- So it is where it holds them, and no others.
+pub exact-counts : (s : Settings) (ws : List ℕ) (u : List Figures) (n : ℕ) → FineSettings s → Narrow ws → EachOf n ws u → Counts s ws u n
+exact-counts s ws u n fine narrow e =
+    let same = each-length n ws u e in
+    record { settings = fine; widths = narrow; room = omega (arith, same); each = subst (EachOf n ws) (sym (sums-all ws u same)) e }
 
-  pub clue_counts : (u' : List Figures) → u' ≡ added_to s t (check_text t) ws u → Counts s ws u' (n + 1)
-  clue_counts u' e =
-      let one : n + 1 ≡ suc n = omega arith in
-      record {
-        settings = c.settings;
-        widths = c.widths;
-        each = rw (e, one) (each_more s t (check_text t) n ws u (good_length t) c.each);
-      }
+module _ (s : Settings) (ws : List ℕ) (u : List Figures) (n : ℕ) (c : Counts s ws u n) where
+  -- An array that is no longer holds no others.
+  pub counts-exact : length u ≡ length ws → EachOf n ws u
+  counts-exact same = subst (EachOf n ws) (sums-all ws u same) c.each
+
+  module _ (t : List ℕ) where
+    pub clue_ready : (k : Checked) → k ≡ check_text t → n < most_clues → EachReady s t k ws u
+    clue_ready k e h =
+        record {
+          all = record { settings = c.settings; widths = c.widths; short = λ g. good_length t (sym e ∙ g); count = n; few = h; each = c.each };
+          room = c.room;
+        }
+
+    module _ (k : Checked) (short : k ≡ Ok tt → length t ≤ text_limit) (u' : List Figures) where
+      -- One text more, whatever its check said.
+      pub text_counts : length u' ≡ length u → sums_of ws u' ≡ added_to s t k ws (sums_of ws u) → Counts s ws u' (n + 1)
+      text_counts long e =
+          let one : n + 1 ≡ suc n = omega arith in
+          record {
+            settings = c.settings;
+            widths = c.widths;
+            room = omega (arith, c.room, long);
+            each = rw (e, one) (each_more s t k n ws (sums_of ws u) short c.each);
+          }
+
+      pub whole_counts : u' ≡ added_to s t k ws u → Counts s ws u' (n + 1)
+      whole_counts e = text_counts (ap length e ∙ added-length s t k ws u) (ap (sums_of ws) e ∙ sums-added s t k ws u c.room)
+
+    pub clue_counts : (u' : List Figures) → length u' ≡ length u → sums_of ws u' ≡ added_to s t (check_text t) ws (sums_of ws u) → Counts s ws u' (n + 1)
+    clue_counts = text_counts (check_text t) (good_length t)
 
 pub clue_added : (s : Settings) (ws : List ℕ) (t : List ℕ) (fs gs : List Figures) (k : Checked) → k ≡ check_text t → gs ≡ added_to s t k ws fs → gs ≡ with_clue s ws fs t
 unfolding with_clue
@@ -65,6 +98,7 @@ pub record Passing (s : Settings) (ws bytes : List ℕ) (from n : ℕ) (u : List
   pub few : m ≤ most_clues
   pub within : at ≤ length bytes
   pub goes : (rest : List ℕ) → counting s ws m v (drop at bytes ++ rest) ≡ counting s ws n u (drop from bytes ++ rest)
+  pub sums_go : (rest : List ℕ) → counting s ws m (sums_of ws v) (drop at bytes ++ rest) ≡ counting s ws n (sums_of ws u) (drop from bytes ++ rest)
 
 -- And no other clue ends in it, unless there are as many as a month may have.
 pub record Passed (s : Settings) (ws bytes : List ℕ) (from n : ℕ) (u : List Figures) (at m : ℕ) (v : List Figures) : Type 0 where
@@ -72,7 +106,7 @@ pub record Passed (s : Settings) (ws bytes : List ℕ) (from n : ℕ) (u : List 
   pub done : m < most_clues → before_feed (drop at bytes) ≡ length (drop at bytes)
 
 pub passing-start : (s : Settings) (ws bytes : List ℕ) (from n : ℕ) (u : List Figures) → Counts s ws u n → n ≤ most_clues → from ≤ length bytes → Passing s ws bytes from n u from n u
-passing-start s ws bytes from n u c h f = record { same = refl; counts = c; few = h; within = f; goes = λ rest. refl }
+passing-start s ws bytes from n u c h f = record { same = refl; counts = c; few = h; within = f; goes = λ rest. refl; sums_go = λ rest. refl }
 
 -- One clue off the front of what is left.
 clue_off : (s : Settings) (ws : List ℕ) (n : ℕ) (fs : List Figures) (xs rest : List ℕ) → n < most_clues → before_feed xs < length xs
@@ -97,14 +131,18 @@ module _ (s : Settings) (ws bytes : List ℕ) (from n : ℕ) (u : List Figures) 
       let next : drop (stop + 1) bytes ≡ drop (suc k) (drop at bytes) =
       (let z : stop + 1 ≡ at + suc k = omega arith in rw z (sym (drop-drop (suc k) at bytes)))
       in
+      let all : (rest : List ℕ) → counting s ws (m + 1) v' (drop (stop + 1) bytes ++ rest) ≡ counting s ws n u (drop from bytes ++ rest) =
+      λ rest. rw (next, e, text) (sym (clue_off s ws m v (drop at bytes) rest h inside)) ∙ p.goes rest
+      in
+      let counted = whole_counts s ws v m p.counts t (check_text t) (good_length t) v' e in
+      let room : length ws ≤ length u = omega (arith, p.counts.room, p.same) in
       record {
         same = long ∙ p.same;
-        counts = clue_counts s ws v m p.counts t v' e;
+        counts = counted;
         few = omega arith;
         within = omega arith;
-        goes =
-            λ rest.
-            rw (next, e, text) (sym (clue_off s ws m v (drop at bytes) rest h inside)) ∙ p.goes rest;
+        goes = all;
+        sums_go = λ rest. sums-go s ws n (m + 1) u v' (drop from bytes ++ rest) (drop (stop + 1) bytes ++ rest) room counted.room (all rest);
       }
 
   pub passing-done : length bytes ≤ stop → Passed s ws bytes from n u at m v

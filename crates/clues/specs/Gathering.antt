@@ -1,6 +1,6 @@
 -- The figures of a month are gathered clue after clue, in all widths at once: they are those that the definition sums for each width.
 -- Assumes nothing.
-use Rattle.std.specs.Prelude.{ℕ, ◌+◌, max, ◌≡◌, refl, List, [], ◌∷◌, map}
+use Rattle.std.specs.Prelude.{ℕ, ◌+◌, ◌≤◌, max, ◌≡◌, refl, List, [], ◌∷◌, length, map}
 use Rattle.std.proofs.Common.{sym, ap, ◌∙◌, arith}
 use Rattle.meaning.specs.Checks.{check_text}
 use Rattle.meaning.specs.Columns.{with_width}
@@ -8,7 +8,8 @@ use Rattle.meaning.specs.Month.{figures_by, figures_of, no_figures, together, fi
 use Rattle.meaning.specs.declared.settings.Settings.{Settings}
 use Rattle.meaning.specs.declared.figures.Figures.{Figures}
 use Rattle.rows.specs.RowsFrom.{entries_of, entries_are}
-use Rattle.clues.specs.Summing.{added_to}
+use Rattle.clues.specs.Summing.{added_to, added-length, sums-added}
+use Rattle.month_figures.specs.Sums.{sums_of}
 
 -- A clue more, and clues one after the other.
 unfoldable pub with_clue : Settings → (widths : List ℕ) → List Figures → (text : List ℕ) → List Figures
@@ -21,6 +22,19 @@ with_clues s ws fs (t ∷ ts) = with_clues s ws (with_clue s ws fs t) ts
 -- Before the first clue.
 abbrev pub none_yet : (widths : List ℕ) → List Figures
 none_yet ws = map (λ (w : ℕ). no_figures) ws
+
+-- Of an array that has figures for all widths, and maybe more.
+pub sums-with_clue : (s : Settings) (ws : List ℕ) (fs : List Figures) (t : List ℕ) → length ws ≤ length fs → sums_of ws (with_clue s ws fs t) ≡ with_clue s ws (sums_of ws fs) t
+unfolding with_clue
+sums-with_clue s ws fs t h = sums-added s t (check_text t) ws fs h
+
+pub sums-with_clues : (s : Settings) (ws : List ℕ) (fs : List Figures) (ts : List (List ℕ)) → length ws ≤ length fs
+    → sums_of ws (with_clues s ws fs ts) ≡ with_clues s ws (sums_of ws fs) ts
+unfolding with_clues with_clue
+sums-with_clues s ws fs [] h = refl
+sums-with_clues s ws fs (t ∷ ts) h =
+    sums-with_clues s ws (with_clue s ws fs t) ts (omega (arith, added-length s t (check_text t) ws fs))
+    ∙ ap (λ (gs : List Figures). with_clues s ws gs ts) (sums-with_clue s ws fs t h)
 
 -- ---- sums
 

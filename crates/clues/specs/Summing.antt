@@ -14,6 +14,7 @@ use Rattle.meaning.specs.declared.refusals.Refusal.{Refusal}
 use Rattle.rows.specs.RowsFrom.{entries_of, few_entries}
 use Rattle.clues.specs.FigureBounds.{broken-few, dropped-few}
 use Rattle.month_figures.specs.Rooms.{Room}
+use Rattle.month_figures.specs.Sums.{sums_of}
 use Rattle.month_figures.specs.Tallies.{one-most}
 
 -- ---- no sum wraps
@@ -117,6 +118,21 @@ pub narrow_at : (ws : List ℕ) (j : ℕ) → Narrow ws → j < length ws → ge
 narrow_at [] j e h = omega arith
 narrow_at (w ∷ ws) zero e h = e.0
 narrow_at (w ∷ ws) (suc j) e h = narrow_at ws j e.1 (omega arith)
+
+-- Of an array that is longer than the widths are many: figures are added to those of the widths, and the others stay.
+pub added-length : (s : Settings) (t : List ℕ) (k : Checked) (ws : List ℕ) (fs : List Figures) → length (added_to s t k ws fs) ≡ length fs
+unfolding added_to
+added-length s t k [] fs = refl
+added-length s t k (w ∷ ws) [] = refl
+added-length s t k (w ∷ ws) (f ∷ fs) = ap suc (added-length s t k ws fs)
+
+pub sums-added : (s : Settings) (t : List ℕ) (k : Checked) (ws : List ℕ) (fs : List Figures) → length ws ≤ length fs
+    → sums_of ws (added_to s t k ws fs) ≡ added_to s t k ws (sums_of ws fs)
+unfolding added_to sums_of
+sums-added s t k [] fs h = refl
+sums-added s t k (w ∷ ws) [] h = absurd (omega arith)
+sums-added s t k (w ∷ ws) (f ∷ fs) h =
+    ap (λ (gs : List Figures). together f (figures_by k (entries_of (with_width s w) t)) ∷ gs) (sums-added s t k ws fs (omega arith))
 
 -- A text's figures, where what its check said is known.
 pub by-checked : (k j : Checked) (es : List Entry) (g : Figures) → k ≡ j → g ≡ figures_by j es → g ≡ figures_by k es

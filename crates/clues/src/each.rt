@@ -3,7 +3,8 @@ ghost use Rattle.std.specs.Prelude.{max, ◌≡◌};
 ghost use Rattle.meaning.specs.Month.{together};
 ghost use Rattle.clues.specs.Summing.{added_to};
 ghost use Rattle.month_figures.specs.Rooms.{Room};
-ghost use Rattle.clues.specs.Adding.{AllReady};
+ghost use Rattle.clues.specs.Adding.{EachReady};
+ghost use Rattle.month_figures.specs.Sums.{sums_of};
 
 use crate::one::figures_in;
 use columns::width::with_width;
@@ -20,8 +21,9 @@ pub fn add_text(
     widths: &[u32],
     sums: &mut [Figures],
 )
-    requires { AllReady s text.now checked widths.now sums.old }
-    ensures { sums.new ≡ added_to s text.now checked widths.now sums.old }
+    requires { EachReady s text.now checked widths.now sums.old }
+    ensures added { sums.new ≡ added_to s text.now checked widths.now sums.old }
+    ensures sums_added { sums_of widths.now sums.new ≡ added_to s text.now checked widths.now (sums_of widths.now sums.old) }
 {
     for k in 0..widths.len() {
         let more = figures_in(text, checked, with_width(s, widths[k]));

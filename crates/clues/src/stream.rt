@@ -1,6 +1,7 @@
 // A stream of clues, block by block through one buffer: each clue that ends in the block is a part of it, and is counted.
 ghost use Rattle.std.specs.Prelude.{◌+◌, ◌≤◌, ◌<◌, ◌≡◌, length, take};
 ghost use Rattle.meaning.specs.Month.{most_clues};
+ghost use Rattle.month_figures.specs.Sums.{sums_of};
 ghost use Rattle.clues.specs.Gathering.{with_clue};
 ghost use Rattle.clues.specs.Counting.{Counts, Passed};
 
@@ -26,6 +27,7 @@ pub fn add_clue(text: &[u8], s: Settings, widths: &[u32], sums: &mut [Figures], 
     requires clues_lt_most_clues { clues < most_clues }
     ensures value { result ≡ clues + 1 }
     ensures sums_after { sums.new ≡ with_clue s widths.now sums.old text.now }
+    ensures widths_after { sums_of widths.now sums.new ≡ with_clue s widths.now (sums_of widths.now sums.old) text.now }
 {
     let checked = check_text(text);
     add_text(text, checked, s, widths, sums);

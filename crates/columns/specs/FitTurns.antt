@@ -98,6 +98,13 @@ module _ (s : Settings) (t : List ℕ) (h left : ℕ) (p : Stand) (f : Fitting s
         → lines_fit left (x.entry ∷ entries_from s t 0 q) ≡ fits_whole s h (decode_all t)
     follow q on e = sym (ap (lines_fit left) (more_entries s t 0 p f.ready x is x.entry here q on e)) ∙ f.same
 
+    -- It does not, and no other may be laid. A stand on the line behind it need not be known.
+    pub fit_full : x.last ≡ false → left ≤ 1 → false ≡ fits_whole s h (decode_all t)
+    fit_full e few =
+        let q : Stand = record { at = x.next; before = record { 0 = p.before.0 + x.chars.0 }; rest = x.rest; known = p.known } in
+        let on : StandsAt t x.next (p.before.0 + x.chars.0) x.rest q = record { at-is = refl; before-is = refl; rest-is = refl; known = f.ready.known } in
+        sym (many-fits left (x.entry ∷ entries_from s t 0 q) (omega (arith, few, some_entries s t 0 q))) ∙ follow q on e
+
     -- It does not, and one less may be laid.
     pub fit_next : (q : Stand) → StandsAt t x.next (p.before.0 + x.chars.0) x.rest q → x.last ≡ false → (n : ℕ) → left ≡ suc n
         → Fitting s t h n q

@@ -12,19 +12,22 @@ use rows::stand::lay_row;
 use stands::stand::{at_start, next_stand};
 
 // Laid so, the text has at most h lines and loses no character. No line is laid after one that dropped a character, and none after the
-// last that may be.
+// last that may be: nor is it asked where that one would stand, which looks at all of a long word.
 pub fn fits_whole(text: &[u8], s: Settings, h: u32) -> bool
     requires { TextReady s text.now }
     ensures { result ≡ fits_whole s h (decode_all text.now) }
 {
     let mut stand = at_start(text);
-    for _line in 0..h {
+    for line in 0..h {
         let row = lay_row(text, s, stand);
         if row.entry.dropped.0 != 0 {
             return false;
         }
         if row.last {
             return true;
+        }
+        if line + 1 == h {
+            return false;
         }
         stand = next_stand(text, stand, row);
     }

@@ -1,4 +1,5 @@
 // What programs say: rows of numbers; and of an input that they refuse, the refusal by number and value, or that it cannot be read.
+use crate::input::count_rest;
 use checks::refusals::{number, value};
 use meaning::refusals::Refusal;
 use std::io;
@@ -42,10 +43,10 @@ fn say_too_long(
     program: &str,
     first: usize,
 ) -> io::Result<()> {
-    let Ok(rest) = io::copy(input, &mut io::sink()) else {
+    let Ok(rest) = count_rest(input) else {
         return say_unread(rt, program);
     };
-    say_refused(rt, Refusal::TextTooLong(rest.saturating_add(first as u64)))
+    say_refused(rt, Refusal::TextTooLong(rest.saturating_add(first) as u64))
 }
 
 // Why a text, of which so many bytes were read from this input, was refused.

@@ -6,6 +6,7 @@ use Rattle.std.specs.Prelude.{◌≡◌, refl, true, false, List, [], ◌∷◌,
 use Rattle.std.proofs.Common.{sym, ◌∙◌, append_assoc, length-drop, length-append, take_all, length-take-le}
 use Rattle.std.proofs.Math.Path.{ap, subst}
 use Rattle.std.proofs.lemmas.Bool.{false≢true}
+use Rattle.std.proofs.lemmas.List.{length-replicate}
 use native.Mathlib.Omega.{arith}
 use Rattle.std.proofs.Math.Seq.{paste}
 use Rattle.std.proofs.lemmas.List.Edits.{take-paste}
@@ -17,11 +18,12 @@ use Rattle.meaning.specs.declared.settings.Settings.{Settings}
 use Rattle.meaning.specs.declared.refusals.Refusal.TheVariants.{TextTooLong}
 use Rattle.checks.specs.TextLaws as text
 use Rattle.moves.specs.Fine.{FineSettings}
-use Rattle.clues.specs.Summing.{Of, Narrow, EachOf, added_to, each_more}
-use Rattle.clues.specs.Adding.{AllReady}
-use Rattle.clues.specs.Gathering.{with_clue, none_yet}
+use Rattle.month_figures.specs.Sums.{sums_of}
+use Rattle.clues.specs.Summing.{Of, Narrow, EachOf, added_to}
+use Rattle.clues.specs.Adding.{EachReady}
+use Rattle.clues.specs.Gathering.{with_clue, sums-with_clue, none_yet}
 use Rattle.clues.specs.Feeds.{before_feed, before-most, ended-line}
-use Rattle.clues.specs.Counting.{counting, Counts, same-part}
+use Rattle.clues.specs.Counting.{counting, Counts, exact-counts, whole_counts, same-part}
 use Rattle.clues.specs.declared.stream.Ended.{Ended}
 use Rattle.month.specs.Pending.{too_long, held_in, long_clue, NoFeed, long-long, long_feed, feed_after, line_after, rest-after, any_long, long_same, one-counted}
 use Rattle.month.specs.declared.block.Step.{Step}
@@ -67,39 +69,41 @@ pub record LongAdded (s : Settings) (ws : List ℕ) (u : List Figures) (clues r 
   pub counted : r ≡ clues + 1
   pub counts : Counts s ws u' (clues + 1)
   pub added : (t : List ℕ) → text_limit < length t → u' ≡ with_clue s ws u t
+  pub sums_added : (t : List ℕ) → text_limit < length t → sums_of ws u' ≡ with_clue s ws (sums_of ws u) t
 
 refused_bad : (n : ℕ) → ◌≡◌ {A = Checked} (Err (TextTooLong n)) (Ok tt) → ⊥
 refused_bad n e = let z : ◌≡◌ {A = ℕ} 0 1 = cc in omega arith
 
 module _ (s : Settings) (ws : List ℕ) (u : List Figures) (n : ℕ) (c : Counts s ws u n) (t : List ℕ) where
-  pub long-ready : n < most_clues → (k : Checked) → k ≡ Err (TextTooLong 65536) → AllReady s t k ws u
+  pub long-ready : n < most_clues → (k : Checked) → k ≡ Err (TextTooLong 65536) → EachReady s t k ws u
   long-ready h k e =
       record {
-        settings = c.settings;
-        widths = c.widths;
-        short = λ g. absurd (refused_bad 65536 (sym e ∙ g));
-        count = n;
-        few = h;
-        each = c.each;
+        all =
+            record {
+              settings = c.settings;
+              widths = c.widths;
+              short = λ g. absurd (refused_bad 65536 (sym e ∙ g));
+              count = n;
+              few = h;
+              each = c.each;
+            };
+        room = c.room;
       }
 
   pub long-added : (k : Checked) → k ≡ Err (TextTooLong 65536) → (u' : List Figures) → u' ≡ added_to s t k ws u
       → LongAdded s ws u n (n + 1) u'
   unfolding with_clue
   long-added k k-is u' e =
-      let one : n + 1 ≡ suc n = omega arith in
       let all : u' ≡ added_to s t (Err (TextTooLong 65536)) ws u = e ∙ ap (λ (j : Checked). added_to s t j ws u) k-is in
+      let any : (x : List ℕ) → text_limit < length x → u' ≡ with_clue s ws u x =
+      λ x long.
+      all ∙ any_long s t x 65536 (length x) ws u ∙ ap (λ (j : Checked). added_to s x j ws u) (text.too_long x long)
+      in
       record {
         counted = refl;
-        counts =
-            record {
-              settings = c.settings;
-              widths = c.widths;
-              each = rw (all, one) (each_more s t (Err (TextTooLong 65536)) n ws u (λ g. absurd (refused_bad 65536 g)) c.each);
-            };
-        added =
-            λ x long.
-            all ∙ any_long s t x 65536 (length x) ws u ∙ ap (λ (j : Checked). added_to s x j ws u) (text.too_long x long);
+        counts = whole_counts s ws u n c t (Err (TextTooLong 65536)) (λ g. absurd (refused_bad 65536 g)) u' all;
+        added = any;
+        sums_added = λ x long. ap (sums_of ws) (any x long) ∙ sums-with_clue s ws u x c.room;
       }
 
 -- It has ended before a place of the block, or not yet. The figures at the end are the same, whatever bytes follow the block.
@@ -109,12 +113,16 @@ pub record LongGone (s : Settings) (ws b : List ℕ) (u : List Figures) (end clu
   pub within : r.at ≤ end
   pub ended : (more : List ℕ) → counting s ws r.clues u' (drop r.at (take end b) ++ more)
       ≡ counting s ws clues u (long_clue ++ (take end b ++ more))
+  pub sums_ended : (more : List ℕ) → counting s ws r.clues (sums_of ws u') (drop r.at (take end b) ++ more)
+      ≡ counting s ws clues (sums_of ws u) (long_clue ++ (take end b ++ more))
 
 pub record LongStill (s : Settings) (ws b : List ℕ) (u : List Figures) (end clues : ℕ) (u' : List Figures) : Type 0 where
   pub counts : Counts s ws u' clues
   pub few : clues ≤ most_clues
   pub still : (more : List ℕ) → counting s ws clues u' (long_clue ++ more)
       ≡ counting s ws clues u (long_clue ++ (take end b ++ more))
+  pub sums_still : (more : List ℕ) → counting s ws clues (sums_of ws u') (long_clue ++ more)
+      ≡ counting s ws clues (sums_of ws u) (long_clue ++ (take end b ++ more))
 
 abbrev pub LongEnded : (s : Settings) (ws b : List ℕ) (u : List Figures) (end clues : ℕ) → Option Ended → (u' : List Figures) → Type 0
 LongEnded s ws b u end clues (Some r) u' = LongGone s ws b u end clues r u'
@@ -132,14 +140,12 @@ module _ (s : Settings) (ws b : List ℕ) (u : List Figures) (end clues stop : �
       let feed : NoFeed whole =
       omega (arith, feed_after long_clue x long_feed, length-append long_clue x, stop_is, block_length, before-most x)
       in
-      record {
-        counts = c;
-        few = omega arith;
-        still =
-            λ more.
-            long_same s ws clues u long_clue whole more long-long long_feed long feed
-            ∙ ap (counting s ws clues u) (append_assoc long_clue x more);
-      }
+      let same : (fs : List Figures) (more : List ℕ) → counting s ws clues fs (long_clue ++ more) ≡ counting s ws clues fs (long_clue ++ (x ++ more)) =
+      λ fs more.
+      long_same s ws clues fs long_clue whole more long-long long_feed long feed
+      ∙ ap (counting s ws clues fs) (append_assoc long_clue x more)
+      in
+      record { counts = c; few = omega arith; still = same u; sums_still = same (sums_of ws u) }
 
   pub long-ended : (u' : List Figures) (n : ℕ) → LongAdded s ws u clues n u' → stop < end → LongGone s ws b u end clues (record { at = stop + 1; clues = n }) u'
   long-ended u' n a w =
@@ -155,15 +161,18 @@ module _ (s : Settings) (ws b : List ℕ) (u : List Figures) (end clues stop : �
       ap stream_lines (sym (append_assoc long_clue x more)) ∙ ended-line (long_clue ++ x) more inside
       ∙ (let line = line_after long_clue x long_feed in let rest = rest-after long_clue x long_feed in λ i. line i ∷ stream_lines (rest i ++ more))
       in
-      let added = a.added t (omega (arith, long-long, length-append long_clue (take k x))) in
+      let long : text_limit < length t = omega (arith, long-long, length-append long_clue (take k x)) in
+      let on : (fs gs : List Figures) → gs ≡ with_clue s ws fs t → (more : List ℕ) → counting s ws n gs (drop (stop + 1) x ++ more) ≡ counting s ws clues fs (long_clue ++ (x ++ more)) =
+      λ fs gs added more.
+      (λ i. counting s ws (a.counted i) gs (drop (place i) x ++ more))
+      ∙ one-counted s ws clues fs gs t (long_clue ++ (x ++ more)) (drop (suc k) x ++ more) h added (lines more)
+      in
       record {
         counts = rw a.counted a.counts;
         few = omega (arith, a.counted);
         within = omega arith;
-        ended =
-            λ more.
-            (λ i. counting s ws (a.counted i) u' (drop (place i) x ++ more))
-            ∙ one-counted s ws clues u u' t (long_clue ++ (x ++ more)) (drop (suc k) x ++ more) h added (lines more);
+        ended = on u u' (a.added t long);
+        sums_ended = on (sums_of ws u) (sums_of ws u') (a.sums_added t long);
       }
 
 -- ---- what a block leaves
@@ -202,6 +211,16 @@ module _ (s : Settings) (ws b : List ℕ) (u : List Figures) (r : Step) where
     pub last_some : (u' : List Figures) → (held_in r ≡ 0 → ⊥) → u' ≡ with_clue s ws u (take (held_in r) b) → LastCounted s ws b u r u'
     last_some u' d e = record { long = λ l. absurd (false≢true (sym short ∙ l)); none = λ _ z. absurd (d z); some = λ _ _. e }
 
+-- What is said of the array holds of the figures of the widths.
+pub last-sums : (s : Settings) (ws b : List ℕ) (u : List Figures) (r : Step) (u' : List Figures) → length ws ≤ length u → LastCounted s ws b u r u'
+    → LastCounted s ws b (sums_of ws u) r (sums_of ws u')
+last-sums s ws b u r u' h l =
+    record {
+      long = λ e t big. ap (sums_of ws) (l.long e t big) ∙ sums-with_clue s ws u t h;
+      none = λ e z. ap (sums_of ws) (l.none e z);
+      some = λ e d. ap (sums_of ws) (l.some e d) ∙ sums-with_clue s ws u (take (held_in r) b) h;
+    }
+
 -- ---- places in a buffer
 
 pub feed_within : (b : List ℕ) (at end stop : ℕ) → at ≤ end → end ≤ length b → stop ≡ at + before_feed (drop at (take end b))
@@ -218,14 +237,26 @@ none-each : (ws : List ℕ) → EachOf 0 ws (none_yet ws)
 none-each [] = tt
 none-each (w ∷ ws) = (none_of, none-each ws)
 
--- So many of an array's sums as there are widths.
-pub zero-sums : (ws : List ℕ) (n : ℕ) → length ws ≤ n → take (length ws) (replicate n no_figures) ≡ none_yet ws
-zero-sums [] n h = refl
-zero-sums (w ∷ ws) zero h = absurd (omega arith)
-zero-sums (w ∷ ws) (suc n) h = ap (λ (fs : List Figures). no_figures ∷ fs) (zero-sums ws n (omega arith))
+-- In an array of them, however long it is.
+pub zero-sums : (ws : List ℕ) (n : ℕ) → sums_of ws (replicate n no_figures) ≡ none_yet ws
+unfolding sums_of
+zero-sums [] n = refl
+zero-sums (w ∷ ws) zero = ap (λ (fs : List Figures). no_figures ∷ fs) (zero-sums ws zero)
+zero-sums (w ∷ ws) (suc n) = ap (λ (fs : List Figures). no_figures ∷ fs) (zero-sums ws n)
 
-pub zero-counts : (s : Settings) (ws : List ℕ) (n : ℕ) (f : Figures) → f ≡ no_figures → FineSettings s → Narrow ws → length ws ≤ n
-    → Counts s ws (take (length ws) (replicate n f)) 0
+pub zero-counts : (s : Settings) (ws : List ℕ) (n : ℕ) (f : Figures) → f ≡ no_figures → FineSettings s → Narrow ws → length ws ≤ n → Counts s ws (replicate n f) 0
 zero-counts s ws n f e fine w h =
-    let sums = ap (λ (g : Figures). take (length ws) (replicate n g)) e ∙ zero-sums ws n h in
-    record { settings = fine; widths = w; each = subst (EachOf 0 ws) (sym sums) (none-each ws) }
+    let sums : sums_of ws (replicate n f) ≡ none_yet ws = ap (λ (g : Figures). sums_of ws (replicate n g)) e ∙ zero-sums ws n in
+    record { settings = fine; widths = w; room = omega (arith, length-replicate n f); each = subst (EachOf 0 ws) (sym sums) (none-each ws) }
+
+-- And in so many of its figures as there are widths.
+pub first-zeros : (ws : List ℕ) (n : ℕ) → length ws ≤ n → take (length ws) (replicate n no_figures) ≡ none_yet ws
+first-zeros [] n h = refl
+first-zeros (w ∷ ws) zero h = absurd (omega arith)
+first-zeros (w ∷ ws) (suc n) h = ap (λ (fs : List Figures). no_figures ∷ fs) (first-zeros ws n (omega arith))
+
+pub first-counts : (s : Settings) (ws : List ℕ) (n : ℕ) (f : Figures) → f ≡ no_figures → FineSettings s → Narrow ws → length ws ≤ n
+    → Counts s ws (take (length ws) (replicate n f)) 0
+first-counts s ws n f e fine w h =
+    let sums = ap (λ (g : Figures). take (length ws) (replicate n g)) e ∙ first-zeros ws n h in
+    exact-counts s ws (take (length ws) (replicate n f)) 0 fine w (subst (EachOf 0 ws) (sym sums) (none-each ws))

@@ -9,7 +9,8 @@ use Rattle.meaning.specs.Checks.{text_limit}
 use Rattle.meaning.specs.Month.{most_clues}
 use Rattle.meaning.specs.declared.settings.Settings.{Settings}
 use Rattle.meaning.specs.declared.figures.Figures.{Figures}
-use Rattle.clues.specs.Counting.{counting, Passed}
+use Rattle.month_figures.specs.Sums.{sums_of}
+use Rattle.clues.specs.Counting.{counting, Passed, sums-go}
 use Rattle.clues.specs.declared.stream.Ended.{Ended}
 use Rattle.month.specs.Pending.{too_long, held_in, long_clue, pending, block_of, ending, NoFeed, long-long, long_feed, long_same, full-same, pending-short, pending-long, block_short, block_long, ending_of_lem}
 use Rattle.month.specs.Blocks.{Kept, LongGone, LongStill}
@@ -28,6 +29,24 @@ WentFrom s ws b u from end n u' b' r = Goes s ws u' b' r (λ (more : List ℕ). 
 -- A block stood in the buffer b, up to a place, behind what was pending.
 abbrev pub WentOn : Settings → (ws b : List ℕ) (u : List Figures) → (end : ℕ) → Step → (u' : List Figures) (b' : List ℕ) → Step → Type 0
 WentOn s ws b u end r u' b' r' = Goes s ws u' b' r' (λ (more : List ℕ). ending s ws u b r (block_of r b end ++ more))
+
+-- Where the array has figures for all widths, and maybe more, these go as all of it goes.
+module _ (s : Settings) (ws b : List ℕ) (u : List Figures) (end : ℕ) (u' : List Figures) (b' : List ℕ) (h : length ws ≤ length u) (g : length ws ≤ length u') where
+  pub from-sums : (from n : ℕ) (r : Step) → WentFrom s ws b u from end n u' b' r → WentFrom s ws b (sums_of ws u) from end n (sums_of ws u') b' r
+  unfolding ending
+  from-sums from n r w =
+      record {
+        goes = λ more. sums-go s ws n r.clues u u' (drop from (take end b) ++ more) (pending r b' ++ more) h g (w.goes more);
+        feedless = w.feedless;
+      }
+
+  pub went-sums : (r r' : Step) → WentOn s ws b u end r u' b' r' → WentOn s ws b (sums_of ws u) end r (sums_of ws u') b' r'
+  unfolding ending
+  went-sums r r' w =
+      record {
+        goes = λ more. sums-go s ws r.clues r'.clues u u' (pending r b ++ (block_of r b end ++ more)) (pending r' b' ++ more) h g (w.goes more);
+        feedless = w.feedless;
+      }
 
 -- ---- what is left of a block is pending
 
@@ -60,6 +79,9 @@ module _ (s : Settings) (ws b : List ℕ) (from end n : ℕ) (u : List Figures) 
 
   pub went-from : text_limit < length b → WentFrom s ws b u from end n v b' r
   went-from room = by_test (too_long r) (left-long room) left-short
+
+  pub sums-went-from : text_limit < length b → WentFrom s ws b (sums_of ws u) from end n (sums_of ws v) b' r
+  sums-went-from room = from-sums s ws b u end v b' (omega (arith, p.passing.counts.room, p.passing.same)) p.passing.counts.room from n r (went-from room)
 
 -- ---- a block behind what is pending
 

@@ -3,6 +3,7 @@
 ghost use Rattle.std.specs.Prelude.{◌≤◌, ◌<◌, length};
 ghost use Rattle.meaning.specs.Checks.{text_limit};
 ghost use Rattle.meaning.specs.Month.{most_clues};
+ghost use Rattle.month_figures.specs.Sums.{sums_of};
 ghost use Rattle.clues.specs.Counting.{Counts};
 ghost use Rattle.month.specs.Blocks.{Kept, Stepped, LongAdded, LongEnded, LastCounted};
 ghost use Rattle.month.specs.Going.{WentFrom, WentOn};
@@ -92,6 +93,7 @@ fn count_from(
     requires clues_le_most_clues { clues ≤ most_clues }
     ensures stepped { Stepped s widths.now sums.new (length buffer.new) result }
     ensures went_from { WentFrom s widths.now buffer.old sums.old from end clues sums.new buffer.new result }
+    ensures sums_went_from { WentFrom s widths.now buffer.old (sums_of widths.now sums.old) from end clues (sums_of widths.now sums.new) buffer.new result }
 {
     let done = count_ended(buffer, from, end, s, widths, sums, clues);
     keep(buffer, done.at, end, done.clues)
@@ -113,6 +115,7 @@ pub fn count_block(
     requires held_le_end { held_in step ≤ end }
     ensures stepped { Stepped s widths.now sums.new (length buffer.new) result }
     ensures went_on { WentOn s widths.now buffer.old sums.old end step sums.new buffer.new result }
+    ensures sums_went_on { WentOn s widths.now buffer.old (sums_of widths.now sums.old) end step (sums_of widths.now sums.new) buffer.new result }
 {
     if step.held.is_some() {
         return count_from(buffer, 0, end, s, widths, sums, step.clues);
@@ -128,7 +131,8 @@ pub fn count_last(buffer: &[u8], step: Step, s: Settings, widths: &[u32], sums: 
     requires held_in_bounds { held_in step ≤ length buffer.now }
     requires counts { Counts s widths.now sums.old step.clues }
     requires clues_lt_most_clues { step.clues < most_clues }
-    ensures { LastCounted s widths.now buffer.now sums.old step sums.new }
+    ensures counted { LastCounted s widths.now buffer.now sums.old step sums.new }
+    ensures sums_counted { LastCounted s widths.now buffer.now (sums_of widths.now sums.old) step (sums_of widths.now sums.new) }
 {
     match step.held {
         None => {

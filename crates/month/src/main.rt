@@ -70,13 +70,12 @@ fn count_month(
     }
 }
 
-// The widths of the file with this name.
-fn widths_of(rt: &impl Files, path: &str, widths: &mut [u32]) -> Result<usize, WidthsError>
+// The widths of a file that is open.
+fn widths_of(file: &mut impl io::Read, widths: &mut [u32]) -> Result<usize, WidthsError>
     ensures { Read result widths.new }
 {
     let mut text = buffer();
-    let mut file = fs::open(rt, path)?;
-    let n = fill(&mut file, &mut text)?;
+    let n = fill(file, &mut text)?;
     parse_widths(&text[..n], widths)
 }
 
@@ -87,8 +86,15 @@ fn run<R: Print + Eprint + Alloc + Files>(
     path: &str,
     form: Form,
 ) -> io::Result<()> {
+    // It stays open while the clues are counted: where standard input is closed, it stands in its place, and has ended.
+    let mut file = match fs::open(rt, path) {
+        Ok(file) => file,
+        Err(error) => {
+            return say_failed(rt, path, error);
+        }
+    };
     let mut widths = [0u32; MOST_WIDTHS];
-    match widths_of(rt, path, &mut widths) {
+    match widths_of(&mut file, &mut widths) {
         Ok(n) => count_month(rt, input, terminal, &widths[..n], form),
         Err(WidthsError::Bad(line)) => say_bad_width(rt, line),
         Err(WidthsError::Unread(error)) => say_failed(rt, path, error),

@@ -5,6 +5,7 @@ ghost use Rattle.month.specs.WidthFile.{width_of, widths_in, Held};
 use clues::feeds::find_feed;
 use columns::width::WIDEST_BOX;
 use console::digits::decimal_in;
+use console::input::ReadFailed;
 use std::io;
 
 // The most widths that are listed.
@@ -20,9 +21,9 @@ pub enum WidthsError {
     Unread(io::Error),
 }
 
-impl From<io::Error> for WidthsError {
-    fn from(error: io::Error) -> WidthsError {
-        WidthsError::Unread(error)
+impl From<ReadFailed> for WidthsError {
+    fn from(failed: ReadFailed) -> WidthsError {
+        WidthsError::Unread(failed.error)
     }
 }
 

@@ -1,6 +1,6 @@
 use Rattle.std.proofs.Common.{arith}
 use Rattle.rows.specs.Standing.{next-ready}
-use Rattle.choosing.specs.Taking.{pass-start, pass-next, take_whole, take_part}
+use Rattle.choosing.specs.Taking.{pass-start, pass-next, take_whole, take_part, take_next}
 use Rattle.choosing.proofs.taken.take_lines.Goals as goal
 
 pub loop-line-init : goal.loop-line-init
@@ -10,6 +10,10 @@ loop-line-init c =
 pub returns-then-row : goal.returns-then-row
 returns-then-row c =
     take_whole _ _ _ _ c.loop-line.invariant _ c.lay_row-row.ensures c.args.h c.if-row.true (omega (arith, c.loop-line-test.true))
+
+pub returns-then-line-h : goal.returns-then-line-h
+returns-then-line-h c =
+    take_next _ _ _ _ c.loop-line.invariant _ c.lay_row-row.ensures _ c.if-row.false (omega (arith, c.if-line-h.true))
 
 pub next_stand-stand-requires : goal.next_stand-stand-requires
 next_stand-stand-requires c =

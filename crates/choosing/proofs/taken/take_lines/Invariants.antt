@@ -4,4 +4,4 @@ use Rattle.choosing.specs.Taking.{Passed}
 use Rattle.choosing.proofs.taken.take_lines.Given as goal
 
 abbrev pub invariant-loop-line : goal.invariant-loop-line
-invariant-loop-line l = Passed l.s l.text l._line l.stand
+invariant-loop-line l = Passed l.s l.text l.line l.stand

@@ -1,7 +1,7 @@
 -- `clues::each::add_text` meets its contract.
 use Rattle.std.proofs.Common.{ap, ◌∙◌, arith, get_or, rules}
 use Rattle.meaning.specs.Month.{no_figures, together}
-use Rattle.clues.specs.Adding.{adding-inside, adding-room, adding-next, added-text, added_figures, added-all}
+use Rattle.clues.specs.Adding.{adding-inside, adding-room, adding-next, added-text, added_figures, added-all, added-sums}
 use Rattle.clues.proofs.each.add_text.Goals as goal
 
 pub figures_in-more-requires : goal.figures_in-more-requires
@@ -35,6 +35,10 @@ loop-k-preserved c =
     adding-next _ _ _ _ _ _ _ c.requires c.loop-k.invariant c.loop-k-test.true no_figures _
     (c.both.ensures ∙ ap (together (get_or c.loop-k.sums c.loop-k.k no_figures)) figures)
 
-pub returns : goal.returns
-returns c =
+pub returns-clause-added : goal.returns-clause-added
+returns-clause-added c =
     added-all _ _ _ _ _ _ _ c.requires c.loop-k.invariant c.loop-k-test.false
+
+pub returns-clause-sums_added : goal.returns-clause-sums_added
+returns-clause-sums_added c =
+    added-sums _ _ _ _ _ _ _ c.requires c.loop-k.invariant c.loop-k-test.false

@@ -8,4 +8,8 @@ add_text-requires c =
 
 pub returns-clause-sums_after : goal.returns-clause-sums_after
 returns-clause-sums_after c =
-    clue_added _ _ _ _ _ _ c.check_text-checked.ensures c.add_text.ensures
+    clue_added _ _ _ _ _ _ c.check_text-checked.ensures c.add_text.ensures.added
+
+pub returns-clause-widths_after : goal.returns-clause-widths_after
+returns-clause-widths_after c =
+    clue_added _ _ _ _ _ _ c.check_text-checked.ensures c.add_text.ensures.sums_added

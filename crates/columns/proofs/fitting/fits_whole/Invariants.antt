@@ -6,4 +6,4 @@ use Rattle.columns.specs.FitTurns.{Fitting}
 use Rattle.columns.proofs.fitting.fits_whole.Given as goal
 
 abbrev pub invariant-loop-line : goal.invariant-loop-line
-invariant-loop-line l = Fitting l.s l.text l.h (l.h - l._line) l.stand
+invariant-loop-line l = Fitting l.s l.text l.h (l.h - l.line) l.stand

@@ -5,4 +5,4 @@ use Rattle.month.proofs.block.add_long.Goals as goal
 
 pub returns : goal.returns
 returns c =
-    long-added _ _ _ _ c.requires.counts _ _ refl _ c.add_text.ensures
+    long-added _ _ _ _ c.requires.counts _ _ refl _ c.add_text.ensures.added
